@@ -1,0 +1,1 @@
+pub use Rattle.math_base.specs.Members as Members

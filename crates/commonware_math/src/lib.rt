@@ -1,0 +1,6 @@
+//! Algebra, polynomials and the Goldilocks field, proved.
+#![tactic(auto)]
+
+pub mod poly;
+
+pub use math_base::{algebra, fields};

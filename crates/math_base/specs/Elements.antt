@@ -1,0 +1,30 @@
+-- The elements of the Goldilocks field and their operations: those of whole numbers, then the remainder by P.
+use Rattle.std.specs.Prelude.{◌≡◌, ℕ, ◌+◌, ◌-◌, ◌*◌, ◌%◌, ◌<◌}
+use Rattle.std.proofs.Common.{lit<}
+use Rattle.std.proofs.Math.Nat.{mod-lt}
+use Rattle.math_base.specs.Modulus.{P}
+use Rattle.math_base.specs.declared.fields.goldilocks.F.{F}
+
+-- the number from 0 to P - 1 that an element is
+abbrev pub number : F → ℕ
+number a = a.value
+
+pub remainder_below : (n : ℕ) → n % P < P
+remainder_below n = mod-lt n (lit< tt)
+
+-- the remainder of a number by P, as an element
+abbrev pub residue : ℕ → F
+residue n = record { value = n % P; below = remainder_below n }
+
+-- both are the same number
+abbrev pub same : F → F → Type 0
+same a b = number a ≡ number b
+
+abbrev pub sum : F → F → F
+sum a b = residue (number a + number b)
+
+abbrev pub negative : F → F
+negative a = residue (P - number a)
+
+abbrev pub product : F → F → F
+product a b = residue (number a * number b)

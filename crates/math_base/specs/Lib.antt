@@ -1,0 +1,5 @@
+pub use Rattle.math_theory.specs.Laws as Laws
+pub mod Members
+pub mod Modulus
+pub mod Elements
+pub mod ElementLaws

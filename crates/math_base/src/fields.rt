@@ -1,0 +1,3 @@
+//! Fields.
+
+pub mod goldilocks;

@@ -1,0 +1,5 @@
+pub mod Laws
+pub mod Powers
+pub mod Values
+pub mod Rings
+pub mod ModuleLaws

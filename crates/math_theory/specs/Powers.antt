@@ -1,0 +1,15 @@
+-- Powers and multiples over explicit operations.
+use Rattle.std.specs.Prelude.{◌≡◌, ℕ, zero, suc, refl}
+
+-- the n-fold product of a
+unfoldable pub power : {A : Type 0} → A → (A → A → A) → A → ℕ → A
+power one product a zero = one
+power one product a (suc n) = product (power one product a n) a
+
+pub power-zero : {A : Type 0} (one : A) (product : A → A → A) (a : A) → power one product a 0 ≡ one
+unfolding power
+power-zero one product a = refl
+
+pub power-suc : {A : Type 0} (one : A) (product : A → A → A) (a : A) (n : ℕ) → power one product a (suc n) ≡ product (power one product a n) a
+unfolding power
+power-suc one product a n = refl

@@ -1,0 +1,2 @@
+//! The mathematics on which the proofs of the crates above rest: no code runs here.
+#![tactic(auto)]
