@@ -4,3 +4,4 @@
 pub mod poly;
 
 pub use math_base::{algebra, fields};
+pub use math_codec::codec;

@@ -1,9 +1,14 @@
 //! Polynomials, by the lists of their coefficients.
 
 ghost use Rattle.std.specs.Prelude.{◌≡◌, ◌+◌, ◌<◌, ◌^◌, IsTrue, IsOk, IfOk, List, Some, length, slice_get};
+ghost use Rattle.std.specs.List.{AllZip};
+ghost use Rattle.math_codec.specs.Lists.{list_spelling, scan_list, AdmitsList, ListGrows};
+ghost use Rattle.math_codec.specs.ListLaws.{list_again, list_apart};
+ghost use Rattle.math_codec.specs.Ranges.{nonzero};
 ghost use Rattle.math_base.specs.Members.{value};
 
 use math_base::algebra::{Mem, Ring, Space};
+use math_codec::codec::{Encoding, Error, LengthRange, Read, read_list};
 use std::alloc::Global;
 use std::fmt;
 use std::marker::Model;
@@ -83,4 +88,37 @@ impl<K: fmt::Debug + Drop> fmt::Debug for Poly<K> {
         }
         write!(f, ")")
     }
+}
+
+/// The list of the stored coefficients.
+impl<K: Encoding + Drop> Encoding for Poly<K> {
+    ghost spelling = { λ p. list_spelling K.spelling p };
+
+    ghost alike = { λ p q. AllZip K.alike p q };
+}
+
+impl<K: Read + Drop> Read for Poly<K> {
+    /// The range of the number of stored coefficients, and the configuration of each.
+    type Cfg = (LengthRange, K::Cfg);
+
+    ghost admits = { λ cfg p. AdmitsList (nonzero cfg.0) (K.admits cfg.1) p };
+
+    ghost scan = { λ cfg. scan_list (nonzero cfg.0) (K.scan cfg.1) };
+
+    ghost grows = { λ cfg. ListGrows (nonzero cfg.0) (K.scan cfg.1) (K.grows cfg.1) };
+
+    /// Reads the list of the coefficients. No coefficient is `InvalidLength(0)`, even where the
+    /// range admits it.
+    fn read_cfg(
+        alloc: Global,
+        input: &mut &[u8],
+        cfg: &(LengthRange, K::Cfg),
+    ) -> Result<Poly<K>, Error> {
+        let coefficients = read_list(alloc, input, cfg.0.nonzero(), &cfg.1)?;
+        Ok(Poly { coefficients })
+    }
+
+    ghost again = { λ cfg p rest h. list_again K.spelling (K.admits cfg.1) (K.scan cfg.1) (K.again cfg.1) (nonzero cfg.0) p rest h };
+
+    ghost apart = { λ cfg p q x y h k e. list_apart K.spelling (K.admits cfg.1) K.alike (K.apart cfg.1) (nonzero cfg.0) p q x y h k e };
 }

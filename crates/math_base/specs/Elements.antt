@@ -1,8 +1,9 @@
 -- The elements of the Goldilocks field and their operations: those of whole numbers, then the remainder by P.
-use Rattle.std.specs.Prelude.{◌≡◌, ℕ, ◌+◌, ◌-◌, ◌*◌, ◌%◌, ◌<◌}
+use Rattle.std.specs.Prelude.{◌≡◌, ℕ, ◌+◌, ◌*◌, ◌%◌, ◌<◌}
 use Rattle.std.proofs.Common.{lit<}
 use Rattle.std.proofs.Math.Nat.{mod-lt}
-use Rattle.math_base.specs.Modulus.{P}
+use Rattle.math_theory.specs.Goldilocks.{P}
+use Rattle.math_theory.specs.Residues as Residues
 use Rattle.math_base.specs.declared.fields.goldilocks.F.{F}
 
 -- the number from 0 to P - 1 that an element is
@@ -20,11 +21,14 @@ residue n = record { value = n % P; below = remainder_below n }
 abbrev pub same : F → F → Type 0
 same a b = number a ≡ number b
 
+-- the remainder of the sum
 abbrev pub sum : F → F → F
 sum a b = residue (number a + number b)
 
+-- the remainder of P less the number
 abbrev pub negative : F → F
-negative a = residue (P - number a)
+negative a = Residues.negative P number residue a
 
+-- the remainder of the product
 abbrev pub product : F → F → F
 product a b = residue (number a * number b)

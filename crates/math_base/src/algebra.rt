@@ -7,13 +7,14 @@
 //! over these traits rests on the laws and on nothing else of a type.
 
 ghost use Rattle.std.specs.Prelude.{◌≡◌, ◌↔◌, Bool, IsTrue, IsOk, IfOk, OnOk, OnErr};
-ghost use Rattle.math_theory.specs.Laws.{IsEquality, IsGroup, IsProduct, IsRing, IsModule};
+ghost use Rattle.math_theory.specs.Laws.{IsEquality, IsMonoid, IsGroup, IsProduct, IsRing, IsModule};
 ghost use Rattle.math_theory.specs.ModuleLaws.{ring_is_module};
+ghost use Rattle.math_theory.specs.Powers.{power, multiple};
+ghost use Rattle.math_theory.specs.Sums.{number_of_limbs, weighted_sum};
 
-use std::alloc::{AllocError, Global};
+pub use math_codec::codec::Mem;
+use std::alloc::Global;
 use std::fmt::Debug;
-
-pub type Mem<T> = Result<T, AllocError>;
 
 /// A value that can be cloned and compared by its type's own equality.
 pub trait Object: Sized + Debug + Drop {
@@ -91,6 +92,33 @@ pub trait Additive: Object {
         Ok(out)
     }
 
+    /// Adds the value to itself. Where it is refused, the value is as it was.
+    fn double(&mut self, alloc: Global) -> Mem<()>
+        ensures ok { OnOk result (Self.same self.new (sum self.old self.old)) }
+        ensures err { OnErr result (self.new ≡ self.old) }
+        ensures never { IsTrue Self.NEVER_REFUSES → IsOk result }
+    {
+        let copy = self.clone(alloc)?;
+        self.add_assign(alloc, &copy)?;
+        Ok(())
+    }
+
+    /// The n-fold sum, n being the number that the limbs write, the lowest limb first; no limbs write 0.
+    fn scale(&self, alloc: Global, bits_le: &[u64]) -> Mem<Self>
+        ensures ok { IfOk result (λ answer. Self.same answer (multiple zero sum self.now (number_of_limbs bits_le.now))) }
+        ensures never { IsTrue Self.NEVER_REFUSES → IsOk result }
+    {
+        let start = Self::zero(alloc)?;
+        let out = power_by_bits(
+            start,
+            self,
+            bits_le,
+            |a: &mut Self| a.double(alloc),
+            |a: &mut Self, b: &Self| a.add_assign(alloc, b),
+        )?;
+        Ok(out)
+    }
+
     /// A commutative group, each of whose operations respects `same`.
     ghost group: { IsGroup Self.same zero sum negative };
 }
@@ -115,6 +143,17 @@ pub trait Multiplicative: Object {
         Ok(out)
     }
 
+    /// Multiplies the value by itself. Where it is refused, the value is as it was.
+    fn square(&mut self, alloc: Global) -> Mem<()>
+        ensures ok { OnOk result (Self.same self.new (product self.old self.old)) }
+        ensures err { OnErr result (self.new ≡ self.old) }
+        ensures never { IsTrue Self.NEVER_REFUSES → IsOk result }
+    {
+        let copy = self.clone(alloc)?;
+        self.mul_assign(alloc, &copy)?;
+        Ok(())
+    }
+
     /// The product is commutative and associative, and respects `same`.
     ghost commutes: { IsProduct Self.same product };
 }
@@ -128,6 +167,22 @@ pub trait Ring: Additive + Multiplicative {
     fn one(alloc: Global) -> Mem<Self>
         ensures ok { IfOk result (λ answer. Self.same answer one) }
         ensures never { IsTrue Self.NEVER_REFUSES → IsOk result };
+
+    /// The n-fold product, n being the number that the limbs write, the lowest limb first; no limbs write 0.
+    fn exp(&self, alloc: Global, bits_le: &[u64]) -> Mem<Self>
+        ensures ok { IfOk result (λ answer. Self.same answer (power one Self.product self.now (number_of_limbs bits_le.now))) }
+        ensures never { IsTrue Self.NEVER_REFUSES → IsOk result }
+    {
+        let start = Self::one(alloc)?;
+        let out = power_by_bits(
+            start,
+            self,
+            bits_le,
+            |a: &mut Self| a.square(alloc),
+            |a: &mut Self, b: &Self| a.mul_assign(alloc, b),
+        )?;
+        Ok(out)
+    }
 
     /// One is the identity of the product, which distributes over sums.
     ghost ring: { IsRing Self.same Self.sum Self.product one };
@@ -153,6 +208,20 @@ pub trait Space<R: Ring>: Additive {
         Ok(out)
     }
 
+    /// The sum of point i scaled by scalar i, over the shorter of both slices; zero for none.
+    fn msm(alloc: Global, points: &[Self], scalars: &[R]) -> Mem<Self>
+        ensures ok { IfOk result (λ answer. Self.same answer (weighted_sum Self.zero Self.sum scaling points.now scalars.now)) }
+        ensures never { IsTrue Self.NEVER_REFUSES → IsOk result }
+    {
+        let out = weighted_sum_by(
+            alloc,
+            points,
+            scalars,
+            |p: &mut Self, s: &R| p.scale_assign(alloc, s),
+        )?;
+        Ok(out)
+    }
+
     /// The laws of a module, each operation respecting `same`.
     ghost spans: { IsModule Self.same Self.zero Self.sum scaling R.same R.zero R.sum R.product R.one };
 }
@@ -167,4 +236,82 @@ impl<R: Ring> Space<R> for R {
     }
 
     ghost spans = { ring_is_module R.equality R.group R.commutes R.ring };
+}
+
+/// The sum of point i scaled by scalar i, over the shorter of both slices, term by term; zero for none.
+pub fn msm_naive<R: Ring, K: Space<R>>(alloc: Global, points: &[K], scalars: &[R]) -> Mem<K>
+    ensures ok { IfOk result (λ answer. K.same answer (weighted_sum K.zero K.sum K.scaling points.now scalars.now)) }
+    ensures never { IsTrue K.NEVER_REFUSES → IsOk result }
+{
+    let out = weighted_sum_by(
+        alloc,
+        points,
+        scalars,
+        |p: &mut K, s: &R| p.scale_assign(alloc, s),
+    )?;
+    Ok(out)
+}
+
+/// The sum of point i scaled by scalar i, over the shorter of both slices. The scaling is handed in,
+/// so that default bodies of `Space` may call it.
+fn weighted_sum_by<R: Drop, K: Additive, S: Fn(&mut K, &R) -> Mem<()>>(
+    alloc: Global,
+    points: &[K],
+    scalars: &[R],
+    scale: S,
+) -> Mem<K>
+    requires { S.IsAlwaysCallable scale }
+    ensures ok { IfOk result (λ answer. (scaling : K → R → K) → ((a b : K) (x : R) → K.same a b → K.same (scaling a x) (scaling b x))
+        → ((a : _) (x : _) (r : _) (b : _) → S.post scale a x r b → IfOk r (λ _. K.same b.now (scaling a.now x.now)))
+        → K.same answer (weighted_sum K.zero K.sum scaling points.now scalars.now)) }
+    ensures never { IsTrue K.NEVER_REFUSES → ((a : _) (x : _) (r : _) (b : _) → S.post scale a x r b → IsOk r) → IsOk result }
+{
+    let mut out = K::zero(alloc)?;
+    for (s, p) in scalars.iter().zip(points.iter()) {
+        let mut term = p.clone(alloc)?;
+        scale(&mut term, s)?;
+        out.add_assign(alloc, &term)?;
+    }
+    Ok(out)
+}
+
+/// The power of x in a commutative monoid, by the number that the limbs write. `start` is the
+/// monoid's one; squaring and multiplying are handed in, so that sums and products share this loop.
+///
+/// From the highest bit to the lowest, the power by n becomes that by 2 n with a squaring, and that by
+/// 2 n + 1 with one product more. Before the first bit that is one there is nothing to square.
+fn power_by_bits<T: Object, D: Fn(&mut T) -> Mem<()>, J: Fn(&mut T, &T) -> Mem<()>>(
+    start: T,
+    x: &T,
+    bits_le: &[u64],
+    square: D,
+    multiply: J,
+) -> Mem<T>
+    requires squares { D.IsAlwaysCallable square }
+    requires multiplies { J.IsAlwaysCallable multiply }
+    ensures ok { IfOk result (λ answer. (one : T) (product : T → T → T) → IsMonoid T.same one product
+        → ((a : _) (r : _) (b : _) → D.post square a r b → IfOk r (λ _. T.same b.now (product a.now a.now)))
+        → ((a : _) (c : _) (r : _) (b : _) → J.post multiply a c r b → IfOk r (λ _. T.same b.now (product a.now c.now)))
+        → T.same start one → T.same answer (power one product x.now (number_of_limbs bits_le.now))) }
+    ensures never { ((a : _) (r : _) (b : _) → D.post square a r b → IsOk r)
+        → ((a : _) (c : _) (r : _) (b : _) → J.post multiply a c r b → IsOk r) → IsOk result }
+{
+    let mut out = start;
+    let mut begun = false;
+    for limb in bits_le.iter().rev() {
+        let word = *limb;
+        for i in (0..64u32).rev() {
+            let bit = (word >> i) & 1 == 1;
+            if begun {
+                square(&mut out)?;
+                if bit {
+                    multiply(&mut out, x)?;
+                }
+            } else if bit {
+                multiply(&mut out, x)?;
+                begun = true;
+            }
+        }
+    }
+    Ok(out)
 }

@@ -1,2 +1,16 @@
 pub mod Horner
-pub mod Remainders
+pub mod RingLaws
+pub mod Normal
+pub mod Classes
+pub mod RingUpToSame
+pub mod Multiples
+pub mod WeightedSums
+pub mod PowersModulo
+pub mod Pigeonhole
+pub mod Orders
+pub mod Primes
+pub mod InversesModulo
+pub mod Fermat
+pub mod GoldilocksPrime
+pub mod CongruenceLaws
+pub mod ResidueLaws

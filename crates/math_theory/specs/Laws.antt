@@ -7,6 +7,13 @@ pub record IsEquality {A : Type 0} (same : A → A → Type 0) : Type 0 where
   pub symmetric : (a b : A) → same a b → same b a
   pub transitive : (a b c : A) → same a b → same b c → same a c
 
+-- a commutative monoid
+pub record IsMonoid {A : Type 0} (same : A → A → Type 0) (one : A) (product : A → A → A) : Type 0 where
+  pub respects : (a b c d : A) → same a b → same c d → same (product a c) (product b d)
+  pub commutative : (a b : A) → same (product a b) (product b a)
+  pub associative : (a b c : A) → same (product (product a b) c) (product a (product b c))
+  pub identity : (a : A) → same (product one a) a
+
 -- a commutative group under sum
 pub record IsGroup {A : Type 0} (same : A → A → Type 0) (zero : A) (sum : A → A → A) (negative : A → A) : Type 0 where
   pub respects_sum : (a b c d : A) → same a b → same c d → same (sum a c) (sum b d)

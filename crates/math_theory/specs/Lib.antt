@@ -3,3 +3,10 @@ pub mod Powers
 pub mod Values
 pub mod Rings
 pub mod ModuleLaws
+pub mod Sums
+pub mod PowersModulo
+pub mod Pigeonhole
+pub mod Primes
+pub mod Goldilocks
+pub mod Congruence
+pub mod Residues

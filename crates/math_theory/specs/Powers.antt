@@ -13,3 +13,7 @@ power-zero one product a = refl
 pub power-suc : {A : Type 0} (one : A) (product : A → A → A) (a : A) (n : ℕ) → power one product a (suc n) ≡ product (power one product a n) a
 unfolding power
 power-suc one product a n = refl
+
+-- the n-fold sum of a, which is its power in the monoid of sums
+abbrev pub multiple : {A : Type 0} → A → (A → A → A) → A → ℕ → A
+multiple zero_of sum a n = power zero_of sum a n

@@ -5,10 +5,11 @@
 //! the operations takes memory.
 
 ghost use Rattle.std.specs.Prelude.{◌≡◌, ◌<◌, ◌≤◌, ◌+◌, ◌-◌, ◌*◌, ◌%◌, true};
-ghost use Rattle.std.specs.Int.{to_le_bytes, w64};
-ghost use Rattle.math_base.specs.Modulus.{P};
+ghost use Rattle.std.specs.Int.{to_be_bytes, to_le_bytes, w64};
+ghost use Rattle.math_theory.specs.Goldilocks.{P};
 
 use crate::algebra::{Additive, Mem, Multiplicative, Object, Ring};
+use math_codec::codec::{Encoding, Error, Read};
 use std::alloc::Global;
 use std::fmt;
 use std::ops::{Add, AddAssign, Mul, MulAssign, Neg, Sub, SubAssign};
@@ -309,4 +310,43 @@ impl Ring for F {
     }
 
     ghost ring = { ring };
+}
+
+/// The number as a word: eight bytes, highest first.
+impl Encoding for F {
+    ghost use Rattle.math_base.specs.Elements.{number, same};
+
+    ghost spelling = { λ a. to_be_bytes w64 (number a) };
+
+    ghost alike = { same };
+}
+
+impl Read for F {
+    ghost use Rattle.math_base.specs.Elements.{number};
+    ghost use Rattle.math_base.specs.ElementEncoding.{scan_element};
+    ghost use Rattle.math_base.specs.ElementEncodingLaws.{element_again, element_apart};
+
+    type Cfg = ();
+
+    ghost admits = { λ _ a. number a < P };
+
+    ghost scan = { λ _. scan_element };
+
+    ghost grows = { λ _ _. ⊥ };
+
+    /// Reads an element. A word of P or more is `Invalid("F", "out of range")`.
+    #[tactic(auto, unfolding(crate::specs::ElementEncoding::scan_element))]
+    fn read_cfg(alloc: Global, input: &mut &[u8], _cfg: &()) -> Result<F, Error> {
+        let mut rest = *input;
+        let value = u64::read_cfg(alloc, &mut rest, &())?;
+        if value >= MODULUS {
+            return Err(Error::Invalid("F", "out of range"));
+        }
+        *input = rest;
+        Ok(F { value })
+    }
+
+    ghost again = { λ _ a rest h. element_again (number a) rest h };
+
+    ghost apart = { λ _ a b x y h k e. element_apart (number a) (number b) x y h k e };
 }

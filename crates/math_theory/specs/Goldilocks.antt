@@ -1,6 +1,6 @@
 -- The modulus of the Goldilocks field.
 use Rattle.std.specs.Prelude.{ℕ}
 
--- 2^64 - 2^32 + 1
+-- 2 ^ 64 - 2 ^ 32 + 1
 abbrev pub P : ℕ
-P = 0xffff_ffff_0000_0001
+P = 18446744069414584321

@@ -1,0 +1,96 @@
+//! Lists: a length, and then the items.
+
+ghost use Rattle.std.specs.Prelude.{◌≡◌, ◌<◌, ◌^◌, ◌++◌, length, true, IfOk, OnErr};
+ghost use Rattle.std.specs.List.{flat_map, AllByRecursion, AllZip};
+ghost use Rattle.math_codec.specs.Faults.{Agrees, Reads, OnMemory};
+ghost use Rattle.math_codec.specs.Lengths.{length_in_front};
+ghost use Rattle.math_codec.specs.Lists.{scan_items, scan_list, list_spelling, AdmitsList, ItemsGrow, ListGrows};
+ghost use Rattle.math_codec.specs.ListLaws.{list_again, list_apart};
+ghost use Rattle.math_codec.specs.Ranges.{in_range};
+
+use super::error::Error;
+use super::length::read_len;
+use super::range::LengthRange;
+use super::read::{Encoding, Read};
+use std::alloc::Global;
+
+/// Reads `count` items, one after the other, and gives them with what follows.
+fn read_items<'a, T: Read + Drop>(
+    alloc: Global,
+    count: u32,
+    bytes: &'a [u8],
+    cfg: &T::Cfg,
+) -> Result<(Vec<T>, &'a [u8]), Error>
+    ensures number { IfOk result (λ x. length x.0.items ≡ count) }
+    ensures admitted { IfOk result (λ x. AllByRecursion (T.admits cfg.now) x.0.items) }
+    ensures taken { IfOk result (λ x. bytes.now ≡ flat_map T.spelling x.0.items ++ x.1.now) }
+    ensures memory { OnMemory result (ItemsGrow (T.scan cfg.now) (T.grows cfg.now) count bytes.now) }
+    ensures exact { Agrees (λ x. x.1.now) result (scan_items (T.scan cfg.now) count bytes.now) }
+{
+    let mut items = Vec::new(alloc);
+    let mut rest = bytes;
+    for _ in 0..count {
+        items.push(T::read_cfg(alloc, &mut rest, cfg)?)?;
+    }
+    Ok((items, rest))
+}
+
+/// Reads a list whose length is in `range` from the front of `input`, each item under `cfg`, and
+/// moves `input` to what follows it.
+///
+/// It refuses with the faults of the length, then `InvalidLength` where the length is out of the
+/// range, then the faults of the items in order, and then `input` stays where it was. Memory is
+/// taken for items that were read, so a large length alone takes none.
+#[tactic(auto, unfolding(crate::specs::Lists::scan_list, crate::specs::Lengths::length_in_front))]
+pub fn read_list<T: Read + Drop>(
+    alloc: Global,
+    input: &mut &[u8],
+    range: LengthRange,
+    cfg: &T::Cfg,
+) -> Result<Vec<T>, Error>
+    ensures admitted { IfOk result (λ v. AdmitsList range (T.admits cfg.now) v.items) }
+    ensures taken { IfOk result (λ v. input.old.now ≡ list_spelling T.spelling v.items ++ input.new.now) }
+    ensures counted { IfOk result (λ v. length_in_front input.old.now ≡ length v.items) }
+    ensures stays { OnErr result (input.new ≡ input.old) }
+    ensures memory { OnMemory result (ListGrows range (T.scan cfg.now) (T.grows cfg.now) input.old.now) }
+    ensures exact { Reads result input.new.now (scan_list range (T.scan cfg.now) input.old.now) }
+{
+    let mut rest = *input;
+    let count = read_len(alloc, &mut rest)?;
+    if !range.contains(count) {
+        return Err(Error::InvalidLength(count));
+    }
+    let (items, rest) = read_items::<T>(alloc, count, rest, cfg)?;
+    *input = rest;
+    Ok(items)
+}
+
+impl<T: Encoding> Encoding for Vec<T> {
+    ghost spelling = { λ v. list_spelling T.spelling v.items };
+
+    ghost alike = { λ v w. AllZip T.alike v.items w.items };
+}
+
+impl<T: Read + Drop> Read for Vec<T> {
+    /// The range of the length, and the configuration of each item.
+    type Cfg = (LengthRange, T::Cfg);
+
+    ghost admits = { λ cfg v. AdmitsList cfg.0 (T.admits cfg.1) v.items };
+
+    ghost scan = { λ cfg. scan_list cfg.0 (T.scan cfg.1) };
+
+    ghost grows = { λ cfg. ListGrows cfg.0 (T.scan cfg.1) (T.grows cfg.1) };
+
+    /// Reads a list, as `read_list` does.
+    fn read_cfg(
+        alloc: Global,
+        input: &mut &[u8],
+        cfg: &(LengthRange, T::Cfg),
+    ) -> Result<Vec<T>, Error> {
+        read_list(alloc, input, cfg.0, &cfg.1)
+    }
+
+    ghost again = { λ cfg v rest h. list_again T.spelling (T.admits cfg.1) (T.scan cfg.1) (T.again cfg.1) cfg.0 v.items rest h };
+
+    ghost apart = { λ cfg v w x y h k e. list_apart T.spelling (T.admits cfg.1) T.alike (T.apart cfg.1) cfg.0 v.items w.items x y h k e };
+}

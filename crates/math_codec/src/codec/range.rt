@@ -1,0 +1,56 @@
+//! How many items a list may have.
+
+ghost use Rattle.std.specs.Prelude.{◌≡◌};
+ghost use Rattle.math_codec.specs.Ranges.{in_range, nonzero};
+
+/// The lengths from `low` to `high`, both among them; none where `low` is above `high`.
+#[derive(Clone, Copy, Debug, PartialEq, Eq)]
+pub struct LengthRange {
+    /// The least length.
+    pub low: u32,
+    /// The greatest length.
+    pub high: u32,
+}
+
+impl LengthRange {
+    /// The lengths from `low` to `high`; none where `low` is above `high`.
+    pub fn new(low: u32, high: u32) -> LengthRange
+        ensures low { result.low ≡ low }
+        ensures high { result.high ≡ high }
+    {
+        LengthRange { low, high }
+    }
+
+    /// The length `n` alone.
+    pub fn exact(n: u32) -> LengthRange
+        ensures low { result.low ≡ n }
+        ensures high { result.high ≡ n }
+    {
+        LengthRange { low: n, high: n }
+    }
+
+    /// The lengths from 0 to `n`.
+    pub fn at_most(n: u32) -> LengthRange
+        ensures low { result.low ≡ 0 }
+        ensures high { result.high ≡ n }
+    {
+        LengthRange { low: 0, high: n }
+    }
+
+    /// The lengths of the range but 0.
+    pub fn nonzero(self) -> LengthRange
+        ensures { result ≡ nonzero self }
+    {
+        LengthRange {
+            low: self.low.max(1),
+            high: self.high,
+        }
+    }
+
+    /// Whether the length `n` is in the range.
+    pub fn contains(&self, n: u32) -> bool
+        ensures { result ≡ in_range self.now n }
+    {
+        self.low <= n && n <= self.high
+    }
+}

@@ -1,0 +1,47 @@
+//! Reading a value from the front of some bytes.
+
+ghost use Rattle.std.specs.Prelude.{◌≡◌, ◌++◌, ℕ, List, Result, Ok, IfOk, OnErr};
+ghost use Rattle.math_codec.specs.Faults.{Fault, Reads, OnMemory};
+
+use super::error::Error;
+use std::alloc::Global;
+
+/// A type whose values are spelled in bytes.
+pub trait Encoding {
+    /// The bytes that a value is spelled by.
+    ghost spelling: { Self → List ℕ };
+
+    /// The two have the same value, wherever they lie in memory.
+    ghost alike: { Self → Self → Type 0 };
+}
+
+/// A type whose values can be read from the front of some bytes.
+pub trait Read: Encoding + Sized {
+    /// What a reader is told of the values that it may give, as the range of a list's length.
+    type Cfg;
+
+    /// The values that a configuration admits.
+    ghost admits: { Self.Cfg → Self → Type 0 };
+
+    /// The bytes that a read leaves, or the first fault from left to right.
+    ghost scan: { Self.Cfg → List ℕ → Result (List ℕ) Fault };
+
+    /// A read of these bytes takes memory before it meets a fault.
+    ghost grows: { Self.Cfg → List ℕ → Type 0 };
+
+    /// Reads one value from the front of `input`, and moves `input` to what follows it.
+    ///
+    /// It refuses with the first fault from left to right, or with `Memory` where memory ran out
+    /// before that; then `input` stays where it was.
+    fn read_cfg(alloc: Global, input: &mut &[u8], cfg: &Self::Cfg) -> Result<Self, Error>
+        ensures taken { IfOk result (λ v. admits cfg.now v × (input.old.now ≡ Self.spelling v ++ input.new.now)) }
+        ensures stays { OnErr result (input.new ≡ input.old) }
+        ensures memory { OnMemory result (grows cfg.now input.old.now) }
+        ensures exact { Reads result input.new.now (scan cfg.now input.old.now) };
+
+    /// A value that is spelled is read, whatever follows it.
+    ghost again: { (cfg : Self.Cfg) (v : Self) (rest : List ℕ) → admits cfg v → scan cfg (Self.spelling v ++ rest) ≡ Ok rest };
+
+    /// No spelling begins another, and each spells one value.
+    ghost apart: { (cfg : Self.Cfg) (v w : Self) (x y : List ℕ) → admits cfg v → admits cfg w → Self.spelling v ++ x ≡ Self.spelling w ++ y → Self.alike v w × (x ≡ y) };
+}

@@ -1,0 +1,5 @@
+//! Words, lengths and lists as bytes.
+#![tactic(auto)]
+
+pub mod codec;
+pub mod laws;
