@@ -14,3 +14,4 @@ pub mod Fermat
 pub mod GoldilocksPrime
 pub mod CongruenceLaws
 pub mod ResidueLaws
+pub mod ValuesRespect

@@ -1,0 +1,5 @@
+pub mod Digits
+pub mod ParsedNumbers
+pub mod PrintedNumbers
+pub mod EncodedPolynomials
+pub mod EvalWords

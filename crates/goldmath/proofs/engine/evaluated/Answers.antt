@@ -1,0 +1,17 @@
+use Rattle.std.proofs.Common.{◌∙◌, sym}
+use Rattle.std.proofs.lemmas.Result.{err_from_is_err_and}
+use Rattle.goldmath.proofs.EncodedPolynomials.{encoded-grows, eval_line-same}
+use Rattle.goldmath.proofs.engine.evaluated.Goals as goal
+
+pub returns-in_err-polynomial-clause-encoded : goal.returns-in_err-polynomial-clause-encoded
+returns-in_err-polynomial-clause-encoded c = λ p h.
+    let q = err_from_is_err_and c.from_residual.result c.from_residual.ensures.1 in
+    rw (q.1, q.2) (c.in_err-polynomial.ensures.encoded p h)
+
+pub returns-in_err-line-clause-memory : goal.returns-in_err-line-clause-memory
+returns-in_err-line-clause-memory c =
+    let q = err_from_is_err_and c.from_residual-in_err-line.result c.from_residual-in_err-line.ensures.1 in
+    rw (q.1, q.2) (encoded-grows c.args.bytes.now _ c.in_ok-polynomial.ensures.taken)
+
+pub returns-clause-encoded : goal.returns-clause-encoded
+returns-clause-encoded c = λ p h. c.in_ok-line.ensures ∙ eval_line-same _ p c.args.point (c.in_ok-polynomial.ensures.encoded p h)

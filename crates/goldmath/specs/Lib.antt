@@ -1,0 +1,5 @@
+pub mod Numerals
+pub mod PrintedNumbers
+pub mod Lines
+pub mod Evaluations
+pub mod Answers

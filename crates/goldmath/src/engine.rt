@@ -1,0 +1,112 @@
+//! The commands of the program.
+
+ghost use Rattle.std.specs.Prelude.{◌≡◌, ◌<◌, ℕ, List, Some, ◌⊎◌, IfOk, IfErr, IfSome, MatchResult, map, string_bytes};
+ghost use Rattle.std.specs.List.{AllZip};
+ghost use Rattle.math_codec.specs.Faults.{Agrees, IsMemory, OnMemory};
+ghost use Rattle.math_codec.specs.Lists.{ListGrows};
+ghost use Rattle.math_base.specs.declared.fields.goldilocks.F.{F};
+ghost use Rattle.math_base.specs.Elements.{same};
+ghost use Rattle.math_base.specs.ElementEncoding.{scan_element};
+ghost use Rattle.goldmath.specs.Answers.{IsUsage, IsOutOfMemory, Meets, WhereOutOfMemory};
+ghost use Rattle.goldmath.specs.Evaluations.{AreEvalWords, AreWrongWords, IsEncodedPolynomial, any_length, scan_polynomial, eval_line};
+ghost use Rattle.goldmath.specs.declared.engine.ToolError.TheVariants.{Refused};
+
+use crate::text::{decimal_line, point_of};
+use commonware_math::codec::{self, LengthRange, Mem, decode};
+use commonware_math::fields::goldilocks::F;
+use commonware_math::poly::Poly;
+use std::alloc::Global;
+use thiserror::Error;
+
+/// Why the program gives no answer.
+#[derive(Debug, Drop, Error)]
+pub enum ToolError {
+    /// The words are those of no command.
+    #[error("usage: goldmath eval POINT | goldmath recover LG ROW..")]
+    Usage,
+    /// The words are a command's, and what it refuses is its input.
+    #[error("refused: {0}")]
+    Refused(codec::Error),
+}
+
+impl From<codec::Error> for ToolError {
+    ghost from_gives = { λ error fault. fault ≡ Refused error };
+
+    fn from(error: codec::Error) -> ToolError {
+        ToolError::Refused(error)
+    }
+}
+
+/// The point, where the words are `eval` and a point.
+fn eval_point(words: &[String]) -> Option<u64>
+    ensures written { IfSome result (AreEvalWords (map string_bytes words.now)) }
+    ensures found { (point : ℕ) → AreEvalWords (map string_bytes words.now) point → result ≡ Some point }
+{
+    match words {
+        [command, point] if command.as_str() == "eval" => point_of(point.as_str()),
+        _ => None,
+    }
+}
+
+/// The polynomial that the bytes encode.
+fn decoded(alloc: Global, bytes: &[u8]) -> Result<Poly<F>, codec::Error>
+    ensures taken { IfOk result (IsEncodedPolynomial bytes.now) }
+    ensures encoded { (p : List F) → IsEncodedPolynomial bytes.now p → MatchResult result (λ q. AllZip same q p) IsMemory }
+    ensures exact { Agrees (λ _. tt) result (scan_polynomial bytes.now) }
+    ensures memory { OnMemory result (ListGrows any_length scan_element (λ _. ⊥) bytes.now) }
+{
+    decode(alloc, bytes, &(LengthRange::at_most(u32::MAX), ()))
+}
+
+/// The value of the polynomial at `point` in decimal, and a line end.
+fn value_line(alloc: Global, polynomial: &Poly<F>, point: u64) -> Mem<Vec<u8>>
+    ensures { IfOk result (λ line. line.items ≡ eval_line polynomial.now point) }
+{
+    let value = polynomial.eval(alloc, &F::from(point))?;
+    decimal_line(alloc, u64::from_le_bytes(value.to_le_bytes()))
+}
+
+/// The value at `point` of the polynomial that the bytes encode, in decimal, and a line end.
+fn evaluated(alloc: Global, point: u64, bytes: &[u8]) -> Result<Vec<u8>, codec::Error>
+    ensures answer { IfOk result (λ line. (p : List F) × IsEncodedPolynomial bytes.now p × (line.items ≡ eval_line p point)) }
+    ensures encoded { (p : List F) → IsEncodedPolynomial bytes.now p → MatchResult result (λ line. line.items ≡ eval_line p point) IsMemory }
+    ensures exact { Agrees (λ _. tt) result (scan_polynomial bytes.now) }
+    ensures memory { OnMemory result (ListGrows any_length scan_element (λ _. ⊥) bytes.now) }
+{
+    let polynomial = decoded(alloc, bytes)?;
+    let line = value_line(alloc, &polynomial, point)?;
+    Ok(line)
+}
+
+/// The answer to the command that the words are, given the bytes of standard input.
+///
+/// `eval POINT`: the bytes are one encoded polynomial over the Goldilocks field, of 1 to 2^32 - 1
+/// coefficients, and nothing more; the answer is its value at POINT in decimal and a line end. POINT
+/// is 1 to 20 ASCII digits that write a number below P.
+///
+/// Any other words are `Usage`; a fault of the words comes before any fault of the bytes. With good
+/// words and bytes that are no such encoding, the first fault of the bytes is refused by its name.
+pub fn run(alloc: Global, words: &[String], bytes: &[u8]) -> Result<Vec<u8>, ToolError>
+    // The words.
+    ensures usage { IfErr result (λ fault. IsUsage fault → AreWrongWords (map string_bytes words.now)) }
+    ensures wrong { AreWrongWords (map string_bytes words.now) → MatchResult result (λ _. ⊥) (λ fault. IsUsage fault ⊎ IsOutOfMemory fault) }
+
+    // `eval`: an answer is the value of the polynomial that the bytes encode, and it is given wherever they encode one.
+    ensures eval { (point : ℕ) → AreEvalWords (map string_bytes words.now) point
+        → IfOk result (λ line. (p : List F) × IsEncodedPolynomial bytes.now p × (line.items ≡ eval_line p point)) }
+    ensures eval_encoded { (point : ℕ) (p : List F) → AreEvalWords (map string_bytes words.now) point → IsEncodedPolynomial bytes.now p
+        → MatchResult result (λ line. line.items ≡ eval_line p point) IsOutOfMemory }
+
+    // `eval`: which fault of the bytes it is.
+    ensures eval_exact { (point : ℕ) → AreEvalWords (map string_bytes words.now) point → Meets result (scan_polynomial bytes.now) }
+    ensures eval_memory { (point : ℕ) → AreEvalWords (map string_bytes words.now) point
+        → IfErr result (λ fault. WhereOutOfMemory fault (ListGrows any_length scan_element (λ _. ⊥) bytes.now)) }
+{
+    match eval_point(words) {
+        Some(point) => Ok(evaluated(alloc, point, bytes)?),
+        None => Err(ToolError::Usage),
+    }
+}
+
+#[cfg(test)]
+mod tests;

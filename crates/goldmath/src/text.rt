@@ -1,0 +1,148 @@
+//! Numbers and faults as text: the points that words write, decimal lines, and the lines for standard error.
+ghost use Rattle.std.specs.Prelude.{◌≡◌, ℕ, ◌++◌, IfOk, IfSome, string_bytes};
+ghost use Rattle.std.specs.Fmt.{decimal};
+ghost use Rattle.goldmath.specs.Lines.{line_end, line_of};
+ghost use Rattle.goldmath.specs.Numerals.{WritesPoint};
+
+use crate::engine::ToolError;
+use commonware_math::codec::{Error, Mem};
+use std::alloc::Global;
+
+/// The modulus of the Goldilocks field, 2^64 - 2^32 + 1.
+const P: u64 = 0xffff_ffff_0000_0001;
+
+/// The point that a word writes: 1 to 20 ASCII digits, the most significant first, of a number below
+/// the modulus. Zeros may lead.
+///
+/// Any other word gives `None`: a sign is refused, and a number of the modulus or more is not reduced.
+pub fn point_of(word: &str) -> Option<u64>
+    ensures written { IfSome result (WritesPoint word.now) }
+    ensures found { (x : ℕ) → WritesPoint word.now x → result ≡ Some x }
+{
+    let digits = word.as_bytes();
+    if digits.len() > 20 || !digits.iter().all(|byte| byte.is_ascii_digit()) {
+        return None;
+    }
+    match word.parse::<u64>() {
+        Ok(point) => (point < P).then_some(point),
+        Err(_) => None,
+    }
+}
+
+/// A number in decimal, without leading zeros, and a line end.
+pub fn decimal_line(alloc: Global, n: u64) -> Mem<Vec<u8>>
+    ensures { IfOk result (λ line. line.items ≡ decimal n ++ line_end) }
+{
+    let line = format!(in alloc; "{n}\n")?;
+    Ok(line.into_bytes())
+}
+
+/// The line for standard error that tells of a fault, with its line end: how the program is used, or
+/// `refused: ` and what is wrong.
+pub fn fault_line(alloc: Global, fault: &ToolError) -> Mem<Vec<u8>>
+    ensures { IfOk result (λ line. line.items ≡ line_of fault.now) }
+{
+    let line = match fault {
+        ToolError::Usage => {
+            format!(in alloc; "usage: goldmath eval POINT | goldmath recover LG ROW..\n")?
+        }
+        ToolError::Refused(error) => refusal_line(alloc, error)?,
+    };
+    Ok(line.into_bytes())
+}
+
+/// The line for a refusal, with its line end.
+fn refusal_line(alloc: Global, error: &Error) -> Mem<String>
+    ensures { IfOk result (λ line. string_bytes line ≡ line_of (ToolError.Refused error.now)) }
+{
+    match error {
+        Error::Memory(_) => format!(in alloc; "refused: out of memory\n"),
+        Error::EndOfBuffer => format!(in alloc; "refused: end of buffer\n"),
+        Error::InvalidVarint => format!(in alloc; "refused: invalid varint\n"),
+        Error::InvalidLength(length) => format!(in alloc; "refused: invalid length {length}\n"),
+        Error::Invalid(name, text) => format!(in alloc; "refused: invalid {name}: {text}\n"),
+        Error::ExtraData(count) => format!(in alloc; "refused: extra data {count}\n"),
+    }
+}
+
+#[cfg(test)]
+mod tests {
+    use super::*;
+
+    #[test]
+    fn words_write_points(rt: HostRuntime) {
+        for (word, point) in [
+            ("5", Some(5)),
+            ("0", Some(0)),
+            ("00000000000000000005", Some(5)),
+            ("18446744069414584320", Some(18446744069414584320)),
+            ("18446744069414584321", None),
+            ("99999999999999999999", None),
+            ("000000000000000000005", None),
+            ("+5", None),
+            ("-5", None),
+            ("5 ", None),
+            ("x", None),
+            ("", None),
+        ] {
+            assert_eq!(rt; point_of(word), point, "at {word}");
+        }
+    }
+
+    #[test]
+    fn numbers_are_lines(rt: HostRuntime) -> Mem<()> {
+        for (n, line) in [
+            (0, "0\n"),
+            (234, "234\n"),
+            (u64::MAX, "18446744073709551615\n"),
+        ] {
+            assert_eq!(rt;
+                decimal_line(rt.alloc(), n)?.as_slice(),
+                line.as_bytes(),
+                "at {n}"
+            );
+        }
+        Ok(())
+    }
+
+    #[test]
+    fn faults_are_lines(rt: HostRuntime) -> Mem<()> {
+        for (fault, line) in [
+            (
+                ToolError::Usage,
+                "usage: goldmath eval POINT | goldmath recover LG ROW..\n",
+            ),
+            (
+                ToolError::Refused(Error::Memory(std::alloc::AllocError)),
+                "refused: out of memory\n",
+            ),
+            (
+                ToolError::Refused(Error::EndOfBuffer),
+                "refused: end of buffer\n",
+            ),
+            (
+                ToolError::Refused(Error::InvalidVarint),
+                "refused: invalid varint\n",
+            ),
+            (
+                ToolError::Refused(Error::InvalidLength(4294967295)),
+                "refused: invalid length 4294967295\n",
+            ),
+            (
+                ToolError::Refused(Error::Invalid("F", "out of range")),
+                "refused: invalid F: out of range\n",
+            ),
+            (
+                ToolError::Refused(Error::ExtraData(1)),
+                "refused: extra data 1\n",
+            ),
+        ] {
+            assert_eq!(rt;
+                fault_line(rt.alloc(), &fault)?.as_slice(),
+                line.as_bytes(),
+                "at {line}"
+            );
+        }
+        Ok(())
+    }
+}
