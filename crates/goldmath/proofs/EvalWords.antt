@@ -1,5 +1,5 @@
 -- The words of the command `eval POINT`.
-use Rattle.std.proofs.Common.{◌≡◌, ℕ, ◌≤◌, ◌<◌, List, [], ◌∷◌, length, get_or, map, codes, Option, Some, None, refl, sym, ap, ap₂, subst, ◌∙◌, arith}
+use Rattle.std.proofs.Common.{◌≡◌, ℕ, ◌≤◌, ◌<◌, List, [], ◌∷◌, length, get_or, map, codes, Option, Some, None, sym, ap, ap₂, ◌∙◌, arith}
 use Rattle.std.specs.Prelude.{IfSome}
 use Rattle.goldmath.specs.Numerals.{WritesPoint}
 use Rattle.goldmath.specs.Evaluations.{AreEvalWords}

@@ -1,6 +1,6 @@
 -- Powers by a number that limbs write, by squaring and multiplying over the bits from the highest to the lowest. In any commutative monoid,
 -- up to a type's own equality, the square of the n-th power is the 2 n-th, and one more product gives the (2 n + 1)-th.
-use Rattle.std.proofs.Common.{◌≡◌, refl, sym, ap, ℕ, zero, suc, ◌+◌, ◌*◌, ◌^◌, ◌/◌, ◌-◌, ◌%◌, ◌<◌, ◌≤◌, List, [], ◌∷◌, ◌++◌, map, reverse, arith, bit_and, Bor, add-zero, add-suc}
+use Rattle.std.proofs.Common.{◌≡◌, sym, ap, ℕ, zero, suc, ◌+◌, ◌*◌, ◌^◌, ◌/◌, ◌-◌, ◌<◌, ◌≤◌, List, [], ◌∷◌, ◌++◌, map, reverse, arith, bit_and, Bor, add-zero, add-suc}
 use Rattle.std.proofs.Math.Nat.{pow-suc, div-div-eq-div-mul}
 use Rattle.std.proofs.lemmas.Nat.Bits.{shr_and_one}
 use Rattle.std.proofs.lemmas.List.{map-append, reverse-append}

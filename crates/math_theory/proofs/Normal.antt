@@ -2,7 +2,7 @@
 -- in which a product and its negative cancel.
 use Rattle.std.proofs.Common.{◌≡◌, ℕ, zero, suc, List, [], ◌∷◌, Bool, true, false, eqb, ltb, refl, sym, ◌∙◌, ap, ap₂, subst, eqb→eq, true≢false, T}
 use Rattle.math_theory.specs.Rings.{CommutativeRing}
-use Rattle.math_theory.proofs.RingLaws.{sum-zero_right, sum-left_comm, sum-negative_front, negative-sum_front, negative-negative, negative-zero, negative-sum, distributive_right, product-one_right, product-left_comm, zero-product, product-zero, negative-product, product-negative, negative-product_negative, difference-zero}
+use Rattle.math_theory.proofs.RingLaws.{sum-zero_right, sum-left_comm, sum-negative_front, negative-sum_front, negative-negative, negative-zero, negative-sum, distributive_right, product-one_right, product-left_comm, zero-product, product-zero, negative-product, product-negative, difference-zero}
 
 infixl 60 ◌⊕◌
 infixl 60 ◌⊖◌

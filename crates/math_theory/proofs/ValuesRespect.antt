@@ -14,7 +14,6 @@ module _ {A B : Type 0} {same : A → A → Type 0} {nothing : A} {sum : A → A
     {nothing_scalar : B} {sum_scalar : B → B → B} {product : B → B → B} {one : B}
     (E : IsEquality same) (G : IsGroup same nothing sum negative) (M : IsModule same nothing sum scaling same_scalar nothing_scalar sum_scalar product one)
     (F : IsEquality same_scalar) (P : IsProduct same_scalar product) where
-
   value_from-respects : (r s : B) → same_scalar r s → (i : ℕ) → (p q : List A) → AllZip same p q → same (value_from nothing sum scaling one product r i p) (value_from nothing sum scaling one product s i q)
   value_from-respects r s h i [] [] k = E.reflexive nothing
   value_from-respects r s h i [] (b ∷ q) k = absurd k

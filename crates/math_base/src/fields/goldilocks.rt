@@ -350,3 +350,6 @@ impl Read for F {
 
     ghost apart = { λ _ a b x y h k e. element_apart (number a) (number b) x y h k e };
 }
+
+#[cfg(test)]
+mod tests;

@@ -1,4 +1,4 @@
-use Rattle.std.proofs.Common.{◌∙◌, sym}
+use Rattle.std.proofs.Common.{◌∙◌}
 use Rattle.std.proofs.lemmas.Result.{err_from_is_err_and}
 use Rattle.goldmath.proofs.EncodedPolynomials.{encoded-grows, eval_line-same}
 use Rattle.goldmath.proofs.engine.evaluated.Goals as goal

@@ -1,4 +1,3 @@
-use Rattle.std.proofs.Common.{sym, ◌∙◌}
 use Rattle.goldmath.proofs.engine.run.Goals as goal
 
 pub returns-in_err-evaluated-in-Some-clause-wrong : goal.returns-in_err-evaluated-in-Some-clause-wrong

@@ -1,4 +1,4 @@
-use Rattle.std.proofs.Common.{◌≡◌, refl}
+use Rattle.std.proofs.Common.{refl}
 use Rattle.math_theory.specs.Powers.{power-zero}
 use Rattle.math_theory.proofs.Multiples.{TakenTo-zero, TakenTo-one, TakenTo-limb, one-square}
 use Rattle.math_base.proofs.algebra.power_by_bits.Goals as goal
