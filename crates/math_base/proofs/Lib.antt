@@ -1,0 +1,3 @@
+pub mod GeometricRuns
+pub mod PowerSteps
+pub mod SampleSteps

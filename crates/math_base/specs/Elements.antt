@@ -4,6 +4,7 @@ use Rattle.std.proofs.Common.{lit<}
 use Rattle.std.proofs.Math.Nat.{mod-lt}
 use Rattle.math_theory.specs.Goldilocks.{P}
 use Rattle.math_theory.specs.Residues as Residues
+use Rattle.math_base.specs.Roots.{root, shift}
 use Rattle.math_base.specs.declared.fields.goldilocks.F.{F}
 
 -- the number from 0 to P - 1 that an element is
@@ -32,3 +33,19 @@ negative a = Residues.negative P number residue a
 -- the remainder of the product
 abbrev pub product : F → F → F
 product a b = residue (number a * number b)
+
+-- the remainder of the power P - 2, which is the inverse of an element other than zero
+abbrev pub inverse : F → F
+inverse a = Residues.inverse P number residue a
+
+-- the root of unity of order 2^lg
+abbrev pub root_of : ℕ → F
+root_of lg = residue (root lg)
+
+-- what shifts a domain to a coset
+abbrev pub shift_of : F
+shift_of = residue shift
+
+-- the remainder of the product with the inverse of two
+abbrev pub half_of : F → F
+half_of a = residue (number a * 9223372034707292161)

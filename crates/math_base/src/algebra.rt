@@ -6,15 +6,25 @@
 //! trait speak of the definitions alone, up to `same`, and each implementation proves them. So code
 //! over these traits rests on the laws and on nothing else of a type.
 
-ghost use Rattle.std.specs.Prelude.{◌≡◌, ◌↔◌, Bool, IsTrue, IsOk, IfOk, OnOk, OnErr};
-ghost use Rattle.math_theory.specs.Laws.{IsEquality, IsMonoid, IsGroup, IsProduct, IsRing, IsModule};
+ghost use Rattle.std.specs.Prelude.{◌≡◌, ◌↔◌, ◌<◌, ◌≤◌, ℕ, List, [], Bool, IsTrue, IsSome, IsOk, IfOk, IfSome, OnOk, OnErr};
+ghost use Rattle.std.specs.Iterator.{YieldsThen};
+ghost use Rattle.rand_core.specs.Stream.{fill_bytes};
+ghost use Rattle.math_theory.specs.Laws.{IsEquality, IsMonoid, IsGroup, IsProduct, IsRing, IsField, IsModule};
 ghost use Rattle.math_theory.specs.ModuleLaws.{ring_is_module};
 ghost use Rattle.math_theory.specs.Powers.{power, multiple};
+ghost use Rattle.math_theory.specs.RootLaws.{HasRootsOfUnity};
 ghost use Rattle.math_theory.specs.Sums.{number_of_limbs, weighted_sum};
+ghost use Rattle.math_base.specs.Progressions.{AreGeometric};
+
+mod progression;
 
 pub use math_codec::codec::Mem;
-use std::alloc::Global;
+pub use progression::Powers;
+
+use rand_core::{CryptoRng, Rng};
+use std::alloc::{AllocError, Global};
 use std::fmt::Debug;
+use thiserror::Error;
 
 /// A value that can be cloned and compared by its type's own equality.
 pub trait Object: Sized + Debug + Drop {
@@ -188,6 +198,77 @@ pub trait Ring: Additive + Multiplicative {
     ghost ring: { IsRing Self.same Self.sum Self.product one };
 }
 
+/// A field.
+pub trait Field: Ring {
+    /// What gives one with the value, where that is not zero; zero for zero.
+    ghost inverse: { Self → Self };
+
+    /// The multiplicative inverse; zero for zero.
+    fn inv(&self, alloc: Global) -> Mem<Self>
+        ensures ok { IfOk result (λ answer. Self.same answer (inverse self.now)) }
+        ensures never { IsTrue Self.NEVER_REFUSES → IsOk result };
+
+    /// One is not zero, the inverse of zero is zero, and any other value times its inverse is one.
+    ghost field: { IsField Self.same Self.zero Self.product Self.one inverse };
+}
+
+/// A field with roots of unity, over which number theoretic transforms can be done.
+pub trait FieldNTT: Field {
+    ghost MAX_LG_ROOT_ORDER: { ℕ };
+
+    /// The root of unity of order 2^lg, where lg is at most `MAX_LG_ROOT_ORDER`.
+    ghost root: { ℕ → Self };
+
+    /// What shifts a domain to a coset that does not meet it.
+    ghost shift: { Self };
+
+    /// What is the value, twice.
+    ghost half: { Self → Self };
+
+    /// The greatest lg for which there is a root of unity of order 2^lg.
+    const MAX_LG_ROOT_ORDER: u8;
+
+    /// The root of unity of order exactly 2^lg; `None` exactly above `MAX_LG_ROOT_ORDER`.
+    fn root_of_unity(alloc: Global, lg: u8) -> Mem<Option<Self>>
+        ensures range { IfOk result (λ answer. IsSome answer ↔ (lg ≤ MAX_LG_ROOT_ORDER)) }
+        ensures ok { IfOk result (λ answer. IfSome answer (λ r. Self.same r (root lg))) }
+        ensures never { IsTrue Self.NEVER_REFUSES → IsOk result };
+
+    /// A value that is no power of any of the roots.
+    fn coset_shift(alloc: Global) -> Mem<Self>
+        ensures ok { IfOk result (λ answer. Self.same answer shift) }
+        ensures never { IsTrue Self.NEVER_REFUSES → IsOk result };
+
+    /// The inverse of the coset shift.
+    fn coset_shift_inv(alloc: Global) -> Mem<Self>
+        ensures ok { IfOk result (λ answer. Self.same answer (Self.inverse shift)) }
+        ensures never { IsTrue Self.NEVER_REFUSES → IsOk result }
+    {
+        let shift = Self::coset_shift(alloc)?;
+        let out = shift.inv(alloc)?;
+        Ok(out)
+    }
+
+    /// The half of the value.
+    ///
+    /// Two is not zero, since the half of one times two is one; so the half is the value times the
+    /// inverse of two.
+    fn div_2(&self, alloc: Global) -> Mem<Self>
+        ensures ok { IfOk result (λ answer. Self.same answer (half self.now)) }
+        ensures never { IsTrue Self.NEVER_REFUSES → IsOk result }
+    {
+        let mut two = Self::one(alloc)?;
+        two.double(alloc)?;
+        let mut out = two.inv(alloc)?;
+        out.mul_assign(alloc, self)?;
+        Ok(out)
+    }
+
+    /// The order of each root is exactly 2^lg, each is the square of the next, the shift is no power of
+    /// any of them, and a half twice is the value.
+    ghost roots: { HasRootsOfUnity Self.same Self.zero Self.sum Self.product Self.one MAX_LG_ROOT_ORDER root shift half };
+}
+
 /// A module over a ring, whose elements are scaled from the right.
 pub trait Space<R: Ring>: Additive {
     ghost scaling: { Self → R → Self };
@@ -236,6 +317,63 @@ impl<R: Ring> Space<R> for R {
     }
 
     ghost spans = { ring_is_module R.equality R.group R.commutes R.ring };
+}
+
+/// A group for cryptography: a space over a field of scalars, with a generator.
+pub trait CryptoGroup: Space<Self::Scalar> {
+    type Scalar: Field;
+
+    ghost generator: { Self };
+
+    /// The generator.
+    fn generator(alloc: Global) -> Mem<Self>
+        ensures ok { IfOk result (λ answer. Self.same answer generator) }
+        ensures never { IsTrue Self.NEVER_REFUSES → IsOk result };
+}
+
+/// A group with elements that are made from messages.
+pub trait HashToGroup: CryptoGroup {
+    /// The element that a domain separator and a message hash to.
+    ghost hash: { List ℕ → List ℕ → Self };
+
+    /// Hashes a domain separator and a message; equal ones give the same element.
+    fn hash_to_group(alloc: Global, domain_separator: &[u8], message: &[u8]) -> Mem<Self>
+        ensures { IfOk result (λ answer. Self.same answer (hash domain_separator.now message.now)) };
+
+    /// Hashes the next 32 bytes of the source, with an empty domain separator.
+    fn rand_to_group<G: Rng + CryptoRng>(alloc: Global, rng: &mut G) -> Mem<Self>
+        ensures ok { IfOk result (λ answer. Self.same answer (hash [] (fill_bytes 32 (G.stream rng.old)).0)) }
+        ensures source { G.stream rng.new ≡ (fill_bytes 32 (G.stream rng.old)).1 }
+    {
+        let mut bytes = [0u8; 32];
+        rng.fill_bytes(&mut bytes);
+        let out = Self::hash_to_group(alloc, &[], &bytes)?;
+        Ok(out)
+    }
+}
+
+/// Why no value was sampled.
+#[derive(Debug, Drop, Error)]
+pub enum RandomError {
+    #[error("out of memory")]
+    Memory(AllocError),
+    /// The source gave only words that are no element, as often as they were looked at.
+    #[error("too many words")]
+    TooManyWords,
+}
+
+/// A type whose values can be sampled from a source of random words.
+pub trait Random: Sized {
+    /// A sample. How it is distributed is not promised.
+    fn random<G: Rng + CryptoRng>(alloc: Global, rng: &mut G) -> Result<Self, RandomError>;
+}
+
+/// `Ok(shift)`, `Ok(shift * base)`, `Ok(shift * base^2)` and so on, without end; after an `Err` it ends.
+pub fn powers<'a, R: Ring>(alloc: Global, shift: R, base: &'a R) -> Powers<'a, R>
+    ensures { (items : _) (last : _) (rest : _) → YieldsThen ⟦<Powers<'a, R> as Iterator>⟧.next_gives result items last rest
+        → AreGeometric R.same R.product R.one shift base.now 0 items last }
+{
+    Powers::new(alloc, shift, base)
 }
 
 /// The sum of point i scaled by scalar i, over the shorter of both slices, term by term; zero for none.

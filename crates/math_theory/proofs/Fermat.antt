@@ -3,11 +3,11 @@ use Rattle.std.proofs.Common.{◌≡◌, ◌≢◌, ℕ, zero, suc, ◌-◌, ◌
 use Rattle.std.proofs.Math.Nat.{mod-lt, mod-eq_of_lt}
 use Rattle.std.proofs.lemmas.Nat.{mul-mod_first, mul-mod_second}
 use Rattle.math_theory.specs.PowersModulo.{power_mod, power_mod-zero, power_mod-suc}
-use Rattle.math_theory.specs.Pigeonhole.{MapsBelow, DistinctBelow, product_below}
+use Rattle.math_theory.specs.Pigeonhole.{MapsBelow, DistinctBelow}
 use Rattle.math_theory.specs.Primes.{IsPrime}
 use Rattle.math_theory.specs.Congruence.{inverse_mod}
 use Rattle.math_theory.proofs.PowersModulo.{power_mod-mod}
-use Rattle.math_theory.proofs.Pigeonhole.{product_below-ap, product_below-rearranged}
+use Rattle.math_theory.proofs.Pigeonhole.{product_below, product_below-ap, product_below-rearranged}
 use Rattle.math_theory.proofs.InversesModulo.{cancel_factor, prime_divides_product}
 
 module _ (p a : ℕ) (prime : IsPrime p) (apart : a % p ≢ 0) where

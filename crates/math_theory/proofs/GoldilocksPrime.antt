@@ -1,4 +1,4 @@
--- The Goldilocks modulus is prime, and seven has the greatest order.
+-- The Goldilocks modulus is prime, and seven has the greatest order: P - 1 is 2 ^ 32 times 3, 5, 17, 257 and 65537.
 use Rattle.std.proofs.Common.{◌≡◌, ◌≢◌, ℕ, ◌*◌, ◌-◌, ◌%◌, sym, ap, ◌∙◌, refl, arith, lit<, mul_comm}
 use Rattle.math_theory.specs.PowersModulo.{power_mod, HasOrder}
 use Rattle.math_theory.specs.Primes.{IsPrime}
@@ -22,7 +22,7 @@ prime_257 = proth 257 2 3 (omega arith) (omega arith) (power_mod-by_squaring 4 2
 prime_65537 : IsPrime 65537
 prime_65537 = proth 65537 3 15 (omega arith) (omega arith) (power_mod-by_squaring 16 65537 3 32768 (lit< tt)) (lit< tt)
 
--- P - 1 is 2 ^ 32 times an odd number below 2 ^ 32
+-- by Proth's test, since P - 1 is 2 ^ 32 times an odd number below 2 ^ 32
 pub goldilocks_prime : IsPrime P
 goldilocks_prime = proth P 0xee41f5320c4ea145 31 (omega arith) (omega arith) (power_mod-by_squaring 32 P 0xee41f5320c4ea145 2147483648 (lit< tt)) (lit< tt)
 
@@ -40,6 +40,7 @@ prime_factor_divides q k m p e d h =
 differs_from_one : (k r : ℕ) → power_mod P 7 k ≡ r → r % P ≢ 1 → power_mod P 7 k % P ≢ 1
 differs_from_one k r e d = λ h. d (ap (λ t. t % P) (sym e) ∙ h)
 
+-- each exponent at which the power of seven is one is a multiple of 2 ^ 32 and of the five primes, and so of P - 1
 order_of_seven_divides : (m : ℕ) → power_mod P 7 m ≡ 1 → m % 18446744069414584320 ≡ 0
 order_of_seven_divides m h =
     let two : power_mod P (power_mod P 7 4294967295) 2147483648 ≡ 18446744069414584320

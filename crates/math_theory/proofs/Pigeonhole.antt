@@ -1,7 +1,7 @@
 -- The pigeonhole principle, and a product over all numbers below a bound in another order.
 use Rattle.std.proofs.Common.{◌≡◌, ◌≢◌, ◌⊎◌, ℕ, zero, suc, ◌*◌, ◌<◌, ◌≤◌, inl, inr, arith, sym, ap, ap₂, ◌∙◌, refl, mul_assoc, mul_comm}
 use Rattle.std.proofs.lemmas.Bool.{cases_eq}
-use Rattle.math_theory.specs.Pigeonhole.{MapsBelow, DistinctBelow, product_below}
+use Rattle.math_theory.specs.Pigeonhole.{MapsBelow, DistinctBelow}
 
 -- a, or l where a is m
 abbrev replaced : (m l a : ℕ) → (a ≡ m) ⊎ (a ≡ m → ⊥) → ℕ
@@ -41,6 +41,11 @@ one_more (suc m) f below distinct =
 -- no function takes more distinct values below n than there are
 pub pigeonhole : (m n : ℕ) (f : ℕ → ℕ) → n < m → MapsBelow f m n → DistinctBelow f m → ⊥
 pigeonhole m n f more below distinct = one_more n f (λ i h. below i (omega arith)) (λ i j h k. distinct i j h (omega arith))
+
+-- the product of the values of f at the numbers below m
+abbrev pub product_below : (ℕ → ℕ) → ℕ → ℕ
+product_below f zero = 1
+product_below f (suc m) = product_below f m * f m
 
 pub product_below-ap : (f g : ℕ → ℕ) (m : ℕ) → ((i : ℕ) → i < m → f i ≡ g i) → product_below f m ≡ product_below g m
 product_below-ap f g zero h = refl

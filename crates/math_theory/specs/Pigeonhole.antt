@@ -1,5 +1,5 @@
 -- Functions on the numbers below a bound.
-use Rattle.std.specs.Prelude.{◌≢◌, ℕ, zero, suc, ◌*◌, ◌<◌}
+use Rattle.std.specs.Prelude.{◌≢◌, ℕ, ◌<◌}
 
 -- the values of f at the numbers below m lie below n
 abbrev pub MapsBelow : (ℕ → ℕ) → ℕ → ℕ → Type 0
@@ -8,8 +8,3 @@ MapsBelow f m n = (i : ℕ) → i < m → f i < n
 -- f takes no value twice at the numbers below m
 abbrev pub DistinctBelow : (ℕ → ℕ) → ℕ → Type 0
 DistinctBelow f m = (i j : ℕ) → i < j → j < m → f i ≢ f j
-
--- the product of the values of f at the numbers below m
-abbrev pub product_below : (ℕ → ℕ) → ℕ → ℕ
-product_below f zero = 1
-product_below f (suc m) = product_below f m * f m

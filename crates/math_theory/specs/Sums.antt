@@ -7,6 +7,11 @@ weighted_sum zero sum scaling [] scalars = zero
 weighted_sum zero sum scaling (p ∷ points) [] = zero
 weighted_sum zero sum scaling (p ∷ points) (s ∷ scalars) = sum (scaling p s) (weighted_sum zero sum scaling points scalars)
 
+-- the sum of all elements of a list
+abbrev pub total : {A : Type 0} → A → (A → A → A) → List A → A
+total zero sum [] = zero
+total zero sum (a ∷ rest) = sum a (total zero sum rest)
+
 -- the number that 64-bit limbs write, the lowest limb first: the sum of limb i times 2^(64 i)
 abbrev pub number_of_limbs : List ℕ → ℕ
 number_of_limbs [] = 0

@@ -10,3 +10,7 @@ value_from zero sum scaling one product r i (a ∷ rest) = sum (scaling a (power
 -- the value at r: the sum of a_i scaled by r to the power i
 abbrev pub value_over : {A B : Type 0} → A → (A → A → A) → (A → B → A) → B → (B → B → B) → B → List A → A
 value_over zero sum scaling one product r a = value_from zero sum scaling one product r 0 a
+
+-- the value at r over a ring: the sum of a_i times r to the power i
+abbrev pub value : {A : Type 0} → A → (A → A → A) → (A → A → A) → A → A → List A → A
+value zero sum product one r a = value_over zero sum product one product r a

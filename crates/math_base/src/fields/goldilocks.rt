@@ -4,12 +4,19 @@
 //! An element fits a word, and reduction is cheap: modulo P, 2^64 is 2^32 - 1 and 2^96 is -1. None of
 //! the operations takes memory.
 
-ghost use Rattle.std.specs.Prelude.{◌≡◌, ◌<◌, ◌≤◌, ◌+◌, ◌-◌, ◌*◌, ◌%◌, true};
+ghost use Rattle.std.specs.Prelude.{◌≡◌, ◌≢◌, ◌<◌, ◌≤◌, ◌+◌, ◌-◌, ◌*◌, ◌%◌, ◌↔◌, true, Some, None, IsSome, IfOk, IfErr, IfSome};
 ghost use Rattle.std.specs.Int.{to_be_bytes, to_le_bytes, w64};
 ghost use Rattle.math_theory.specs.Goldilocks.{P};
+ghost use Rattle.math_theory.specs.PowersModulo.{power_mod};
+ghost use Rattle.math_base.specs.Roots.{root, greatest_root, shift, shift_inverse};
+ghost use Rattle.math_base.specs.Samples.{first_below};
+ghost use Rattle.math_base.specs.declared.algebra.RandomError.TheVariants.{TooManyWords};
 
-use crate::algebra::{Additive, Mem, Multiplicative, Object, Ring};
+use crate::algebra::{
+    Additive, Field, FieldNTT, Mem, Multiplicative, Object, Random, RandomError, Ring,
+};
 use math_codec::codec::{Encoding, Error, Read};
+use rand_core::{CryptoRng, Rng};
 use std::alloc::Global;
 use std::fmt;
 use std::ops::{Add, AddAssign, Mul, MulAssign, Neg, Sub, SubAssign};
@@ -26,6 +33,21 @@ pub struct F {
 
 impl F {
     ghost use Rattle.math_base.specs.Elements.{number};
+
+    /// A root of unity of order 2^32.
+    pub const ROOT_OF_UNITY: F = F {
+        value: 0xee41_f532_0c4e_a145,
+    };
+
+    /// What is no power of any root of unity of order 2^lg: the coset shift.
+    pub const NOT_ROOT_OF_UNITY: F = F {
+        value: 0x79bc_2f50_acd7_4161,
+    };
+
+    /// The inverse of `NOT_ROOT_OF_UNITY`.
+    pub const NOT_ROOT_OF_UNITY_INV: F = F {
+        value: 0x1036_c402_3580_ce8d,
+    };
 
     /// The remainder by P of a sum that is below 2 P, of which one part may be P or more.
     fn sum_of_words(a: u64, b: u64) -> F
@@ -91,6 +113,76 @@ impl F {
         } else {
             F { value: subtraction }
         }
+    }
+
+    /// The n-th power, by squaring: with n = 2 h + r, the n-th power of a is the h-th of its square, and
+    /// once more a where r is one.
+    fn power(self, n: u64) -> F
+        ensures { number result ≡ power_mod P (number self) n }
+    {
+        let mut out = F::from(1);
+        let mut base = self;
+        let mut left = n;
+        while left > 0 {
+            if left % 2 == 1 {
+                out = out * base;
+            }
+            base = base * base;
+            left /= 2;
+        }
+        out
+    }
+
+    /// The multiplicative inverse; zero for zero.
+    ///
+    /// By Fermat's little theorem the power P - 1 of an element other than zero is one, so its power
+    /// P - 2 is its inverse; and the power P - 2 of zero is zero.
+    pub fn inv(self) -> F
+        ensures power { number result ≡ power_mod P (number self) (P - 2) }
+        ensures inverts { number self ≢ 0 → number self * number result % P ≡ 1 }
+        ensures zero { number self ≡ 0 → number result ≡ 0 }
+    {
+        self.power(MODULUS - 2)
+    }
+
+    /// The half: the element whose double is this one.
+    ///
+    /// An even number is halved; an odd one is halved after P, which is odd, is added.
+    pub fn div_2(self) -> F
+        ensures { (number result + number result) % P ≡ number self }
+    {
+        if self.value & 1 == 0 {
+            F {
+                value: self.value >> 1,
+            }
+        } else {
+            let (addition, carry) = self.value.overflowing_add(MODULUS);
+            F {
+                value: (u64::from(carry) << 63) | (addition >> 1),
+            }
+        }
+    }
+
+    /// The root of unity of order exactly 2^lg: `ROOT_OF_UNITY` squared 32 - lg times. `None` for lg
+    /// above 32.
+    pub fn root_of_unity(lg: u8) -> Option<F>
+        ensures range { IsSome result ↔ (lg ≤ 32) }
+        ensures value { IfSome result (λ r. number r ≡ root lg) }
+    {
+        if lg > 32 {
+            return None;
+        }
+        let mut out = F::greatest_root();
+        for _done in 0..32 - lg {
+            out = out * out;
+        }
+        Some(out)
+    }
+
+    fn greatest_root() -> F
+        ensures { number result ≡ greatest_root }
+    {
+        F::ROOT_OF_UNITY
     }
 
     /// The number as eight bytes, lowest first.
@@ -310,6 +402,71 @@ impl Ring for F {
     }
 
     ghost ring = { ring };
+}
+
+impl Field for F {
+    ghost use Rattle.math_base.specs.Elements.{inverse};
+    ghost use Rattle.math_base.specs.ElementRootLaws.{field};
+
+    ghost inverse = { inverse };
+
+    fn inv(&self, _alloc: Global) -> Mem<F> {
+        Ok(F::inv(*self))
+    }
+
+    ghost field = { field };
+}
+
+impl FieldNTT for F {
+    ghost use Rattle.math_base.specs.Elements.{root_of, shift_of, half_of};
+    ghost use Rattle.math_base.specs.ElementRootLaws.{roots};
+
+    ghost MAX_LG_ROOT_ORDER = { 32 };
+
+    ghost root = { root_of };
+
+    ghost shift = { shift_of };
+
+    ghost half = { half_of };
+
+    const MAX_LG_ROOT_ORDER: u8 = 32;
+
+    fn root_of_unity(_alloc: Global, lg: u8) -> Mem<Option<F>> {
+        Ok(F::root_of_unity(lg))
+    }
+
+    fn coset_shift(_alloc: Global) -> Mem<F> {
+        Ok(F::NOT_ROOT_OF_UNITY)
+    }
+
+    fn coset_shift_inv(_alloc: Global) -> Mem<F> {
+        Ok(F::NOT_ROOT_OF_UNITY_INV)
+    }
+
+    fn div_2(&self, _alloc: Global) -> Mem<F> {
+        Ok(F::div_2(*self))
+    }
+
+    ghost roots = { roots };
+}
+
+impl Random for F {
+    ghost use Rattle.math_base.specs.Elements.{number};
+
+    /// The first of at most 64 words of the source that is below P; `TooManyWords` where none of 64 is.
+    /// The source stands after the words that were looked at.
+    fn random<G: Rng + CryptoRng>(_alloc: Global, rng: &mut G) -> Result<F, RandomError>
+        ensures found { IfOk result (λ a. first_below 64 (G.stream rng.old) ≡ (Some (number a), G.stream rng.new)) }
+        ensures none { IfErr result (λ error. (error ≡ TooManyWords) × (first_below 64 (G.stream rng.old) ≡ (None, G.stream rng.new))) }
+    {
+        for _looked_at in 0..64u32 {
+            let word = rng.next_u64();
+            if word < MODULUS {
+                return Ok(F { value: word });
+            }
+        }
+        Err(RandomError::TooManyWords)
+    }
 }
 
 /// The number as a word: eight bytes, highest first.

@@ -1,0 +1,5 @@
+use Rattle.math_theory.proofs.Values.{value-cons}
+use Rattle.math_theory.proofs.laws.values.horners_rule.Goals as goal
+
+pub returns : goal.returns
+returns g c = λ R. value-cons R

@@ -1,0 +1,5 @@
+use Rattle.math_theory.proofs.Values.{value-dilation}
+use Rattle.math_theory.proofs.laws.values.values_of_dilations.Goals as goal
+
+pub returns : goal.returns
+returns g c = λ R. value-dilation R
