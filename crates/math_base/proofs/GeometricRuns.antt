@@ -7,7 +7,6 @@ use Rattle.math_base.specs.Progressions.{GivesPower, IsTerm, AreGeometric}
 
 -- X is the type of the error
 module _ {A S : Type 0} {same : A → A → Type 0} {product : A → A → A} (E : IsEquality same) (P : IsProduct same product) (one : A) (X : Type 0) (next_of : S → Option A) (base_of : S → A) where
-
   abbrev steps : S → Option (Result A X) → S → Type 0
   steps s r t = GivesPower {E = X} same product (base_of s) (next_of s) r (next_of t) × (base_of t ≡ base_of s)
 
@@ -41,16 +40,17 @@ module _ {A S : Type 0} {same : A → A → Type 0} {product : A → A → A} (E
       → (items : List (Result A X)) (last : Option (Result A X)) (rest : S) → YieldsThen steps s items last rest → AreGeometric same product one shift base i items last
   geometric shift base i s c e f h [] last rest run =
       let here : GivesPower {E = X} same product base (Some c) last (next_of rest)
-          = subst (λ (n : Option A). GivesPower {E = X} same product base n last (next_of rest)) (ap next_of (sym run.1) ∙ e)
-          (subst (λ (b : A). GivesPower {E = X} same product b (next_of run.0) last (next_of rest)) (ap base_of (sym run.1) ∙ f) run.2.0) in
+      = subst (λ (n : Option A). GivesPower {E = X} same product base n last (next_of rest)) (ap next_of (sym run.1) ∙ e)
+      (subst (λ (b : A). GivesPower {E = X} same product b (next_of run.0) last (next_of rest)) (ap base_of (sym run.1) ∙ f) run.2.0) in
       last_term shift base c i (next_of rest) last h here
   geometric shift base i s c e f h (Err x ∷ items) last rest run =
       let refused : next_of run.1.0 ≡ None = subst (λ (n : Option A). GivesPower {E = X} same product (base_of s) n (Some (Err x)) (next_of run.1.0)) e run.1.1.0 in
       ended run.1.0 refused items last rest (run.0, run.1.2, run.2)
   geometric shift base i s c e f h (Ok x ∷ items) last rest run =
       let here : GivesPower {E = X} same product base (Some c) (Some (Ok x)) (next_of run.1.0)
-          = subst (λ (n : Option A). GivesPower {E = X} same product base n (Some (Ok x)) (next_of run.1.0)) e
-          (subst (λ (b : A). GivesPower {E = X} same product b (next_of s) (Some (Ok x)) (next_of run.1.0)) f run.1.1.0) in
-      let g = given base c x (next_of run.1.0) here in
-      (E.transitive _ _ _ g.0 h,
-       geometric shift base (suc i) run.1.0 g.1.0 g.1.1 (run.1.1.1 ∙ f) (next_term shift base c g.1.0 i h g.1.2) items last rest (run.0, run.1.2, run.2))
+      = subst (λ (n : Option A). GivesPower {E = X} same product base n (Some (Ok x)) (next_of run.1.0)) e
+      (subst (λ (b : A). GivesPower {E = X} same product b (next_of s) (Some (Ok x)) (next_of run.1.0)) f run.1.1.0) in
+      let g = given base c x (next_of run.1.0) here in (
+        E.transitive _ _ _ g.0 h,
+        geometric shift base (suc i) run.1.0 g.1.0 g.1.1 (run.1.1.1 ∙ f) (next_term shift base c g.1.0 i h g.1.2) items last rest (run.0, run.1.2, run.2),
+      )

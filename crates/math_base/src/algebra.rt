@@ -20,7 +20,6 @@ mod progression;
 
 pub use math_codec::codec::Mem;
 pub use progression::Powers;
-
 use rand_core::{CryptoRng, Rng};
 use std::alloc::{AllocError, Global};
 use std::fmt::Debug;
@@ -352,12 +351,12 @@ pub trait HashToGroup: CryptoGroup {
     }
 }
 
-/// Why no value was sampled.
+/// Why no value was sampled: memory ran out, or the source gave only words that are no element, as
+/// often as they were looked at.
 #[derive(Debug, Drop, Error)]
 pub enum RandomError {
     #[error("out of memory")]
     Memory(AllocError),
-    /// The source gave only words that are no element, as often as they were looked at.
     #[error("too many words")]
     TooManyWords,
 }

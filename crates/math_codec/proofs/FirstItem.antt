@@ -1,15 +1,14 @@
 -- Memory is wanted among some items only where the first is read, or wants it itself.
-use Rattle.std.proofs.Common.{◌≡◌, ◌⊎◌, inl, inr, ℕ, zero, suc, ◌<◌, List, Result, Ok, sym, ap, subst, ◌∙◌, arith}
-use Rattle.math_codec.specs.declared.codec.error.Error.{Error}
-use Rattle.math_codec.specs.declared.codec.error.Error.TheVariants as errors
-use Rattle.math_codec.specs.Faults.{Fault, WhereMemory}
+use Rattle.std.proofs.Common.{Option, Some, None, ◌≡◌, ◌⊎◌, inl, inr, ℕ, zero, suc, ◌<◌, List, Result, Ok, sym, ap, subst, ◌∙◌, arith}
+use Rattle.std.specs.Prelude.{IfNone}
+use Rattle.math_codec.specs.Faults.{Fault}
 use Rattle.math_codec.specs.Lists.{ItemsGrow}
 
 -- nothing is read yet, or the first item is
-abbrev pub AtFirstOrPast : (List ℕ → Result (List ℕ) Fault) → List ℕ → List ℕ → Type 0
-AtFirstOrPast scan bytes rest = (rest ≡ bytes) ⊎ ((after : List ℕ) × (scan bytes ≡ Ok after))
+abbrev pub NoneOrFirstRead : (List ℕ → Result (List ℕ) Fault) → List ℕ → List ℕ → Type 0
+NoneOrFirstRead scan bytes rest = (rest ≡ bytes) ⊎ ((after : List ℕ) × (scan bytes ≡ Ok after))
 
-pub past_first : (scan : List ℕ → Result (List ℕ) Fault) (bytes rest after : List ℕ) → AtFirstOrPast scan bytes rest → scan rest ≡ Ok after → AtFirstOrPast scan bytes after
+pub past_first : (scan : List ℕ → Result (List ℕ) Fault) (bytes rest after : List ℕ) → NoneOrFirstRead scan bytes rest → scan rest ≡ Ok after → NoneOrFirstRead scan bytes after
 past_first scan bytes rest after (inl e) h = inr (after, ap scan (sym e) ∙ h)
 past_first scan bytes rest after (inr b) h = inr b
 
@@ -18,17 +17,13 @@ first_grows scan grows zero i bytes lt h = absurd (omega arith)
 first_grows scan grows (suc n) i bytes lt h = h
 
 -- the item could not be read for want of memory
-pub item_memory : (e : Error) (scan : List ℕ → Result (List ℕ) Fault) (grows : List ℕ → Type 0) (count i : ℕ) (bytes rest : List ℕ) → i < count → AtFirstOrPast scan bytes rest
-    → WhereMemory e (grows rest) → WhereMemory e (ItemsGrow scan grows count bytes)
-item_memory (errors.Memory m) scan grows count i bytes rest lt (inl e) h = first_grows scan grows count i bytes lt (inl (subst grows e h))
-item_memory (errors.Memory m) scan grows count i bytes rest lt (inr b) h = first_grows scan grows count i bytes lt (inr b)
-item_memory errors.EndOfBuffer scan grows count i bytes rest lt b h = tt
-item_memory errors.InvalidVarint scan grows count i bytes rest lt b h = tt
-item_memory (errors.InvalidLength n) scan grows count i bytes rest lt b h = tt
-item_memory (errors.Invalid kind text) scan grows count i bytes rest lt b h = tt
-item_memory (errors.ExtraData n) scan grows count i bytes rest lt b h = tt
+pub item_memory : (reported : Option Fault) (scan : List ℕ → Result (List ℕ) Fault) (grows : List ℕ → Type 0) (count i : ℕ) (bytes rest : List ℕ) → i < count → NoneOrFirstRead scan bytes rest
+    → IfNone reported (grows rest) → IfNone reported (ItemsGrow scan grows count bytes)
+item_memory None scan grows count i bytes rest lt (inl e) h = first_grows scan grows count i bytes lt (inl (subst grows e h))
+item_memory None scan grows count i bytes rest lt (inr b) h = first_grows scan grows count i bytes lt (inr b)
+item_memory (Some fault) scan grows count i bytes rest lt b h = tt
 
 -- the item was read, and could not be stored
-pub push_memory : (scan : List ℕ → Result (List ℕ) Fault) (grows : List ℕ → Type 0) (count i : ℕ) (bytes rest after : List ℕ) → i < count → AtFirstOrPast scan bytes rest → scan rest ≡ Ok after → ItemsGrow scan grows count bytes
+pub push_memory : (scan : List ℕ → Result (List ℕ) Fault) (grows : List ℕ → Type 0) (count i : ℕ) (bytes rest after : List ℕ) → i < count → NoneOrFirstRead scan bytes rest → scan rest ≡ Ok after → ItemsGrow scan grows count bytes
 push_memory scan grows count i bytes rest after lt (inl e) h = first_grows scan grows count i bytes lt (inr (after, ap scan (sym e) ∙ h))
 push_memory scan grows count i bytes rest after lt (inr b) h = first_grows scan grows count i bytes lt (inr b)

@@ -3,23 +3,15 @@ use Rattle.std.proofs.Common.{◌≡◌, ℕ, suc, ◌-◌, ◌+◌, ◌≤◌, 
 use Rattle.std.specs.List.{AllByRecursion, flat_map}
 use Rattle.std.proofs.lemmas.List.{append-nil}
 use Rattle.std.proofs.lemmas.List.Concat.{flat_map-cons}
+use Rattle.std.proofs.lemmas.Option.{IfSome_then}
 use Rattle.std.proofs.lemmas.Grind.{flat_map-append}
 use Rattle.math_codec.specs.declared.codec.error.Error.{Error}
-use Rattle.math_codec.specs.declared.codec.error.Error.TheVariants as errors
-use Rattle.math_codec.specs.Faults.{Fault, Reports, ◌>>=◌}
+use Rattle.math_codec.specs.Faults.{Fault, fault_of, Reports, ◌>>=◌}
 use Rattle.math_codec.specs.Lists.{scan_items}
 
 -- a fault of the first step is the fault of both
-pub reports_bind : {A B : Type 0} (e : Error) (r : Result A Fault) (f : A → Result B Fault) → Reports e r → Reports e (r >>= f)
-reports_bind (errors.Memory m) r f h = tt
-reports_bind errors.EndOfBuffer r f h = rw h refl
-reports_bind errors.InvalidVarint r f h = rw h refl
-reports_bind (errors.InvalidLength n) r f h = rw h refl
-reports_bind (errors.Invalid kind text) r f h = rw h refl
-reports_bind (errors.ExtraData n) r f h = rw h refl
-
-pub reports_same : {A : Type 0} (e : Error) (r s : Result A Fault) → r ≡ s → Reports e r → Reports e s
-reports_same e r s same h = subst (λ x. Reports e x) same h
+reports_bind : {A B : Type 0} (e : Error) (r : Result A Fault) (f : A → Result B Fault) → Reports e r → Reports e (r >>= f)
+reports_bind e r f h = IfSome_then (fault_of e) h (λ fault p. rw p refl)
 
 pub admitted_push : {X : Type 0} (P : X → Type 0) (xs : List X) (x : X) → AllByRecursion P xs → P x → AllByRecursion P (xs ++ x ∷ [])
 admitted_push P [] x h p = (p, tt)
@@ -39,7 +31,7 @@ unfolding scan_items
 item_fails e scan count i bytes total lt h so_far =
     let k : count - i ≡ suc (count - (i + 1)) = omega arith in
     let one : scan_items scan (count - i) bytes ≡ (scan bytes >>= λ rest. scan_items scan (count - (i + 1)) rest) = rw k refl in
-    reports_same e _ _ (sym one ∙ so_far) (reports_bind e (scan bytes) (λ rest. scan_items scan (count - (i + 1)) rest) h)
+    subst (λ x. Reports e x) (sym one ∙ so_far) (reports_bind e (scan bytes) (λ rest. scan_items scan (count - (i + 1)) rest) h)
 
 pub items_done : (scan : List ℕ → Result (List ℕ) Fault) (count i : ℕ) (bytes : List ℕ) (total : Result (List ℕ) Fault) → count ≤ i
     → scan_items scan (count - i) bytes ≡ total → total ≡ Ok bytes

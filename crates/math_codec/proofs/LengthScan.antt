@@ -1,13 +1,14 @@
 -- A length is read where a spelling of it stands in front, and nowhere else.
-use Rattle.std.proofs.Common.{◌≡◌, ◌⊎◌, ℕ, zero, suc, ◌+◌, ◌-◌, ◌*◌, ◌/◌, ◌<◌, ◌≤◌, Bool, true, false, cond, ltb, eqb, List, [], ◌∷◌, ◌++◌, length, get_or, Result, Ok, Err, refl, ap, subst, ◌∙◌, arith, inl, inr}
+use Rattle.std.proofs.Common.{◌≡◌, ℕ, zero, suc, ◌+◌, ◌-◌, ◌*◌, ◌/◌, ◌<◌, ◌≤◌, cond, ltb, eqb, List, [], ◌∷◌, ◌++◌, length, get_or, Result, Ok, Err, refl, ap, subst, ◌∙◌, arith, inl, inr}
 use Rattle.std.specs.Prelude.{IfOk}
 use Rattle.std.specs.List.{All}
 use Rattle.std.proofs.lemmas.Bool.{cases_lt, ltb-true, ltb-false, eqb-false}
 use Rattle.std.proofs.lemmas.List.{get_or_past}
 use Rattle.math_codec.specs.declared.codec.error.Error.{Error}
-use Rattle.math_codec.specs.Faults.{Fault, InvalidVarint, Agrees, ◌>>=◌}
+use Rattle.math_codec.specs.Faults.{InvalidVarint, Agrees, ◌>>=◌}
 use Rattle.math_codec.specs.Lengths.{length_spelling, rest_at, length_at, SpellsFrom, SpellsLength}
 use Rattle.math_codec.specs.LengthLaws.{length_again, one_read}
+use Rattle.math_codec.proofs.Steps.{bind_ok, chosen}
 use Rattle.math_codec.proofs.Spellings.{spells_before, only_spelling, length_below}
 
 -- each is below 256
@@ -24,16 +25,6 @@ all_bytes bytes h i =
 
 IsBytes-rest : (byte : ℕ) (bytes : List ℕ) → IsBytes (byte ∷ bytes) → IsBytes bytes
 IsBytes-rest byte bytes h i = h (suc i)
-
--- the value of a first step, where both met no fault
-bind_ok : {A B : Type 0} (r : Result A Fault) (f : A → Result B Fault) (y : B) → (r >>= f) ≡ Ok y → (x : A) × (r ≡ Ok x) × (f x ≡ Ok y)
-bind_ok (Ok x) f y e = (x, refl, e)
-bind_ok (Err d) f y e = absurd cc
-
--- which of the two was chosen
-chosen : {A : Type 0} (b : Bool) (x y z : A) → cond b x y ≡ z → ((b ≡ true) × (x ≡ z)) ⊎ ((b ≡ false) × (y ≡ z))
-chosen true x y z e = inl (refl, e)
-chosen false x y z e = inr (refl, e)
 
 -- the bytes begin with a spelling of n from this place on, and then comes rest
 pub record BeginsWith (place n : ℕ) (bytes rest : List ℕ) : Type 0 where

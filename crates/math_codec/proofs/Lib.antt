@@ -1,6 +1,9 @@
-pub mod GroupBounds
+pub mod Groups
 pub mod Spellings
 pub mod LengthScan
 pub mod ItemScan
 pub mod FirstItem
 pub mod ExactScan
+pub mod GroupsWritten
+pub mod Steps
+pub mod LengthFaults

@@ -1,10 +1,10 @@
 -- The groups of a length are its one spelling.
-use Rattle.std.proofs.Common.{◌≡◌, ℕ, zero, suc, ◌+◌, ◌*◌, ◌/◌, ◌%◌, ◌^◌, ◌<◌, true, false, ltb, List, [], ◌∷◌, refl, ap, ◌∙◌, arith, inl, inr}
+use Rattle.std.proofs.Common.{sym, ◌≡◌, ℕ, zero, suc, ◌+◌, ◌*◌, ◌/◌, ◌%◌, ◌^◌, ◌<◌, List, [], ◌∷◌, refl, ap, ◌∙◌, arith, inl, inr}
 use Rattle.std.proofs.Math.Nat.{pow-succ'}
-use Rattle.std.proofs.lemmas.Bool.{cases_lt, lt-ltb, le-ltb}
+use Rattle.std.proofs.lemmas.Bool.{cases_lt}
 use Rattle.std.proofs.lemmas.Nat.{div_below}
 use Rattle.math_codec.specs.Lengths.{groups, length_spelling, SpellsFrom, SpellsLength}
-use Rattle.math_codec.proofs.GroupBounds.{one_group_below}
+use Rattle.math_codec.proofs.Groups.{one_group_below, groups-last, groups-marked}
 
 -- a byte before a spelling of what is above its seven bits
 pub spells_before : (place n byte : ℕ) (bytes : List ℕ) → byte ≡ 128 + n % 128 → place < 4 → SpellsFrom (place + 1) (n / 128) bytes → SpellsFrom place n (byte ∷ bytes)
@@ -17,13 +17,11 @@ groups_spell zero place n sum zeros lt = (refl, record { clear = omega arith; ze
 groups_spell (suc more) place n sum zeros lt =
     elim (cases_lt n 128) [
       | inl below ↦
-          let small : ltb n 128 ≡ true = lt-ltb n 128 below in
-          rw small (refl, record { clear = below; zero_first = zeros; fifth = λ e. absurd (omega arith) })
+          rw (groups-last more n below) (refl, record { clear = below; zero_first = zeros; fifth = λ e. absurd (omega arith) })
       | inr above ↦
-          let large : ltb n 128 ≡ false = le-ltb n 128 above in
           let high : n / 128 < 16 * 128 ^ more = div_below n 128 (16 * 128 ^ more) (omega arith) (omega (arith, pow-succ' 128 more)) in
           let others : SpellsFrom (place + 1) (n / 128) (groups more (n / 128)) = groups_spell more (place + 1) (n / 128) (omega arith) (λ e. absurd (omega arith)) high in
-          rw large (spells_before place n (128 + n % 128) (groups more (n / 128)) refl (omega arith) others)
+          rw (groups-marked (suc more) more n refl above) (spells_before place n (128 + n % 128) (groups more (n / 128)) refl (omega arith) others)
     ]
 
 -- what is spelled behind a first byte is not zero
@@ -40,15 +38,12 @@ pub spelled_by_groups : (more place n : ℕ) (bytes : List ℕ) → place + more
 unfolding groups
 spelled_by_groups more place n [] sum h = absurd h
 spelled_by_groups zero place n (byte ∷ []) sum h = ap (λ (b : ℕ). b ∷ []) h.0
-spelled_by_groups (suc more) place n (byte ∷ []) sum h =
-    let small : ltb n 128 ≡ true = lt-ltb n 128 h.1.clear in
-    rw small (ap (λ (b : ℕ). b ∷ []) h.0)
+spelled_by_groups (suc more) place n (byte ∷ []) sum h = ap (λ (b : ℕ). b ∷ []) h.0 ∙ sym (groups-last more n h.1.clear)
 spelled_by_groups zero place n (byte ∷ next ∷ after) sum h = absurd (omega (arith, h.1))
 spelled_by_groups (suc more) place n (byte ∷ next ∷ after) sum h =
     let above : 0 < n / 128 = spelled_positive (place + 1) (n / 128) (next ∷ after) (omega arith) h.2 in
-    let large : ltb n 128 ≡ false = le-ltb n 128 (omega arith) in
     let others : (next ∷ after) ≡ groups more (n / 128) = spelled_by_groups more (place + 1) (n / 128) (next ∷ after) (omega arith) h.2 in
-    rw large (ap (λ (b : ℕ). b ∷ next ∷ after) h.0 ∙ ap (λ (x : List ℕ). (128 + n % 128) ∷ x) others)
+    ap (λ (b : ℕ). b ∷ next ∷ after) h.0 ∙ ap (λ (x : List ℕ). (128 + n % 128) ∷ x) others ∙ sym (groups-marked (suc more) more n refl (omega arith))
 
 pub spelled_below : (more place n : ℕ) (bytes : List ℕ) → place + more ≡ 4 → SpellsFrom place n bytes → n < 16 * 128 ^ more
 spelled_below more place n [] sum h = absurd h

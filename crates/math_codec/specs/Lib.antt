@@ -1,4 +1,5 @@
 pub mod Faults
+pub mod Encodings
 pub mod Ranges
 pub mod Words
 pub mod WordLaws
@@ -6,3 +7,4 @@ pub mod Lengths
 pub mod LengthLaws
 pub mod Lists
 pub mod ListLaws
+pub mod Theorems

@@ -1,5 +1,5 @@
 -- A word that is spelled is read again, and no spelling begins another.
-use Rattle.std.proofs.Common.{◌≡◌, ℕ, ◌^◌, ◌<◌, ltb, false, List, ◌++◌, length, drop, Ok, refl, sym, ap, ◌∙◌, arith, length-append}
+use Rattle.std.proofs.Common.{◌≡◌, ℕ, ◌^◌, ◌<◌, ◌≤◌, ltb, false, List, ◌++◌, length, drop, Ok, refl, sym, ap, ◌∙◌, arith, length-append}
 use Rattle.std.specs.Int.{w64, to_be_bytes, from_be_bytes}
 use Rattle.std.proofs.lemmas.Bool.{le-ltb}
 use Rattle.std.proofs.lemmas.List.{take_at, drop_at}
@@ -19,3 +19,6 @@ word_apart m n x y h k e =
     let front : m ≡ n = sym (word_in_front-spelled m x h) ∙ ap word_in_front e ∙ word_in_front-spelled n y k in
     let back : x ≡ y = sym (drop_at (to_be_bytes w64 m) x 8 refl) ∙ ap (drop 8) e ∙ drop_at (to_be_bytes w64 n) y 8 refl in
     (front, back)
+
+pub word_bounded : (n : ℕ) → length (to_be_bytes w64 n) ≤ 8
+word_bounded n = omega arith

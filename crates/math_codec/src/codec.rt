@@ -16,14 +16,16 @@ mod list;
 mod range;
 mod read;
 mod word;
+mod write;
 
 pub use decoding::decode;
 pub use error::Error;
-pub use length::read_len;
-pub use list::read_list;
+pub use length::{len_size, read_len, write_len};
+pub use list::{list_size, read_list, write_list};
 pub use range::LengthRange;
 pub use read::{Encoding, Read};
 use std::alloc::AllocError;
+pub use write::{EncodeSize, FixedSize, MaxEncodeSize, Write, roll_back};
 
 /// What a call gives that fails only where memory runs out.
 pub type Mem<T> = Result<T, AllocError>;

@@ -4,10 +4,11 @@
 //! An element fits a word, and reduction is cheap: modulo P, 2^64 is 2^32 - 1 and 2^96 is -1. None of
 //! the operations takes memory.
 
-ghost use Rattle.std.specs.Prelude.{◌≡◌, ◌≢◌, ◌<◌, ◌≤◌, ◌+◌, ◌-◌, ◌*◌, ◌%◌, ◌↔◌, true, Some, None, IsSome, IfOk, IfErr, IfSome};
+ghost use Rattle.std.specs.Prelude.{◌≡◌, ◌≢◌, ◌<◌, ◌≤◌, ◌+◌, ◌-◌, ◌*◌, ◌%◌, ◌↔◌, true, refl, Some, None, IsSome, IfOk, IfErr, IfSome};
 ghost use Rattle.std.specs.Int.{to_be_bytes, to_le_bytes, w64};
 ghost use Rattle.math_theory.specs.Goldilocks.{P};
 ghost use Rattle.math_theory.specs.PowersModulo.{power_mod};
+ghost use Rattle.math_codec.specs.WordLaws.{word_bounded};
 ghost use Rattle.math_base.specs.Roots.{root, greatest_root, shift, shift_inverse};
 ghost use Rattle.math_base.specs.Samples.{first_below};
 ghost use Rattle.math_base.specs.declared.algebra.RandomError.TheVariants.{TooManyWords};
@@ -15,7 +16,7 @@ ghost use Rattle.math_base.specs.declared.algebra.RandomError.TheVariants.{TooMa
 use crate::algebra::{
     Additive, Field, FieldNTT, Mem, Multiplicative, Object, Random, RandomError, Ring,
 };
-use math_codec::codec::{Encoding, Error, Read};
+use math_codec::codec::{EncodeSize, Encoding, Error, FixedSize, MaxEncodeSize, Read, Write};
 use rand_core::{CryptoRng, Rng};
 use std::alloc::Global;
 use std::fmt;
@@ -506,6 +507,40 @@ impl Read for F {
     ghost again = { λ _ a rest h. element_again (number a) rest h };
 
     ghost apart = { λ _ a b x y h k e. element_apart (number a) (number b) x y h k e };
+}
+
+impl Write for F {
+    ghost fits = { λ _. Unit {0} };
+
+    /// Writes the number as a word: eight bytes, highest first.
+    fn write(&self, alloc: Global, out: &mut Vec<u8>) -> Mem<()> {
+        self.value.write(alloc, out)
+    }
+}
+
+impl EncodeSize for F {
+    /// An element is written in eight bytes.
+    fn encode_size(&self) -> usize {
+        Self::SIZE
+    }
+}
+
+impl FixedSize for F {
+    ghost SIZE = { 8 };
+
+    const SIZE: usize = 8;
+
+    ghost fixed = { λ _. refl };
+}
+
+impl MaxEncodeSize for F {
+    ghost use Rattle.math_base.specs.Elements.{number};
+
+    ghost MAX_ENCODE_SIZE = { 8 };
+
+    const MAX_ENCODE_SIZE: usize = 8;
+
+    ghost bounded = { λ a. word_bounded (number a) };
 }
 
 #[cfg(test)]

@@ -1,14 +1,17 @@
 //! Lengths: groups of seven bits, lowest first.
 //!
-//! Bit 7 of a byte says that another follows. So a length is read by taking a byte: below 128 it
-//! is the length, and else it holds the lowest seven bits, and the bytes that follow spell the
-//! rest, which is not zero.
+//! Bit 7 of a byte says that another follows. So a length below 128 is one byte, and another one n
+//! is its lowest seven bits with bit 7 set, 128 + n % 128, and then the bytes of n / 128, which is
+//! not zero. A byte b with bit 7 set and a number m in the bytes after it are read as b - 128 + 128 m.
+//! Five bytes have room for 35 bits, so that the fifth is at most 15 where there are 32.
 
-ghost use Rattle.std.specs.Prelude.{◌≡◌, ◌<◌, ◌≤◌, ◌^◌, ◌*◌, ◌++◌, IfOk, OnErr};
+ghost use Rattle.std.specs.Prelude.{◌≡◌, ◌<◌, ◌≤◌, ◌^◌, ◌*◌, ◌+◌, ◌++◌, length, take, IfOk, OnOk, OnErr};
 ghost use Rattle.math_codec.specs.Faults.{Agrees, OnMemory};
-ghost use Rattle.math_codec.specs.Lengths.{length_spelling, length_at, rest_at};
+ghost use Rattle.math_codec.specs.Lengths.{groups, length_spelling, length_at, rest_at};
 
+use super::Mem;
 use super::error::Error;
+use super::write::roll_back;
 use std::alloc::Global;
 
 /// Reads the bytes after the first: at least one, and at most one and `more`.
@@ -83,4 +86,54 @@ pub fn read_len(_alloc: Global, input: &mut &[u8]) -> Result<u32, Error>
     let (n, rest) = split_length(*input)?;
     *input = rest;
     Ok(n)
+}
+
+/// Writes the groups of `n`, of which there are at most `more` and one. What is written stays where
+/// memory runs out.
+#[tactic(auto, unfolding(crate::specs::Lengths::groups))]
+fn write_groups(n: u32, more: u32, out: &mut Vec<u8>) -> Mem<()>
+    requires { n < 16 * 128 ^ more }
+    ensures ok { OnOk result (out.new.items ≡ out.old.items ++ groups more n) }
+    ensures kept { take (length out.old.items) out.new.items ≡ out.old.items }
+{
+    if more == 0 || n < 128 {
+        out.push(n as u8)?;
+        return Ok(());
+    }
+    out.push((128 + n % 128) as u8)?;
+    write_groups(n / 128, more - 1, out)?;
+    Ok(())
+}
+
+/// Writes the length `n` at the end of `out`.
+///
+/// It refuses where memory runs out, and then the items of `out` stay what they were.
+pub fn write_len(alloc: Global, n: u32, out: &mut Vec<u8>) -> Mem<()>
+    ensures ok { OnOk result (out.new.items ≡ out.old.items ++ length_spelling n) }
+    ensures err { OnErr result (out.new.items ≡ out.old.items) }
+{
+    let start = out.len();
+    let written = write_groups(n, 4, out);
+    roll_back(alloc, written, start, out)
+}
+
+/// The number of groups of `n`, of which there are at most `more` and one.
+#[tactic(auto, unfolding(crate::specs::Lengths::groups))]
+fn count_groups(n: usize, more: u32) -> usize
+    ensures count { result ≡ length (groups more n) }
+    ensures few { result ≤ more + 1 }
+{
+    if more == 0 || n < 128 {
+        return 1;
+    }
+    1 + count_groups(n / 128, more - 1)
+}
+
+/// The number of bytes that the length `n` is written in, from 1 to 5. A number of 2^32 or more,
+/// which is no length, is counted as 5.
+pub fn len_size(n: usize) -> usize
+    ensures count { result ≡ length (length_spelling n) }
+    ensures few { result ≤ 5 }
+{
+    count_groups(n, 4)
 }

@@ -1,17 +1,19 @@
 //! Lists: a length, and then the items.
 
-ghost use Rattle.std.specs.Prelude.{◌≡◌, ◌<◌, ◌^◌, ◌++◌, length, true, IfOk, OnErr};
-ghost use Rattle.std.specs.List.{flat_map, AllByRecursion, AllZip};
+ghost use Rattle.std.specs.Prelude.{◌≡◌, ◌<◌, ◌^◌, ◌++◌, length, take, true, IfOk, OnOk, OnErr};
+ghost use Rattle.std.specs.List.{flat_map, All, AllByRecursion, AllZip};
 ghost use Rattle.math_codec.specs.Faults.{Agrees, Reads, OnMemory};
 ghost use Rattle.math_codec.specs.Lengths.{length_in_front};
 ghost use Rattle.math_codec.specs.Lists.{scan_items, scan_list, list_spelling, AdmitsList, ItemsGrow, ListGrows};
 ghost use Rattle.math_codec.specs.ListLaws.{list_again, list_apart};
 ghost use Rattle.math_codec.specs.Ranges.{in_range};
 
+use super::Mem;
 use super::error::Error;
-use super::length::read_len;
+use super::length::{len_size, read_len, write_len};
 use super::range::LengthRange;
 use super::read::{Encoding, Read};
+use super::write::{EncodeSize, Write, roll_back};
 use std::alloc::Global;
 
 /// Reads `count` items, one after the other, and gives them with what follows.
@@ -93,4 +95,60 @@ impl<T: Read + Drop> Read for Vec<T> {
     ghost again = { λ cfg v rest h. list_again T.spelling (T.admits cfg.1) (T.scan cfg.1) (T.again cfg.1) cfg.0 v.items rest h };
 
     ghost apart = { λ cfg v w x y h k e. list_apart T.spelling (T.admits cfg.1) T.alike (T.apart cfg.1) cfg.0 v.items w.items x y h k e };
+}
+
+/// Writes a list. What is written stays where memory runs out.
+fn write_items<T: Write>(alloc: Global, items: &[T], out: &mut Vec<u8>) -> Mem<()>
+    requires number { length items.now < 2 ^ 32 }
+    requires each { All T.fits items.now }
+    ensures ok { OnOk result (out.new.items ≡ out.old.items ++ list_spelling T.spelling items.now) }
+    ensures kept { take (length out.old.items) out.new.items ≡ out.old.items }
+{
+    write_len(alloc, items.len() as u32, out)?;
+    for item in items {
+        item.write(alloc, out)?;
+    }
+    Ok(())
+}
+
+/// Writes a list of fewer than 2^32 items at the end of `out`.
+///
+/// It refuses where memory runs out, and then the items of `out` stay what they were.
+pub fn write_list<T: Write>(alloc: Global, items: &[T], out: &mut Vec<u8>) -> Mem<()>
+    requires number { length items.now < 2 ^ 32 }
+    requires each { All T.fits items.now }
+    ensures ok { OnOk result (out.new.items ≡ out.old.items ++ list_spelling T.spelling items.now) }
+    ensures err { OnErr result (out.new.items ≡ out.old.items) }
+{
+    let start = out.len();
+    let written = write_items(alloc, items, out);
+    roll_back(alloc, written, start, out)
+}
+
+impl<T: Write> Write for Vec<T> {
+    ghost fits = { λ v. (length v.items < 2 ^ 32) × All T.fits v.items };
+
+    /// Writes a list, as `write_list` does.
+    fn write(&self, alloc: Global, out: &mut Vec<u8>) -> Mem<()> {
+        write_list(alloc, self, out)
+    }
+}
+
+/// The number of bytes that a list is written in, which has to fit.
+pub fn list_size<T: EncodeSize>(items: &[T]) -> usize
+    requires { length (list_spelling T.spelling items.now) < 2 ^ 64 }
+    ensures { result ≡ length (list_spelling T.spelling items.now) }
+{
+    let mut size = len_size(items.len());
+    for item in items {
+        size += item.encode_size();
+    }
+    size
+}
+
+impl<T: EncodeSize> EncodeSize for Vec<T> {
+    /// The number of bytes that the list is written in, as `list_size` counts them.
+    fn encode_size(&self) -> usize {
+        list_size(self)
+    }
 }

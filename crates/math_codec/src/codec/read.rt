@@ -1,6 +1,7 @@
 //! Reading a value from the front of some bytes.
 
-ghost use Rattle.std.specs.Prelude.{◌≡◌, ◌++◌, ℕ, List, Result, Ok, IfOk, OnErr};
+ghost use Rattle.std.specs.Prelude.{◌≡◌, ◌++◌, ℕ, List, Result, IfOk, OnErr};
+ghost use Rattle.math_codec.specs.Encodings.{ReadsAgain, SpellsApart};
 ghost use Rattle.math_codec.specs.Faults.{Fault, Reads, OnMemory};
 
 use super::error::Error;
@@ -40,8 +41,8 @@ pub trait Read: Encoding + Sized {
         ensures exact { Reads result input.new.now (scan cfg.now input.old.now) };
 
     /// A value that is spelled is read, whatever follows it.
-    ghost again: { (cfg : Self.Cfg) (v : Self) (rest : List ℕ) → admits cfg v → scan cfg (Self.spelling v ++ rest) ≡ Ok rest };
+    ghost again: { (cfg : Self.Cfg) → ReadsAgain Self.spelling (admits cfg) (scan cfg) };
 
     /// No spelling begins another, and each spells one value.
-    ghost apart: { (cfg : Self.Cfg) (v w : Self) (x y : List ℕ) → admits cfg v → admits cfg w → Self.spelling v ++ x ≡ Self.spelling w ++ y → Self.alike v w × (x ≡ y) };
+    ghost apart: { (cfg : Self.Cfg) → SpellsApart Self.spelling (admits cfg) Self.alike };
 }

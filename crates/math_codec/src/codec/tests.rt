@@ -1,23 +1,38 @@
 use super::*;
+use crate::laws::written_is_read;
 use std::test::*;
+
+const LENGTHS: [(&[u8], u32); 8] = [
+    (&[0x00], 0),
+    (&[0x03], 3),
+    (&[0x7f], 127),
+    (&[0x80, 0x01], 128),
+    (&[0xac, 0x02], 300),
+    (&[0x80, 0x04], 512),
+    (&[0x80, 0x80, 0x01], 16_384),
+    (&[0xff, 0xff, 0xff, 0xff, 0x0f], 4_294_967_295),
+];
 
 #[test]
 fn lengths_are_read(rt: HostRuntime) -> Result<(), Fail> {
-    let table: [(&[u8], u32); 8] = [
-        (&[0x00], 0),
-        (&[0x03], 3),
-        (&[0x7f], 127),
-        (&[0x80, 0x01], 128),
-        (&[0xac, 0x02], 300),
-        (&[0x80, 0x04], 512),
-        (&[0x80, 0x80, 0x01], 16_384),
-        (&[0xff, 0xff, 0xff, 0xff, 0x0f], 4_294_967_295),
-    ];
-    for (bytes, expected) in table {
+    for (bytes, n) in LENGTHS {
         let mut input = bytes;
-        let n = read_len(rt.alloc(), &mut input).ok().ok_or("a length")?;
-        assert_eq!(rt; n, expected);
-        assert!(rt; input.is_empty(), "at {expected}");
+        let read = read_len(rt.alloc(), &mut input).ok().ok_or("a length")?;
+        assert_eq!(rt; read, n);
+        assert!(rt; input.is_empty(), "at {n}");
+    }
+    Ok(())
+}
+
+#[test]
+fn lengths_are_written(rt: HostRuntime) -> Result<(), Fail> {
+    for (bytes, n) in LENGTHS {
+        let mut out = vec![in rt.alloc(); 9]?;
+        write_len(rt.alloc(), n, &mut out)?;
+        assert_eq!(rt; out.len(), 1 + bytes.len());
+        assert_eq!(rt; out[0], 9);
+        assert_eq!(rt; &out[1..], bytes);
+        assert_eq!(rt; len_size(n as usize), bytes.len());
     }
     Ok(())
 }
@@ -45,24 +60,23 @@ fn lengths_are_refused(rt: HostRuntime) {
     }
 }
 
-const ONE: [u8; 8] = [0, 0, 0, 0, 0, 0, 0, 1];
+const WORDS: [(&[u8], u64); 3] = [
+    (&[0, 0, 0, 0, 0, 0, 0, 1], 1),
+    (
+        &[0x01, 0x02, 0x03, 0x04, 0x05, 0x06, 0x07, 0x08],
+        0x0102_0304_0506_0708,
+    ),
+    (
+        &[0xff, 0xff, 0xff, 0xff, 0xff, 0xff, 0xff, 0xfe],
+        0xffff_ffff_ffff_fffe,
+    ),
+];
 
 #[test]
 fn words_are_read(rt: HostRuntime) -> Result<(), Fail> {
-    let table: [(&[u8], u64); 3] = [
-        (&ONE, 1),
-        (
-            &[0x01, 0x02, 0x03, 0x04, 0x05, 0x06, 0x07, 0x08],
-            0x0102_0304_0506_0708,
-        ),
-        (
-            &[0xff, 0xff, 0xff, 0xff, 0xff, 0xff, 0xff, 0xfe],
-            0xffff_ffff_ffff_fffe,
-        ),
-    ];
-    for (bytes, expected) in table {
-        let word = decode::<u64>(rt.alloc(), bytes, &()).ok().ok_or("a word")?;
-        assert_eq!(rt; word, expected);
+    for (bytes, word) in WORDS {
+        let read = decode::<u64>(rt.alloc(), bytes, &()).ok().ok_or("a word")?;
+        assert_eq!(rt; read, word);
         let mut short = &bytes[..7];
         assert!(rt;
             matches!(
@@ -72,6 +86,18 @@ fn words_are_read(rt: HostRuntime) -> Result<(), Fail> {
         );
         assert_eq!(rt; short, &bytes[..7]);
     }
+    Ok(())
+}
+
+#[test]
+fn words_are_written(rt: HostRuntime) -> Result<(), Fail> {
+    for (bytes, word) in WORDS {
+        let mut out = Vec::new(rt.alloc());
+        word.write(rt.alloc(), &mut out)?;
+        assert_eq!(rt; out.as_slice(), bytes);
+        assert_eq!(rt; word.encode_size(), u64::SIZE);
+    }
+    assert_eq!(rt; u64::SIZE, u64::MAX_ENCODE_SIZE);
     Ok(())
 }
 
@@ -203,5 +229,32 @@ fn errors_are_printed(rt: HostRuntime) -> Result<(), Fail> {
         let text = format!(in rt.alloc(); "{error}")?;
         assert_eq!(rt; text.as_str(), expected);
     }
+    Ok(())
+}
+
+#[test]
+fn lists_are_written(rt: HostRuntime) -> Result<(), Fail> {
+    let words = Vec::from_slice(rt.alloc(), &[1u64, 2])?;
+    let bytes = [2, 0, 0, 0, 0, 0, 0, 0, 1, 0, 0, 0, 0, 0, 0, 0, 2];
+    let mut out = Vec::new(rt.alloc());
+    words.write(rt.alloc(), &mut out)?;
+    assert_eq!(rt; out.as_slice(), bytes.as_slice());
+    assert_eq!(rt; words.encode_size(), 17);
+    write_list(rt.alloc(), &[words], &mut out)?;
+    assert_eq!(rt; &out[..17], bytes.as_slice());
+    assert_eq!(rt; out[17], 1);
+    assert_eq!(rt; &out[18..], bytes.as_slice());
+    Ok(())
+}
+
+#[test]
+fn what_was_written_is_read(rt: HostRuntime) -> Result<(), Fail> {
+    let words = Vec::from_slice(rt.alloc(), &[1u64, 2, u64::MAX])?;
+    let cfg = (LengthRange::at_most(3), ());
+    let (read, left) = written_is_read(rt.alloc(), &words, &[7, 8], &cfg)
+        .ok()
+        .ok_or("a list")?;
+    assert_eq!(rt; read, words);
+    assert_eq!(rt; left.as_slice(), [7, 8].as_slice());
     Ok(())
 }

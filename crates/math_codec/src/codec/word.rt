@@ -1,12 +1,14 @@
 //! Words: eight bytes, highest first.
 
-ghost use Rattle.std.specs.Prelude.{◌≡◌, ◌<◌, ◌^◌};
+ghost use Rattle.std.specs.Prelude.{◌≡◌, ◌<◌, ◌^◌, ◌≤◌, refl};
 ghost use Rattle.std.specs.Int.{w64, to_be_bytes};
 ghost use Rattle.math_codec.specs.Words.{scan_word};
-ghost use Rattle.math_codec.specs.WordLaws.{word_again, word_apart};
+ghost use Rattle.math_codec.specs.WordLaws.{word_again, word_apart, word_bounded};
 
+use super::Mem;
 use super::error::Error;
 use super::read::{Encoding, Read};
+use super::write::{EncodeSize, FixedSize, MaxEncodeSize, Write};
 use std::alloc::Global;
 
 impl Encoding for u64 {
@@ -41,4 +43,36 @@ impl Read for u64 {
     ghost again = { λ _ n rest h. word_again n rest h };
 
     ghost apart = { λ _ m n x y h k e. word_apart m n x y h k e };
+}
+
+impl Write for u64 {
+    ghost fits = { λ _. Unit {0} };
+
+    /// Writes a word: eight bytes, highest first.
+    fn write(&self, _alloc: Global, out: &mut Vec<u8>) -> Mem<()> {
+        out.extend_from_slice(&self.to_be_bytes())
+    }
+}
+
+impl EncodeSize for u64 {
+    /// A word is written in eight bytes.
+    fn encode_size(&self) -> usize {
+        Self::SIZE
+    }
+}
+
+impl FixedSize for u64 {
+    ghost SIZE = { 8 };
+
+    const SIZE: usize = 8;
+
+    ghost fixed = { λ _. refl };
+}
+
+impl MaxEncodeSize for u64 {
+    ghost MAX_ENCODE_SIZE = { 8 };
+
+    const MAX_ENCODE_SIZE: usize = 8;
+
+    ghost bounded = { word_bounded };
 }

@@ -1,5 +1,5 @@
 use Rattle.std.proofs.Common.{arith, ◌-◌, ◌<◌, ◌^◌}
-use Rattle.math_codec.proofs.GroupBounds.{one_group_below, joined_below, four_groups_below}
+use Rattle.math_codec.proofs.Groups.{one_group_below, joined_below, four_groups_below}
 use Rattle.math_codec.proofs.codec.length.+read_rest.Goals as goal
 
 pub returns-then-byte-lt128-clause-below : goal.returns-then-byte-lt128-clause-below

@@ -1,5 +1,6 @@
 use Rattle.std.proofs.Common.{arith, length-append, [], ◌∷◌}
 use Rattle.std.proofs.lemmas.Result.{err_from_is_err_and}
+use Rattle.math_codec.specs.Faults.{fault_of}
 use Rattle.math_codec.specs.Lists.{scan_items}
 use Rattle.math_codec.proofs.ItemScan.{admitted_push, item_read, item_fails, items_done, item_taken}
 use Rattle.math_codec.proofs.FirstItem.{past_first, item_memory, push_memory}
@@ -31,7 +32,7 @@ returns-clause-exact g c = items_done (g.T.Read.scan c.args.cfg.now) c.args.coun
 pub returns-in_err-read_cfg-clause-memory : goal.returns-in_err-read_cfg-clause-memory
 returns-in_err-read_cfg-clause-memory g c =
     let p = err_from_is_err_and c.from_residual.result c.from_residual.ensures.1 in
-    rw (p.1, p.2) (item_memory c.in_err-read_cfg.field-0.0 (g.T.Read.scan c.args.cfg.now) (g.T.Read.grows c.args.cfg.now) c.args.count c.loop.counter c.args.bytes.now c.loop.rest.now c.loop-test.true c.loop.invariant.first c.in_err-read_cfg.ensures.memory)
+    rw (p.1, p.2) (item_memory (fault_of c.in_err-read_cfg.field-0.0) (g.T.Read.scan c.args.cfg.now) (g.T.Read.grows c.args.cfg.now) c.args.count c.loop.counter c.args.bytes.now c.loop.rest.now c.loop-test.true c.loop.invariant.first c.in_err-read_cfg.ensures.memory)
 
 pub returns-in_err-push-clause-memory : goal.returns-in_err-push-clause-memory
 returns-in_err-push-clause-memory g c =

@@ -1,6 +1,9 @@
--- Bounds on numbers of a few groups of seven bits.
-use Rattle.std.proofs.Common.{◌≡◌, ℕ, zero, suc, ◌+◌, ◌-◌, ◌*◌, ◌^◌, ◌<◌, ◌≤◌, ap, ◌∙◌, arith}
+-- Groups of seven bits, and bounds on numbers of a few of them.
+use Rattle.std.proofs.Common.{◌≡◌, ℕ, zero, suc, ◌+◌, ◌-◌, ◌*◌, ◌/◌, ◌%◌, ◌^◌, ◌<◌, ◌≤◌, ltb, true, false, [], ◌∷◌, refl, ap, ◌∙◌, arith}
 use Rattle.std.proofs.Math.Nat.{pow-succ'}
+use Rattle.std.proofs.lemmas.Bool.{lt-ltb, le-ltb}
+use Rattle.std.proofs.lemmas.Nat.{div_below}
+use Rattle.math_codec.specs.Lengths.{groups}
 
 power_step : (more : ℕ) → 0 < more → 128 ^ more ≡ 128 * 128 ^ (more - 1)
 power_step more h =
@@ -23,3 +26,18 @@ four_groups_below (suc zero) high le lt = omega arith
 four_groups_below (suc (suc zero)) high le lt = omega arith
 four_groups_below (suc (suc (suc zero))) high le lt = omega arith
 four_groups_below (suc (suc (suc (suc more)))) high le lt = absurd (omega arith)
+
+pub quotient_below : (more n : ℕ) → 0 < more → n < 16 * 128 ^ more → n / 128 < 16 * 128 ^ (more - 1)
+quotient_below more n pos h = div_below n 128 (16 * 128 ^ (more - 1)) (omega arith) (omega (arith, power_step more pos))
+
+pub groups-last : (more n : ℕ) → n < 128 → groups (suc more) n ≡ n ∷ []
+unfolding groups
+groups-last more n h =
+    let small : ltb n 128 ≡ true = lt-ltb n 128 h in
+    rw small refl
+
+pub groups-marked : (more fewer n : ℕ) → more ≡ suc fewer → 128 ≤ n → groups more n ≡ (128 + n % 128) ∷ groups fewer (n / 128)
+unfolding groups
+groups-marked more fewer n step h =
+    let large : ltb n 128 ≡ false = le-ltb n 128 h in
+    rw (step, large) refl
