@@ -7,6 +7,12 @@ ghost use Rattle.math_codec.specs.ListLaws.{list_again, list_apart};
 ghost use Rattle.math_codec.specs.Ranges.{nonzero};
 ghost use Rattle.math_base.specs.Members.{value};
 
+mod algebra;
+mod commitment;
+mod evaluation;
+mod sampling;
+mod writing;
+
 use math_base::algebra::{Mem, Ring, Space};
 use math_codec::codec::{Encoding, Error, LengthRange, Read, read_list};
 use std::alloc::Global;

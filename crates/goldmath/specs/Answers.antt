@@ -1,6 +1,6 @@
 -- What the program answers.
-use Rattle.std.specs.Prelude.{◌≡◌, Result, Ok, Err}
-use Rattle.math_codec.specs.Faults.{Fault, Reports, IsMemory, WhereMemory}
+use Rattle.std.specs.Prelude.{◌≡◌, Result, Ok, Err, IfNone}
+use Rattle.math_codec.specs.Faults.{Fault, fault_of, Reports, IsMemory}
 use Rattle.goldmath.specs.declared.engine.ToolError.{ToolError}
 use Rattle.goldmath.specs.declared.engine.ToolError.TheVariants.{Usage, Refused}
 
@@ -27,4 +27,4 @@ Meets (Err e) expected = Refuses e expected
 -- where memory ran out, P holds
 abbrev pub WhereOutOfMemory : ToolError → Type 0 → Type 0
 WhereOutOfMemory Usage P = Unit {0}
-WhereOutOfMemory (Refused error) P = WhereMemory error P
+WhereOutOfMemory (Refused error) P = IfNone (fault_of error) P

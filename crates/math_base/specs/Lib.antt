@@ -8,3 +8,5 @@ pub mod Samples
 pub mod ElementEncoding
 pub mod ElementEncodingLaws
 pub mod Progressions
+pub mod Repacking
+pub mod Packing

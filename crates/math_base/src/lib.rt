@@ -3,3 +3,4 @@
 
 pub mod algebra;
 pub mod fields;
+pub mod laws;

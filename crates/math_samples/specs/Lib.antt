@@ -1,5 +1,5 @@
 pub mod ModulusLaws
 pub mod Quotients
-pub mod CarriedLaws
-pub mod FractionLaws
+pub mod Hashes
+pub mod RootsModulo
 pub mod QuotientLaws

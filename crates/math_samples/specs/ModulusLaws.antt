@@ -1,11 +1,11 @@
 -- The modulus of the quotients is prime.
-use Rattle.std.specs.Prelude.{◌≡◌, ◌≢◌, ℕ, ◌*◌, ◌%◌, ◌<◌}
-use Rattle.std.proofs.Common.{lit<, inl, inr, refl, arith}
-use Rattle.std.proofs.Math.Nat.{mod-lt, mod-eq_of_lt}
+use Rattle.std.specs.Prelude.{ℕ, ◌*◌, ◌%◌, ◌<◌}
+use Rattle.std.proofs.Common.{lit<, refl}
+use Rattle.std.proofs.Math.Nat.{mod-lt}
 use Rattle.math_theory.specs.Primes.{IsPrime}
 use Rattle.math_theory.proofs.PowersModulo.{power_mod-by_squaring}
 use Rattle.math_theory.proofs.Primes.{proth}
-use Rattle.math_theory.proofs.InversesModulo.{prime_divides_product}
+use Rattle.math_theory.proofs.InversesModulo.{product_mod-positive}
 use Rattle.math_samples.specs.declared.quotients.TheConstants.{MODULUS}
 
 pub remainder_below : (n : ℕ) → n % MODULUS < MODULUS
@@ -17,11 +17,4 @@ modulus_is_prime = proth MODULUS 8 3 (lit< tt) refl (power_mod-by_squaring 4 MOD
 
 -- no product of two numbers from 1 to 96 is a multiple of 97
 pub product_above : (b d : ℕ) → 0 < b → b < MODULUS → 0 < d → d < MODULUS → 0 < b * d % MODULUS
-product_above b d b_above b_below d_above d_below =
-    let e : b % MODULUS ≡ b = mod-eq_of_lt b_below in
-    let f : d % MODULUS ≡ d = mod-eq_of_lt d_below in
-    let h : b * d % MODULUS ≢ 0 = λ z. elim (prime_divides_product MODULUS b d modulus_is_prime z) as (λ _. ⊥) [
-      | inl x ↦ omega arith
-      | inr x ↦ omega arith
-    ] in
-    omega arith
+product_above b d b_above b_below d_above d_below = product_mod-positive MODULUS b d modulus_is_prime b_above b_below d_above d_below

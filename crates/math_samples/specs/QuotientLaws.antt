@@ -1,15 +1,18 @@
 -- The laws of quotients: each represents a number modulo 97, and the operations on quotients are those on the numbers that they represent.
-use Rattle.std.proofs.Common.{◌≡◌, ◌≢◌, ℕ, ◌+◌, ◌-◌, ◌*◌, ◌%◌, ◌<◌, ◌∙◌, lit<, one-mul, sym, ap, arith}
+use Rattle.std.proofs.Common.{◌≡◌, ◌≢◌, ◌⊎◌, inl, inr, ℕ, ◌+◌, ◌-◌, ◌*◌, ◌%◌, ◌<◌, ◌≤◌, ◌∙◌, lit<, one-mul, mul-one, sym, ap, refl, arith}
 use Rattle.std.proofs.Math.Nat.{mod-eq_of_lt, mod-mod, ℕ_set}
+use Rattle.std.proofs.lemmas.Bool.{cases_lt}
 use Rattle.std.proofs.lemmas.Nat.{mul-mod_first}
+use Rattle.math_theory.specs.CarriedLaws.{equality_carried, group_carried, product_carried, ring_carried, field_carried, roots_carried}
 use Rattle.math_theory.specs.Congruence.{congruent, negative_mod, inverse_mod}
-use Rattle.math_theory.specs.Laws.{IsEquality, IsGroup, IsProduct, IsRing}
+use Rattle.math_theory.specs.Laws.{IsEquality, IsGroup, IsProduct, IsRing, IsField}
+use Rattle.math_theory.specs.RootLaws.{HasRootsOfUnity}
 use Rattle.math_theory.proofs.CongruenceLaws.{congruence, congruence_group, congruence_product, congruence_ring, congruence_field}
+use Rattle.math_theory.proofs.FractionLaws.{fraction-value, fraction-sum, fraction-negative, fraction-product, fraction-inverse, cross_products, over_cross_products}
 use Rattle.math_theory.proofs.InversesModulo.{cancel_factor}
-use Rattle.math_samples.specs.CarriedLaws.{equality_carried, group_carried, product_carried, ring_carried}
-use Rattle.math_samples.specs.FractionLaws.{fraction-value, fraction-sum, fraction-negative, fraction-product, cross_products, over_cross_products}
 use Rattle.math_samples.specs.ModulusLaws.{modulus_is_prime, product_above}
-use Rattle.math_samples.specs.Quotients.{numerator_of, denominator_of, same, whole, sum, negative, product}
+use Rattle.math_samples.specs.Quotients.{numerator_of, denominator_of, same, whole, sum, negative, product, inverse, inverse_by, half, root, root_of, shift}
+use Rattle.math_samples.specs.RootsModulo.{half_of_number, roots_modulo}
 use Rattle.math_samples.specs.declared.quotients.Quotient.{Quotient}
 use Rattle.math_samples.specs.declared.quotients.TheConstants.{MODULUS}
 
@@ -25,6 +28,9 @@ P = congruence_product MODULUS
 
 abbrev R : IsRing (congruent MODULUS) (λ a b. a + b) (λ a b. a * b) 1
 R = congruence_ring MODULUS
+
+abbrev F : IsField (congruent MODULUS) 0 (λ a b. a * b) 1 (inverse_mod MODULUS)
+F = congruence_field MODULUS modulus_is_prime (lit< tt)
 
 -- the denominator times z is congruent to the numerator
 abbrev Represents : Quotient → ℕ → Type 0
@@ -43,7 +49,7 @@ value_of q = numerator_of q * inverse_mod MODULUS (denominator_of q)
 value-represented : (q : Quotient) → Represents q (value_of q)
 value-represented q =
     let b = denominator_of q in
-    let h : congruent MODULUS (b * inverse_mod MODULUS b) 1 = (congruence_field MODULUS modulus_is_prime (lit< tt)).inverts b (denominator_nonzero q) in
+    let h : congruent MODULUS (b * inverse_mod MODULUS b) 1 = F.inverts b (denominator_nonzero q) in
     fraction-value E G P R (numerator_of q) b (inverse_mod MODULUS b) h
 
 -- and no other number is represented
@@ -90,3 +96,28 @@ commutes = product_carried value_of E value-same same-value P value-product
 
 pub ring : IsRing same sum product (whole 1)
 ring = ring_carried value_of E value-same same-value G P R value-sum value-product (value-whole 1)
+
+-- the inverse represents the inverse of the number
+value-inverse_by : (q : Quotient) (c : (0 < numerator_of q) ⊎ (numerator_of q ≤ 0)) → congruent MODULUS (value_of (inverse_by q c)) (inverse_mod MODULUS (value_of q))
+value-inverse_by q (inl above) =
+    let nonzero : congruent MODULUS (value_of q) 0 → ⊥ = λ z.
+    let e : congruent MODULUS (denominator_of q * value_of q) (denominator_of q * 0) = P.respects _ _ _ _ (E.reflexive (denominator_of q)) z in
+    let f : numerator_of q % MODULUS ≡ numerator_of q = mod-eq_of_lt q.numerator_below in
+    let g : Represents q (value_of q) = value-represented q in
+    omega arith in
+    value-unique (inverse_by q (inl above)) _ (fraction-inverse E G P R _ _ _ _ (value-represented q) (F.inverts (value_of q) nonzero))
+value-inverse_by q (inr none) =
+    let zero_represented : congruent MODULUS (value_of q) 0 = value-unique q 0 (omega arith) in
+    value-whole 0 ∙ sym (F.respects _ _ zero_represented ∙ F.inverse_of_zero)
+
+-- half a quotient is its product with 1 over 2, which represents 49
+value-half : (q : Quotient) → congruent MODULUS (value_of (half q)) (half_of_number (value_of q))
+value-half q =
+    let h : congruent MODULUS (denominator_of q * 2 * half_of_number (value_of q)) (numerator_of q * 1) = fraction-product E G P R _ _ 1 2 _ 49 (value-represented q) refl in
+    value-unique (half q) _ (mul-mod_first (denominator_of q * 2) (half_of_number (value_of q)) MODULUS ∙ h ∙ ap (λ t. t % MODULUS) (mul-one (numerator_of q)))
+
+pub field : IsField same (whole 0) product (whole 1) inverse
+field = field_carried value_of E value-same same-value P F (value-whole 0) value-product (value-whole 1) (λ q. value-inverse_by q (cases_lt 0 (numerator_of q)))
+
+pub roots_of_unity : HasRootsOfUnity same (whole 0) sum product (whole 1) 5 root_of (whole shift) half
+roots_of_unity = roots_carried value_of E value-same same-value P value-product (value-whole 1) G roots_modulo (value-whole 0) value-sum (λ lg. value-whole (root lg)) (value-whole shift) value-half

@@ -1,6 +1,7 @@
 -- Quotients a over b modulo 97, and their operations.
-use Rattle.std.specs.Prelude.{◌≡◌, ℕ, ◌+◌, ◌-◌, ◌*◌, ◌%◌}
-use Rattle.std.proofs.Common.{lit<}
+use Rattle.std.specs.Prelude.{◌≡◌, ◌⊎◌, ℕ, ◌+◌, ◌-◌, ◌*◌, ◌%◌, ◌<◌, ◌≤◌, List, [], ◌∷◌, get_or}
+use Rattle.std.proofs.Common.{lit<, inl, inr}
+use Rattle.std.proofs.lemmas.Bool.{cases_lt}
 use Rattle.math_samples.specs.ModulusLaws.{remainder_below, product_above}
 use Rattle.math_samples.specs.declared.quotients.Quotient.{Quotient}
 use Rattle.math_samples.specs.declared.quotients.TheConstants.{MODULUS}
@@ -42,3 +43,42 @@ negative q = record q { numerator = (MODULUS - numerator_of q) % MODULUS; numera
 -- a c over b d, as remainders by 97
 abbrev pub product : Quotient → Quotient → Quotient
 product q r = over_both (numerator_of q * numerator_of r) q r
+
+-- b over a where a is above zero, and zero where it is not
+abbrev pub inverse_by : (q : Quotient) → (0 < numerator_of q) ⊎ (numerator_of q ≤ 0) → Quotient
+inverse_by q (inl above) = record {
+  numerator = denominator_of q;
+  denominator = numerator_of q;
+  numerator_below = q.denominator_below;
+  denominator_below = q.numerator_below;
+  denominator_above = above;
+}
+inverse_by q (inr none) = whole 0
+
+-- b over a, and zero where a is zero
+abbrev pub inverse : Quotient → Quotient
+inverse q = inverse_by q (cases_lt 0 (numerator_of q))
+
+-- a over the remainder of 2 b by 97
+abbrev pub half : Quotient → Quotient
+half q = record q {
+  denominator = denominator_of q * 2 % MODULUS;
+  denominator_below = remainder_below (denominator_of q * 2);
+  denominator_above = product_above (denominator_of q) 2 q.denominator_above q.denominator_below (lit< tt) (lit< tt);
+}
+
+-- numbers of order 1, 2, 4, 8, 16 and 32 modulo 97
+abbrev pub roots : List ℕ
+roots = 1 ∷ 96 ∷ 22 ∷ 64 ∷ 8 ∷ 28 ∷ []
+
+-- the number of order 2^lg, for lg up to 5
+abbrev pub root : ℕ → ℕ
+root lg = get_or roots lg 1
+
+-- a number that is no power of any of these modulo 97
+abbrev pub shift : ℕ
+shift = 5
+
+-- the root of unity of order 2^lg
+abbrev pub root_of : ℕ → Quotient
+root_of lg = whole (root lg)

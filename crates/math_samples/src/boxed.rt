@@ -5,10 +5,14 @@
 //! a run show as allocations.
 
 ghost use Rattle.std.specs.Prelude.{◌≡◌, IfOk, false};
-ghost use Rattle.math_base.specs.Elements.{residue, same, sum, negative, product};
+ghost use Rattle.math_theory.specs.ModuleLaws.{ring_is_module};
+ghost use Rattle.math_base.specs.Elements.{residue, same, sum, negative, product, inverse, root_of, shift_of, half_of};
 ghost use Rattle.math_base.specs.ElementLaws.{equality, group, commutes, ring};
+ghost use Rattle.math_base.specs.ElementRootLaws.{field, roots};
 
-use math_base::algebra::{Additive, Mem, Multiplicative, Object, Ring};
+use math_base::algebra::{
+    Additive, CryptoGroup, Field, FieldNTT, Mem, Multiplicative, Object, Ring, Space,
+};
 use math_base::fields::goldilocks::F;
 use std::alloc::Global;
 use std::marker::Model;
@@ -111,4 +115,70 @@ impl Ring for Boxed {
     }
 
     ghost ring = { ring };
+}
+
+impl Field for Boxed {
+    ghost inverse = { inverse };
+
+    fn inv(&self, alloc: Global) -> Mem<Boxed> {
+        Boxed::new(alloc, Field::inv(&self.value(), alloc)?)
+    }
+
+    ghost field = { field };
+}
+
+impl FieldNTT for Boxed {
+    ghost MAX_LG_ROOT_ORDER = { 32 };
+
+    ghost root = { root_of };
+
+    ghost shift = { shift_of };
+
+    ghost half = { half_of };
+
+    const MAX_LG_ROOT_ORDER: u8 = 32;
+
+    fn root_of_unity(alloc: Global, lg: u8) -> Mem<Option<Boxed>> {
+        match <F as FieldNTT>::root_of_unity(alloc, lg)? {
+            Some(root) => Ok(Some(Boxed::new(alloc, root)?)),
+            None => Ok(None),
+        }
+    }
+
+    fn coset_shift(alloc: Global) -> Mem<Boxed> {
+        Boxed::new(alloc, F::coset_shift(alloc)?)
+    }
+
+    fn coset_shift_inv(alloc: Global) -> Mem<Boxed> {
+        Boxed::new(alloc, F::coset_shift_inv(alloc)?)
+    }
+
+    fn div_2(&self, alloc: Global) -> Mem<Boxed> {
+        Boxed::new(alloc, FieldNTT::div_2(&self.value(), alloc)?)
+    }
+
+    ghost roots = { roots };
+}
+
+/// The sums are a space over the field of the elements themselves too, which are not boxed.
+impl Space<F> for Boxed {
+    ghost scaling = { product };
+
+    fn scale_assign(&mut self, alloc: Global, r: &F) -> Mem<()> {
+        *self = Boxed::new(alloc, self.value() * *r)?;
+        Ok(())
+    }
+
+    ghost spans = { ring_is_module equality group commutes ring };
+}
+
+/// The group of sums, whose scalars are the elements that are not boxed; five generates it.
+impl CryptoGroup for Boxed {
+    type Scalar = F;
+
+    ghost generator = { residue 5 };
+
+    fn generator(alloc: Global) -> Mem<Boxed> {
+        Boxed::new(alloc, F::from(5))
+    }
 }

@@ -9,11 +9,19 @@
 ghost use Rattle.std.specs.Prelude.{◌≡◌, ◌<◌, true};
 ghost use Rattle.math_samples.specs.declared.quotients.TheConstants.{MODULUS};
 
-use math_base::algebra::{Additive, Mem, Multiplicative, Object, Ring};
+use math_base::algebra::{
+    Additive, CryptoGroup, Field, FieldNTT, HashToGroup, Mem, Multiplicative, Object, Ring,
+};
 use std::alloc::Global;
 
 /// The modulus, which is prime.
 pub const MODULUS: u64 = 97;
+
+/// The coset shift, which is no power of a root of unity modulo 97.
+const SHIFT: u64 = 5;
+
+/// The inverse of the coset shift modulo 97.
+const SHIFT_INVERSE: u64 = 39;
 
 /// A quotient modulo 97.
 #[derive(Clone, Copy, Debug)]
@@ -26,7 +34,8 @@ pub struct Quotient {
 }
 
 impl Quotient {
-    ghost use Rattle.math_samples.specs.Quotients.{numerator_of, denominator_of, over_both, sum, negative, product};
+    ghost use Rattle.math_samples.specs.Quotients.{numerator_of, denominator_of, over_both, sum, negative, product, inverse, half};
+    ghost use Rattle.math_samples.specs.Hashes.{remainder_of_sum};
 
     /// The quotient of two numbers below 97, of which the second is not zero.
     pub fn new(numerator: u64, denominator: u64) -> Quotient
@@ -90,6 +99,41 @@ impl Quotient {
         ensures { result ≡ product self r }
     {
         Quotient::over_both(self.numerator * r.numerator, self, r)
+    }
+
+    /// The fraction turned over, and zero for zero.
+    fn inverse(self) -> Quotient
+        ensures { result ≡ inverse self }
+    {
+        if self.numerator == 0 {
+            Quotient::new(0, 1)
+        } else {
+            Quotient {
+                numerator: self.denominator,
+                denominator: self.numerator,
+            }
+        }
+    }
+
+    #[tactic(auto, using(crate::specs::ModulusLaws::product_above))]
+    fn half(self) -> Quotient
+        ensures { result ≡ half self }
+    {
+        Quotient {
+            numerator: self.numerator,
+            denominator: self.denominator * 2 % MODULUS,
+        }
+    }
+
+    /// The remainder by 97 of the sum of the bytes.
+    fn remainder_of_sum(bytes: &[u8]) -> u64
+        ensures { result ≡ remainder_of_sum bytes.now }
+    {
+        let mut total = 0;
+        for byte in bytes {
+            total = (total + u64::from(*byte)) % MODULUS;
+        }
+        total
     }
 }
 
@@ -172,4 +216,89 @@ impl Ring for Quotient {
     }
 
     ghost ring = { ring };
+}
+
+/// The inverse of a / b is b / a, where a is not zero.
+impl Field for Quotient {
+    ghost use Rattle.math_samples.specs.Quotients.{inverse};
+    ghost use Rattle.math_samples.specs.QuotientLaws.{field};
+
+    ghost inverse = { inverse };
+
+    fn inv(&self, _alloc: Global) -> Mem<Quotient> {
+        Ok(self.inverse())
+    }
+
+    ghost field = { field };
+}
+
+/// Since 96 is 3 times 2^5, the orders of the roots are 2^0 to 2^5, and the power 32 of each root is
+/// one. That of the coset shift is not, so the shift is no power of a root. The half of a / b is
+/// a / (2 b).
+impl FieldNTT for Quotient {
+    ghost use Rattle.math_samples.specs.Quotients.{whole, root_of, shift, half};
+    ghost use Rattle.math_samples.specs.QuotientLaws.{roots_of_unity};
+
+    ghost MAX_LG_ROOT_ORDER = { 5 };
+
+    ghost root = { root_of };
+
+    ghost shift = { whole shift };
+
+    ghost half = { half };
+
+    const MAX_LG_ROOT_ORDER: u8 = 5;
+
+    fn root_of_unity(_alloc: Global, lg: u8) -> Mem<Option<Quotient>> {
+        let root = match lg {
+            0 => 1,
+            1 => 96,
+            2 => 22,
+            3 => 64,
+            4 => 8,
+            5 => 28,
+            _ => return Ok(None),
+        };
+        Ok(Some(Quotient::new(root, 1)))
+    }
+
+    fn coset_shift(_alloc: Global) -> Mem<Quotient> {
+        Ok(Quotient::new(SHIFT, 1))
+    }
+
+    fn coset_shift_inv(_alloc: Global) -> Mem<Quotient> {
+        Ok(Quotient::new(SHIFT_INVERSE, 1))
+    }
+
+    fn div_2(&self, _alloc: Global) -> Mem<Quotient> {
+        Ok(self.half())
+    }
+
+    ghost roots = { roots_of_unity };
+}
+
+/// The group of sums, whose scalars are the quotients themselves; five generates it.
+impl CryptoGroup for Quotient {
+    ghost use Rattle.math_samples.specs.Quotients.{whole};
+
+    type Scalar = Quotient;
+
+    ghost generator = { whole 5 };
+
+    fn generator(_alloc: Global) -> Mem<Quotient> {
+        Ok(Quotient::new(5, 1))
+    }
+}
+
+/// A separator and a message hash to the remainder by 97 of the sum of all their bytes, over one.
+impl HashToGroup for Quotient {
+    ghost use Rattle.math_samples.specs.Hashes.{hash};
+
+    ghost hash = { hash };
+
+    fn hash_to_group(_alloc: Global, domain_separator: &[u8], message: &[u8]) -> Mem<Quotient> {
+        let total = Quotient::remainder_of_sum(domain_separator)
+            + Quotient::remainder_of_sum(message);
+        Ok(Quotient::new(total % MODULUS, 1))
+    }
 }

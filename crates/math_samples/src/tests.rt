@@ -1,9 +1,16 @@
 //! Both types against values from outside, and generic functions over them and the Goldilocks field.
 
+ghost use Rattle.rand_core.specs.Steps.{stream_of, steps_u32};
+
 use crate::boxed::Boxed;
 use crate::quotients::{MODULUS, Quotient};
-use math_base::algebra::{Additive, Mem, Multiplicative, Object, Ring};
+use math_base::algebra::{
+    Additive, CryptoGroup, Field, FieldNTT, HashToGroup, Mem, Multiplicative, Object, Ring, Space,
+    msm_naive, powers,
+};
 use math_base::fields::goldilocks::F;
+use rand_core::utils::{self, NextWord};
+use rand_core::{CryptoRng, Rng};
 use std::alloc::Global;
 use std::test::Fail;
 
@@ -132,5 +139,188 @@ fn evaluates_over_each_type(rt: HostRuntime) -> Result<(), Fail> {
         let expected = Quotient::new(remainder, 1);
         assert!(rt; has_value(alloc, &coefficients, &x, &expected)?);
     }
+    Ok(())
+}
+
+#[test]
+fn inverts_and_halves_quotients(rt: HostRuntime) -> Result<(), Fail> {
+    let alloc = rt.alloc();
+    let table = [(2, 3, (3, 2)), (96, 1, (1, 96)), (0, 5, (0, 1))];
+    for (a, b, expected) in table {
+        let inverse = Quotient::new(a, b).inv(alloc)?;
+        assert_eq!(rt; parts(&inverse), expected, "at {a} / {b}");
+    }
+    let table = [(1, 2, 1, 4), (1, 1, 49, 1), (6, 60, 3, 60), (0, 7, 0, 1)];
+    for (a, b, c, d) in table {
+        let half = Quotient::new(a, b).div_2(alloc)?;
+        assert!(rt; half.equals(alloc, &Quotient::new(c, d))?, "at {a} / {b}");
+    }
+    Ok(())
+}
+
+#[test]
+fn roots_of_quotients(rt: HostRuntime) -> Result<(), Fail> {
+    let alloc = rt.alloc();
+    let table = [
+        (0, Some((1, 1))),
+        (1, Some((96, 1))),
+        (2, Some((22, 1))),
+        (3, Some((64, 1))),
+        (4, Some((8, 1))),
+        (5, Some((28, 1))),
+        (6, None),
+        (255, None),
+    ];
+    for (lg, expected) in table {
+        let root = Quotient::root_of_unity(alloc, lg)?.map(|root| parts(&root));
+        assert_eq!(rt; root, expected, "at {lg}");
+    }
+    let shift = Quotient::coset_shift(alloc)?;
+    assert_eq!(rt; parts(&shift), (5, 1));
+    let product = shift.mul(alloc, &Quotient::coset_shift_inv(alloc)?)?;
+    assert!(rt; product.equals(alloc, &Quotient::one(alloc)?)?);
+    Ok(())
+}
+
+/// A source whose bytes are all one.
+#[derive(Clone, Copy)]
+struct Ones;
+
+impl NextWord<u32> for Ones {
+    ghost step = { λ s. (0x01010101, s) };
+
+    fn next_word(&mut self) -> u32 {
+        0x0101_0101
+    }
+}
+
+impl Rng for Ones {
+    ghost stream = { stream_of (steps_u32 (λ s. (0x01010101, s))) };
+
+    fn next_u32(&mut self) -> u32 {
+        self.next_word()
+    }
+
+    fn next_u64(&mut self) -> u64 {
+        utils::next_u64_via_u32(self)
+    }
+
+    fn fill_bytes(&mut self, dst: &mut [u8]) {
+        utils::fill_bytes_via_u32(self, dst)
+    }
+}
+
+impl CryptoRng for Ones {}
+
+#[test]
+fn hashes_to_quotients(rt: HostRuntime) -> Result<(), Fail> {
+    let alloc = rt.alloc();
+    let hash = |separator: &[u8], message: &[u8]| Quotient::hash_to_group(
+        alloc, separator, message,
+    );
+    assert_eq!(rt; parts(&hash(b"", &[1; 32])?), (32, 1));
+    assert_eq!(rt; parts(&hash(b"ab", b"c")?), (3, 1));
+    assert_eq!(rt; parts(&hash(b"", b"")?), (0, 1));
+    assert_eq!(rt; parts(&Quotient::rand_to_group(alloc, &mut Ones)?), (32, 1));
+    assert_eq!(rt; parts(&Quotient::generator(alloc)?), (5, 1));
+    Ok(())
+}
+
+#[test]
+fn boxed_field(rt: HostRuntime) -> Result<(), Fail> {
+    let alloc = rt.alloc();
+    let table = [
+        (0, Some(F::from(1))),
+        (2, Some(F::from(1 << 48))),
+        (32, Some(F::ROOT_OF_UNITY)),
+        (33, None),
+    ];
+    for (lg, expected) in table {
+        let root = Boxed::root_of_unity(alloc, lg)?.map(|root| root.value());
+        assert_eq!(rt; root, expected, "at {lg}");
+    }
+    let shift = Boxed::coset_shift(alloc)?;
+    assert_eq!(rt; shift.value(), F::from(0x79bc_2f50_acd7_4161));
+    let inverse = Boxed::coset_shift_inv(alloc)?;
+    assert_eq!(rt; inverse.value(), F::from(0x1036_c402_3580_ce8d));
+    let three = Boxed::new(alloc, F::from(3))?;
+    let product = three.inv(alloc)?.mul(alloc, &three)?;
+    assert_eq!(rt; product.value(), F::from(1));
+    let half = Boxed::one(alloc)?.div_2(alloc)?;
+    assert_eq!(rt; half.value(), F::from(0x7fff_ffff_8000_0001));
+    assert_eq!(rt; Boxed::generator(alloc)?.value(), F::from(5));
+    Ok(())
+}
+
+#[test]
+fn boxed_sums_by_scalars(rt: HostRuntime) -> Result<(), Fail> {
+    let alloc = rt.alloc();
+    let points = multiples_of_one::<Boxed>(alloc, &[1, 2, 3])?;
+    let scalars = [F::from(10), F::from(20)];
+    let sum: Boxed = Space::<F>::msm(alloc, &points, &scalars)?;
+    assert_eq!(rt; sum.value(), F::from(50));
+    Ok(())
+}
+
+/// 3 times 2^64 and 7 to the power 133.
+fn by_limbs<R: Ring>(alloc: Global) -> Mem<(R, R)> {
+    let multiple = multiple_of_one::<R>(alloc, 3)?.scale(alloc, &[0, 1])?;
+    let power = multiple_of_one::<R>(alloc, 7)?.exp(alloc, &[133])?;
+    Ok((multiple, power))
+}
+
+#[test]
+fn multiplies_by_limbs(rt: HostRuntime) -> Result<(), Fail> {
+    let alloc = rt.alloc();
+    let expected = (F::from(12_884_901_885), F::from(0xd64f_9511_01af_f9bf));
+    assert_eq!(rt; by_limbs::<F>(alloc)?, expected);
+    let (multiple, power) = by_limbs::<Boxed>(alloc)?;
+    assert_eq!(rt; (multiple.value(), power.value()), expected);
+    Ok(())
+}
+
+/// These multiples of one.
+fn multiples_of_one<R: Ring>(alloc: Global, numbers: &[u64]) -> Mem<Vec<R>> {
+    let mut multiples = Vec::new(alloc);
+    for n in numbers {
+        multiples.push(multiple_of_one::<R>(alloc, *n)?)?;
+    }
+    Ok(multiples)
+}
+
+/// 7^3, 5 three times, 1 * 10 + 2 * 20 by both sums, and then 3, 6, 12, 24.
+fn generic_results<R: Ring>(alloc: Global) -> Mem<Vec<R>> {
+    let mut results = Vec::new(alloc);
+    results.push(multiple_of_one::<R>(alloc, 7)?.exp(alloc, &[3])?)?;
+    results.push(multiple_of_one::<R>(alloc, 5)?.scale(alloc, &[3])?)?;
+    let points = multiples_of_one::<R>(alloc, &[1, 2, 3])?;
+    let scalars = multiples_of_one::<R>(alloc, &[10, 20])?;
+    results.push(R::msm(alloc, &points, &scalars)?)?;
+    results.push(msm_naive::<R, R>(alloc, &points, &scalars)?)?;
+    let two = multiple_of_one::<R>(alloc, 2)?;
+    for power in powers(alloc, multiple_of_one(alloc, 3)?, &two).take(4) {
+        results.push(power?)?;
+    }
+    Ok(results)
+}
+
+/// Whether the results are these multiples of one.
+fn has_results<R: Ring>(alloc: Global, expected: &[u64]) -> Mem<bool> {
+    let results = generic_results::<R>(alloc)?;
+    let expected = multiples_of_one::<R>(alloc, expected)?;
+    for (result, expected) in results.iter().zip(expected.iter()) {
+        if !result.equals(alloc, expected)? {
+            return Ok(false);
+        }
+    }
+    Ok(results.len() == expected.len())
+}
+
+#[test]
+fn generic_calls_over_each_type(rt: HostRuntime) -> Result<(), Fail> {
+    let alloc = rt.alloc();
+    assert!(rt; has_results::<F>(alloc, &[343, 15, 50, 50, 3, 6, 12, 24])?);
+    assert!(rt; has_results::<Boxed>(alloc, &[343, 15, 50, 50, 3, 6, 12, 24])?);
+    assert!(rt; has_results::<Quotient>(alloc, &[52, 15, 50, 50, 3, 6, 12, 24])?);
     Ok(())
 }

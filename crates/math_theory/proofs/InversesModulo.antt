@@ -67,3 +67,16 @@ prime_divides_product p a b prime h =
           let e : b % p ≡ 0 % p = cancel_factor p a b 0 prime nz (h ∙ sym none) in
           omega arith)
     ]
+
+-- modulo a prime no product of two numbers from 1 to p - 1 is zero
+pub product_mod-positive : (p a b : ℕ) → IsPrime p → 0 < a → a < p → 0 < b → b < p → 0 < a * b % p
+product_mod-positive p a b prime a_positive a_below b_positive b_below =
+    let e : a % p ≡ a = mod-eq_of_lt a_below in
+    let f : b % p ≡ b = mod-eq_of_lt b_below in
+    elim (cases_eq (a * b % p) 0) as (λ _. 0 < a * b % p) [
+      | inl z ↦ elim (prime_divides_product p a b prime z) as (λ _. 0 < a * b % p) [
+        | inl x ↦ absurd (omega arith)
+        | inr x ↦ absurd (omega arith)
+      ]
+      | inr nz ↦ omega arith
+    ]

@@ -51,3 +51,6 @@ pub mod Multiples
 pub mod WeightedSums
 pub mod ValuesRespect
 pub mod Halves
+pub mod ScaledPoint
+pub mod WeightedPowers
+pub mod FractionLaws

@@ -5,7 +5,7 @@ use Rattle.std.proofs.lemmas.Nat.{mul-mod_first}
 use Rattle.std.proofs.lemmas.Bool.{cases_eq, cases_lt}
 use Rattle.math_theory.specs.PowersModulo.{power_mod, power_mod-suc, HasOrder}
 use Rattle.math_theory.specs.Primes.{IsPrime}
-use Rattle.math_theory.proofs.PowersModulo.{power_mod-mod, power_mod-one, power_mod-add, power_mod-mul, one-power_mod}
+use Rattle.math_theory.proofs.PowersModulo.{power_mod-mod, power_mod-of_mod, power_mod-one, power_mod-add, power_mod-mul, one-power_mod}
 use Rattle.math_theory.proofs.Pigeonhole.{pigeonhole}
 
 -- a power that is one may be left out of a product
@@ -17,6 +17,11 @@ power_mod-add_one n x a b e =
 -- a multiple of an exponent at which the power is one
 pub power_mod-multiple_one : (n x a k : ℕ) → power_mod n x a ≡ 1 % n → power_mod n x (a * k) ≡ 1 % n
 power_mod-multiple_one n x a k e = power_mod-mul n x a k ∙ ap (λ t. power_mod n t k) e ∙ one-power_mod n k
+
+-- where the power t of x is one, and that of s is not, s is no power of x
+pub is_no_power : (n x s t m : ℕ) → power_mod n x t ≡ 1 % n → power_mod n s t ≢ 1 % n → power_mod n x m ≢ s % n
+is_no_power n x s t m h apart e =
+    apart (sym (power_mod-of_mod n s t) ∙ ap (λ r. power_mod n r t) (sym e) ∙ sym (power_mod-mul n x m t) ∙ ap (power_mod n x) (mul_comm m t) ∙ power_mod-multiple_one n x t m h)
 
 -- the remainder of an exponent by one at which the power is one
 pub power_mod-remainder_one : (n x a m : ℕ) → power_mod n x a ≡ 1 % n → power_mod n x (m % a) ≡ power_mod n x m

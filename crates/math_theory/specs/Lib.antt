@@ -24,3 +24,4 @@ pub mod Transforms
 pub mod Vanishing
 pub mod DomainsOverRing
 pub mod RootLaws
+pub mod CarriedLaws

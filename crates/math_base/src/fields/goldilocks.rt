@@ -13,10 +13,13 @@ ghost use Rattle.math_base.specs.Roots.{root, greatest_root, shift, shift_invers
 ghost use Rattle.math_base.specs.Samples.{first_below};
 ghost use Rattle.math_base.specs.declared.algebra.RandomError.TheVariants.{TooManyWords};
 
+mod packing;
+
 use crate::algebra::{
     Additive, Field, FieldNTT, Mem, Multiplicative, Object, Random, RandomError, Ring,
 };
 use math_codec::codec::{EncodeSize, Encoding, Error, FixedSize, MaxEncodeSize, Read, Write};
+pub use packing::{ElementsToWords, WordsToElements};
 use rand_core::{CryptoRng, Rng};
 use std::alloc::Global;
 use std::fmt;

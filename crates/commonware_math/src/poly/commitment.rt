@@ -1,0 +1,29 @@
+//! Commitments to polynomials.
+
+ghost use Rattle.std.specs.Prelude.{◌≡◌, IfOk, length};
+ghost use Rattle.std.specs.List.{AllZip};
+ghost use Rattle.math_base.specs.Members.{value};
+ghost use Rattle.commonware_math.specs.Combinations.{value_in_ring};
+
+use super::Poly;
+use math_base::algebra::{CryptoGroup, Mem};
+use std::alloc::Global;
+
+impl<G: CryptoGroup> Poly<G> {
+    /// The generator scaled by each coefficient, in order. The value of the commitment at a scalar is
+    /// the generator scaled by the value of the polynomial there.
+    pub fn commit(alloc: Global, p: Poly<G::Scalar>) -> Mem<Self>
+        ensures count { IfOk result (λ q. length q ≡ length p) }
+        ensures each { IfOk result (λ q. AllZip (λ scalar element. G.same element (G.scaling G.generator scalar)) p q) }
+        ensures values { IfOk result (λ q. (x : G.Scalar) → G.same (value G.Space G.Scalar.Ring q x) (G.scaling G.generator (value_in_ring G.Scalar.Ring p x))) }
+    {
+        let generator = G::generator(alloc)?;
+        let mut coefficients = Vec::new(alloc);
+        for scalar in &p.coefficients {
+            let mut element = generator.clone(alloc)?;
+            element.scale_assign(alloc, scalar)?;
+            coefficients.push(element)?;
+        }
+        Ok(Poly { coefficients })
+    }
+}

@@ -1,0 +1,236 @@
+//! Words packed into elements by 63 bits each, and elements unpacked to words.
+//!
+//! The bits of all words in order, those of each word from the lowest up, are one list. Packing cuts it
+//! into pieces of 63, the last filled with zeros; a piece writes a number below 2^63, and so below P.
+//! Unpacking joins the 63 lowest bits of each element to one list, and cuts it into pieces of 64.
+//!
+//! Neither makes the list. Its first bits wait in a number, of which the lowest are the next piece. While
+//! fewer wait than a piece has, those of the next item are put above them.
+
+ghost use Rattle.std.specs.Prelude.{◌≡◌, ◌<◌, ◌≤◌, ◌+◌, ◌-◌, ◌*◌, ◌^◌, ◌%◌, ◌++◌, [], take, drop, None};
+ghost use Rattle.std.specs.Iterator.{count_map};
+ghost use Rattle.math_theory.specs.Bits.{bits, piece_count};
+ghost use Rattle.math_base.specs.Repacking.{running, NoMoreThan};
+
+use super::F;
+use std::iter::Fuse;
+
+/// Fewer than 127 bits that wait, the lowest first: the `count` lowest of `value`.
+#[derive(Clone, Copy)]
+struct WaitingBits {
+    value: u128,
+    count: u32,
+    ghost below: { value < 2 ^ count },
+    ghost few: { count < 127 },
+}
+
+impl WaitingBits {
+    ghost use Rattle.math_theory.specs.Bits.{number};
+    ghost use Rattle.math_base.specs.Packing.{waiting_bits};
+
+    /// No bits.
+    fn none() -> WaitingBits
+        ensures bits { waiting_bits result ≡ [] }
+        ensures count { result.count ≡ 0 }
+    {
+        WaitingBits { value: 0, count: 0 }
+    }
+
+    /// These bits, and then the `width` lowest of a word.
+    fn followed_by(self, word: u64, width: u32) -> WaitingBits
+        requires low { word < 2 ^ width }
+        requires room { (self.count < 64) × (width ≤ 64) × (self.count + width < 127) }
+        ensures bits { waiting_bits result ≡ waiting_bits self ++ bits width word }
+        ensures count { result.count ≡ self.count + width }
+    {
+        WaitingBits {
+            value: self.value + (u128::from(word) << self.count),
+            count: self.count + width,
+        }
+    }
+
+    /// The number that the first `width` bits write, or all where fewer wait, and the bits after them.
+    fn split(self, width: u32) -> (u64, WaitingBits)
+        requires { width ≤ 64 }
+        ensures first { result.0 ≡ number (take width (waiting_bits self)) }
+        ensures below { result.0 < 2 ^ width }
+        ensures rest { waiting_bits result.1 ≡ drop width (waiting_bits self) }
+        ensures count { result.1.count ≡ self.count - width }
+    {
+        let first = self.value & ((1 << width) - 1);
+        let rest = WaitingBits {
+            value: self.value >> width,
+            count: self.count.saturating_sub(width),
+        };
+        (first as u64, rest)
+    }
+}
+
+/// The elements that the words of an iterator pack to, in order, as `F::stream_from_u64s` makes it. After
+/// the last element each call answers `None`.
+#[derive(Drop)]
+pub struct WordsToElements<I> {
+    waiting: WaitingBits,
+    source: Fuse<I>,
+}
+
+impl<I: Iterator<Item = u64> + Drop> WordsToElements<I> {
+    ghost use Rattle.math_base.specs.Packing.{RefillsWithWords, words_to_elements_bits};
+
+    /// Takes a word from the source where fewer bits wait than an element has, unless it has ended.
+    fn refill(&mut self)
+        requires { ⟦<Fuse<I> as Iterator>⟧.can_next self.old.source }
+        ensures refills { RefillsWithWords I.next_gives self.old self.new }
+        ensures enough { self.new.waiting.count < 63 → running self.new.source ≡ None }
+        ensures can { ⟦<Fuse<I> as Iterator>⟧.can_next self.new.source }
+        ensures left { NoMoreThan (words_to_elements_bits ⟦<Fuse<I> as Iterator>⟧.remaining self.new) (words_to_elements_bits ⟦<Fuse<I> as Iterator>⟧.remaining self.old) }
+    {
+        if self.waiting.count < 63 {
+            if let Some(word) = self.source.next() {
+                self.waiting = self.waiting.followed_by(word, 64);
+            }
+        }
+    }
+}
+
+impl<I: Iterator<Item = u64> + Drop> Iterator for WordsToElements<I> {
+    ghost use Rattle.math_base.specs.Packing.{words_to_elements_source, words_to_elements_steps, words_to_elements_bits};
+
+    type Item = F;
+
+    ghost can_next = { λ s. ⟦<Fuse<I> as Iterator>⟧.can_next (words_to_elements_source s) };
+
+    ghost next_gives = { words_to_elements_steps I.next_gives };
+
+    ghost remaining = { λ s. count_map (piece_count 63) (words_to_elements_bits ⟦<Fuse<I> as Iterator>⟧.remaining s) };
+
+    fn next(&mut self) -> Option<F> {
+        self.refill();
+        if self.waiting.count == 0 {
+            return None;
+        }
+        let (first, rest) = self.waiting.split(63);
+        self.waiting = rest;
+        Some(F::from_piece(first))
+    }
+}
+
+/// The words that the elements of an iterator unpack to, in order, as `F::stream_to_u64s` makes it. After
+/// the last word each call answers `None`.
+#[derive(Drop)]
+pub struct ElementsToWords<I> {
+    waiting: WaitingBits,
+    source: Fuse<I>,
+}
+
+impl<I: Iterator<Item = F> + Drop> ElementsToWords<I> {
+    ghost use Rattle.std.specs.Prelude.{◌⊎◌};
+    ghost use Rattle.math_base.specs.Packing.{RefillsWithElements, elements_to_words_bits};
+
+    /// Takes an element from the source where fewer bits wait than a word has, unless it has ended.
+    fn refill(&mut self)
+        requires { ⟦<Fuse<I> as Iterator>⟧.can_next self.old.source }
+        ensures refills { RefillsWithElements I.next_gives self.old self.new }
+        ensures enough { self.new.waiting.count < 64 → (running self.new.source ≡ None) ⊎ (self.new.waiting.count ≡ self.old.waiting.count + 63) }
+        ensures can { ⟦<Fuse<I> as Iterator>⟧.can_next self.new.source }
+        ensures left { NoMoreThan (elements_to_words_bits ⟦<Fuse<I> as Iterator>⟧.remaining self.new) (elements_to_words_bits ⟦<Fuse<I> as Iterator>⟧.remaining self.old) }
+    {
+        if self.waiting.count < 64 {
+            if let Some(element) = self.source.next() {
+                self.waiting = self.waiting.followed_by(element.low_bits(), 63);
+            }
+        }
+    }
+}
+
+impl<I: Iterator<Item = F> + Drop> Iterator for ElementsToWords<I> {
+    ghost use Rattle.math_base.specs.Packing.{elements_to_words_source, elements_to_words_steps, elements_to_words_bits};
+
+    type Item = u64;
+
+    ghost can_next = { λ s. ⟦<Fuse<I> as Iterator>⟧.can_next (elements_to_words_source s) };
+
+    ghost next_gives = { elements_to_words_steps I.next_gives };
+
+    ghost remaining = { λ s. count_map (piece_count 64) (elements_to_words_bits ⟦<Fuse<I> as Iterator>⟧.remaining s) };
+
+    fn next(&mut self) -> Option<u64> {
+        // An element has one bit less than a word, so where none waits a word needs two.
+        self.refill();
+        self.refill();
+        if self.waiting.count == 0 {
+            return None;
+        }
+        let (first, rest) = self.waiting.split(64);
+        self.waiting = rest;
+        Some(first)
+    }
+}
+
+impl F {
+    ghost use Rattle.math_base.specs.Elements.{number};
+    ghost use Rattle.math_base.specs.Repacking.{GivesAll, GivesFront, GivesCount};
+    ghost use Rattle.math_base.specs.Packing.{elements_of, words_of, words_to_elements_steps, elements_to_words_steps};
+
+    /// The element with this number, which a piece of 63 bits writes.
+    fn from_piece(value: u64) -> F
+        requires { value < 2 ^ 63 }
+        ensures { number result ≡ value }
+    {
+        F { value }
+    }
+
+    /// The 63 lowest bits of the number.
+    fn low_bits(self) -> u64
+        ensures { result ≡ number self % 2 ^ 63 }
+    {
+        self.value & 0x7fff_ffff_ffff_ffff
+    }
+
+    /// Packs words into elements.
+    ///
+    /// The bits of the words, in order and the lowest of each first, are cut into pieces of 63, the last
+    /// filled with zeros, and each piece is the number of an element. n words give 64 n / 63 elements,
+    /// rounded up. After its first `None`, `inner` is not asked again. No memory is taken.
+    pub fn stream_from_u64s<I: Iterator<Item = u64> + Drop>(inner: I) -> WordsToElements<I>
+        ensures all { GivesAll (words_to_elements_steps I.next_gives) result I.next_gives inner elements_of }
+        ensures front { GivesFront (words_to_elements_steps I.next_gives) result I.next_gives inner elements_of }
+        ensures count { GivesCount (words_to_elements_steps I.next_gives) result I.next_gives inner (λ n. piece_count 63 (64 * n)) }
+        ensures can { I.can_next inner → ⟦<WordsToElements<I> as Iterator>⟧.can_next result }
+        ensures ends { NoMoreThan (⟦<WordsToElements<I> as Iterator>⟧.remaining result) (count_map (λ n. piece_count 63 (64 * n)) (I.remaining inner)) }
+    {
+        WordsToElements {
+            waiting: WaitingBits::none(),
+            source: inner.fuse(),
+        }
+    }
+
+    /// Unpacks elements to words.
+    ///
+    /// The 63 lowest bits of each element, in order and the lowest first, are cut into pieces of 64, the
+    /// last filled with zeros, and each piece is a word. Bit 63 of an element is ignored. n elements give
+    /// 63 n / 64 words, rounded up. Packed words come back, and one zero word after them where 63 does not
+    /// divide their number. After its first `None`, `inner` is not asked again. No memory is taken.
+    pub fn stream_to_u64s<I: Iterator<Item = F> + Drop>(inner: I) -> ElementsToWords<I>
+        ensures all { GivesAll (elements_to_words_steps I.next_gives) result I.next_gives inner words_of }
+        ensures front { GivesFront (elements_to_words_steps I.next_gives) result I.next_gives inner words_of }
+        ensures count { GivesCount (elements_to_words_steps I.next_gives) result I.next_gives inner (λ n. piece_count 64 (63 * n)) }
+        ensures can { I.can_next inner → ⟦<ElementsToWords<I> as Iterator>⟧.can_next result }
+        ensures ends { NoMoreThan (⟦<ElementsToWords<I> as Iterator>⟧.remaining result) (count_map (λ n. piece_count 64 (63 * n)) (I.remaining inner)) }
+    {
+        ElementsToWords {
+            waiting: WaitingBits::none(),
+            source: inner.fuse(),
+        }
+    }
+
+    /// The number of elements that this many bits pack to: a 63rd of it, rounded up.
+    pub const fn bits_to_elements(bits: usize) -> usize
+        ensures { result ≡ piece_count 63 bits }
+    {
+        bits.div_ceil(63)
+    }
+}
+
+#[cfg(test)]
+mod tests;
