@@ -44,10 +44,11 @@ module _ {A X S : Type 0} {same : A → A → Type 0} {zero : A} {sum : A → A 
   added_from i (b ∷ before) [] given x v t n h k e = absurd h
   added_from i (b ∷ before) (d ∷ done) [] x v t n h k e = absurd (omega arith)
   added_from i (b ∷ before) (d ∷ done) (g ∷ given) x v t n h k e =
-      let later = subst (λ (j : ℕ). AreSums same sum (zip before (map (product shift) (powers_from one product base j (length before)))) done) (add-one i) h.1 in
-      (h.0,
-       subst (λ (j : ℕ). AreSums same sum (zip (before ++ (x ∷ [])) (map (product shift) (powers_from one product base j (length (before ++ (x ∷ [])))))) (done ++ (v ∷ []))) (sym (add-one i))
-         (added_from (suc i) before done given x v t (omega arith) later k.1 e))
+      let later = subst (λ (j : ℕ). AreSums same sum (zip before (map (product shift) (powers_from one product base j (length before)))) done) (add-one i) h.1 in (
+        h.0,
+        subst (λ (j : ℕ). AreSums same sum (zip (before ++ (x ∷ [])) (map (product shift) (powers_from one product base j (length (before ++ (x ∷ [])))))) (done ++ (v ∷ []))) (sym (add-one i))
+            (added_from (suc i) before done given x v t (omega arith) later k.1 e),
+      )
 
   abbrev Added : S → List A → List A → ℕ → Type 0
   Added terms initial sums i = TermsAdded same sum product one shift base steps start terms initial sums i

@@ -8,7 +8,6 @@ use Rattle.math_theory.specs.Values.{value_from, value_over}
 module _ {A B : Type 0} {same : A → A → Type 0} {zero : A} {sum : A → A → A} {negative : A → A} {scaling : A → B → A} {same_scalar : B → B → Type 0}
     {zero_scalar : B} {sum_scalar : B → B → B} {product : B → B → B} {one : B}
     (E : IsEquality same) (G : IsGroup same zero sum negative) (M : IsModule same zero sum scaling same_scalar zero_scalar sum_scalar product one) where
-
   value_from-scaled_point : (point : A) (r : B) (i : ℕ) (scalars : List B) (p : List A) → AllZip (λ s x. same x (scaling point s)) scalars p
       → same (value_from zero sum scaling one product r i p) (scaling point (value_from zero_scalar sum_scalar product one product r i scalars))
   value_from-scaled_point point r i [] [] h = E.symmetric _ _ (M.annihilation point)

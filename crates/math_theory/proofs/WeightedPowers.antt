@@ -12,7 +12,6 @@ module _ {A B : Type 0} {same : A → A → Type 0} {zero : A} {sum : A → A �
     {zero_scalar : B} {sum_scalar : B → B → B} {product : B → B → B} {one : B}
     (E : IsEquality same) (G : IsGroup same zero sum negative) (M : IsModule same zero sum scaling same_scalar zero_scalar sum_scalar product one)
     (F : IsEquality same_scalar) (P : IsProduct same_scalar product) where
-
   -- a term a r^i x, as a power of r first and then a
   scaled_term : (x : A) (a r : B) → same (scaling x (product a r)) (scaling (scaling x r) a)
   scaled_term x a r =
@@ -60,9 +59,9 @@ module _ {A B : Type 0} {same : A → A → Type 0} {zero : A} {sum : A → A �
       let t = power one product r i in
       let v = value_from zero sum scaling one product r (suc i) p in
       let here : same (scaling x w) (sum (scaling x o) (scaling (scaling x t) a))
-          = E.transitive _ _ _ (M.respects_scalars x _ _ h.0)
-          (E.transitive _ _ _ (M.sum_of_scalars x o (product u t))
-          (G.respects_sum _ _ _ _ (E.reflexive (scaling x o)) (E.transitive _ _ _ (M.respects_scalars x _ _ (P.respects _ _ _ _ e (F.reflexive t))) (scaled_term x a t)))) in
+      = E.transitive _ _ _ (M.respects_scalars x _ _ h.0)
+      (E.transitive _ _ _ (M.sum_of_scalars x o (product u t))
+      (G.respects_sum _ _ _ _ (E.reflexive (scaling x o)) (E.transitive _ _ _ (M.respects_scalars x _ _ (P.respects _ _ _ _ e (F.reflexive t))) (scaled_term x a t)))) in
       let rest = weighted_sum-added_from a u r e (suc i) p old new (omega arith) (subst (λ (j : ℕ). AreSums (zip old (map (product u) (powers_from one product r j (length old)))) new) (add-one i) h.1) in
       E.transitive _ _ _ (G.respects_sum _ _ _ _ here rest)
       (E.transitive _ _ _ (regrouped (scaling x o) (scaling (scaling x t) a) (weighted_sum zero sum scaling p old) (scaling v a))

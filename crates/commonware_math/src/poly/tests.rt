@@ -1,3 +1,5 @@
+mod samples;
+
 use super::*;
 use math_base::fields::goldilocks::F;
 use math_codec::codec::decode;

@@ -2,6 +2,8 @@ ghost use Rattle.std.specs.Prelude.{◌≡◌, ℕ, List, drop, slice_index_or};
 ghost use Rattle.rand_core.specs.Steps.{stream_of, steps_u32};
 
 use super::*;
+use math_base::algebra::Mem;
+use math_base::fields::goldilocks::F;
 use rand_core::utils::{self, NextWord};
 use std::marker::Model;
 use std::test::Fail;
@@ -91,5 +93,55 @@ fn samples(rt: HostRuntime) -> Result<(), Fail> {
             _ => assert!(rt; false, "degree {degree} from {words:?}"),
         }
     }
+    Ok(())
+}
+
+/// The words in halves, the low one first.
+fn halves(alloc: Global, words: &[u64]) -> Mem<Vec<u32>> {
+    let mut out = Vec::new(alloc);
+    for word in words {
+        out.push((*word & 0xffff_ffff) as u32)?;
+        out.push((*word >> 32) as u32)?;
+    }
+    Ok(out)
+}
+
+#[test]
+fn elements(rt: HostRuntime) -> Result<(), Fail> {
+    let alloc = rt.alloc();
+    let words = halves(alloc, &[0xffff_ffff_0000_0001, u64::MAX, 5, 7])?;
+    let mut source = Listed { words: &words };
+    let element = F::random(alloc, &mut source).ok().ok_or("an element")?;
+    assert_eq!(rt; element, F::from(5));
+    assert_eq!(rt; source.words, [7, 0].as_slice());
+    let words = halves(alloc, &[u64::MAX; 65])?;
+    let mut source = Listed { words: &words };
+    let refused = F::random(alloc, &mut source);
+    assert!(rt; matches!(refused, Err(RandomError::TooManyWords)));
+    assert_eq!(rt; source.words.len(), 2);
+    Ok(())
+}
+
+#[test]
+fn polynomials_of_elements(rt: HostRuntime) -> Result<(), Fail> {
+    let alloc = rt.alloc();
+    let words = halves(alloc, &[5, 0xffff_ffff_0000_0001, 7, 9])?;
+    let p = Poly::<F>::new(alloc, &mut Listed { words: &words }, 2);
+    let p = p.ok().ok_or("a polynomial")?;
+    assert_eq!(rt;
+        p.coefficients.as_slice(),
+        [5, 7, 9].map(F::from).as_slice()
+    );
+    let words = halves(alloc, &[5, 7])?;
+    let p = Poly::new_with_constant(alloc, &mut Listed { words: &words }, 2, F::from(4));
+    let p = p.ok().ok_or("a polynomial")?;
+    assert_eq!(rt;
+        p.coefficients.as_slice(),
+        [4, 5, 7].map(F::from).as_slice()
+    );
+    let mut words = halves(alloc, &[5])?;
+    words.extend_from_slice(&halves(alloc, &[u64::MAX; 64])?)?;
+    let refused = Poly::<F>::new(alloc, &mut Listed { words: &words }, 1);
+    assert!(rt; matches!(refused, Err(RandomError::TooManyWords)));
     Ok(())
 }
