@@ -57,12 +57,13 @@ fn sums_and_multiples<R: Ring>(rt: &impl Abort, alloc: Global) -> Result<(), Fai
     let padded = whole_polynomial::<R>(alloc, &[1, 2, 0, 0])?;
     assert!(rt; short.equals(alloc, &padded)?);
     assert_eq!(rt; padded.degree_exact(alloc)?, 1);
-    let points = [
-        whole_polynomial::<R>(alloc, &[1])?,
-        whole_polynomial::<R>(alloc, &[2, 3])?,
-        long,
-    ];
-    let scalars = [whole::<R>(alloc, 10)?, whole::<R>(alloc, 100)?];
+    let mut points = Vec::new(alloc);
+    points.push(whole_polynomial::<R>(alloc, &[1])?)?;
+    points.push(whole_polynomial::<R>(alloc, &[2, 3])?)?;
+    points.push(long)?;
+    let mut scalars = Vec::new(alloc);
+    scalars.push(whole::<R>(alloc, 10)?)?;
+    scalars.push(whole::<R>(alloc, 100)?)?;
     let combined: Poly<R> = Space::<R>::msm(alloc, &points, &scalars)?;
     check(rt, alloc, &combined, &[210, 300])
 }
@@ -73,7 +74,8 @@ fn values_of_combinations<R: Ring>(rt: &impl Abort, alloc: Global) -> Result<(),
     let value = whole::<R>(alloc, 234)?;
     assert!(rt; p.eval(alloc, &five)?.equals(alloc, &value)?);
     assert!(rt; p.eval_msm(alloc, &five)?.equals(alloc, &value)?);
-    let pairs = [(R::one(alloc)?, five)];
+    let mut pairs = Vec::new(alloc);
+    pairs.push((R::one(alloc)?, five))?;
     assert!(rt; p.lin_comb_eval(alloc, &pairs)?.equals(alloc, &value)?);
     let table: [(&[u64], &[(u64, u64)], u64); 5] = [
         (&[9, 2, 3, 4], &[(6, 0), (1, 0), (5, 7)], 7773),
