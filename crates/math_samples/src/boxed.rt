@@ -5,36 +5,33 @@
 //! a run show as allocations.
 
 ghost use Rattle.std.specs.Prelude.{◌≡◌, IfOk, false};
-ghost use Rattle.math_theory.specs.ModuleLaws.{ring_is_module};
 ghost use Rattle.math_base.specs.Elements.{residue, same, sum, negative, product, inverse, root_of, shift_of, half_of};
 ghost use Rattle.math_base.specs.ElementLaws.{equality, group, commutes, ring};
 ghost use Rattle.math_base.specs.ElementRootLaws.{field, roots};
 
 use math_base::algebra::{
-    Additive, CryptoGroup, Field, FieldNTT, Mem, Multiplicative, Object, Ring, Space,
+    Additive, CryptoGroup, Field, FieldNTT, Mem, Multiplicative, Object, Ring,
 };
 use math_base::fields::goldilocks::F;
 use std::alloc::Global;
 use std::marker::Model;
 
-/// An element of the Goldilocks field in a box.
+/// An element in a box.
 #[derive(Debug, Drop)]
-pub struct Boxed {
-    element: Box<F>,
+pub struct Boxed<T: Drop> {
+    element: Box<T>,
 }
 
 /// A boxed element is the element.
-impl Model for Boxed {
-    ghost use Rattle.math_base.specs.declared.fields.goldilocks.F.{F};
-
-    ghost Value = { F };
+impl<T: Drop> Model for Boxed<T> {
+    ghost Value = { T };
 
     ghost view = { λ b. b.element.value };
 }
 
-impl Boxed {
+impl Boxed<F> {
     /// The element in a new box.
-    pub fn new(alloc: Global, element: F) -> Mem<Boxed>
+    pub fn new(alloc: Global, element: F) -> Mem<Boxed<F>>
         ensures ok { IfOk result (λ boxed. boxed ≡ element) }
     {
         Ok(Boxed {
@@ -50,56 +47,56 @@ impl Boxed {
     }
 }
 
-impl Object for Boxed {
+impl Object for Boxed<F> {
     ghost same = { same };
 
     ghost NEVER_REFUSES = { false };
 
     const NEVER_REFUSES: bool = false;
 
-    fn clone(&self, alloc: Global) -> Mem<Boxed> {
+    fn clone(&self, alloc: Global) -> Mem<Boxed<F>> {
         Boxed::new(alloc, self.value())
     }
 
-    fn equals(&self, _alloc: Global, other: &Boxed) -> Mem<bool> {
+    fn equals(&self, _alloc: Global, other: &Boxed<F>) -> Mem<bool> {
         Ok(self.value() == other.value())
     }
 
     ghost equality = { equality };
 }
 
-impl Additive for Boxed {
+impl Additive for Boxed<F> {
     ghost zero = { residue 0 };
 
     ghost sum = { sum };
 
     ghost negative = { negative };
 
-    fn zero(alloc: Global) -> Mem<Boxed> {
+    fn zero(alloc: Global) -> Mem<Boxed<F>> {
         Boxed::new(alloc, F::from(0))
     }
 
-    fn add_assign(&mut self, alloc: Global, rhs: &Boxed) -> Mem<()> {
+    fn add_assign(&mut self, alloc: Global, rhs: &Boxed<F>) -> Mem<()> {
         *self = Boxed::new(alloc, self.value() + rhs.value())?;
         Ok(())
     }
 
-    fn sub_assign(&mut self, alloc: Global, rhs: &Boxed) -> Mem<()> {
+    fn sub_assign(&mut self, alloc: Global, rhs: &Boxed<F>) -> Mem<()> {
         *self = Boxed::new(alloc, self.value() - rhs.value())?;
         Ok(())
     }
 
-    fn neg(self, alloc: Global) -> Mem<Boxed> {
+    fn neg(self, alloc: Global) -> Mem<Boxed<F>> {
         Boxed::new(alloc, -self.value())
     }
 
     ghost group = { group };
 }
 
-impl Multiplicative for Boxed {
+impl Multiplicative for Boxed<F> {
     ghost product = { product };
 
-    fn mul_assign(&mut self, alloc: Global, rhs: &Boxed) -> Mem<()> {
+    fn mul_assign(&mut self, alloc: Global, rhs: &Boxed<F>) -> Mem<()> {
         *self = Boxed::new(alloc, self.value() * rhs.value())?;
         Ok(())
     }
@@ -107,27 +104,27 @@ impl Multiplicative for Boxed {
     ghost commutes = { commutes };
 }
 
-impl Ring for Boxed {
+impl Ring for Boxed<F> {
     ghost one = { residue 1 };
 
-    fn one(alloc: Global) -> Mem<Boxed> {
+    fn one(alloc: Global) -> Mem<Boxed<F>> {
         Boxed::new(alloc, F::from(1))
     }
 
     ghost ring = { ring };
 }
 
-impl Field for Boxed {
+impl Field for Boxed<F> {
     ghost inverse = { inverse };
 
-    fn inv(&self, alloc: Global) -> Mem<Boxed> {
+    fn inv(&self, alloc: Global) -> Mem<Boxed<F>> {
         Boxed::new(alloc, Field::inv(&self.value(), alloc)?)
     }
 
     ghost field = { field };
 }
 
-impl FieldNTT for Boxed {
+impl FieldNTT for Boxed<F> {
     ghost MAX_LG_ROOT_ORDER = { 32 };
 
     ghost root = { root_of };
@@ -138,47 +135,35 @@ impl FieldNTT for Boxed {
 
     const MAX_LG_ROOT_ORDER: u8 = 32;
 
-    fn root_of_unity(alloc: Global, lg: u8) -> Mem<Option<Boxed>> {
+    fn root_of_unity(alloc: Global, lg: u8) -> Mem<Option<Boxed<F>>> {
         match <F as FieldNTT>::root_of_unity(alloc, lg)? {
             Some(root) => Ok(Some(Boxed::new(alloc, root)?)),
             None => Ok(None),
         }
     }
 
-    fn coset_shift(alloc: Global) -> Mem<Boxed> {
+    fn coset_shift(alloc: Global) -> Mem<Boxed<F>> {
         Boxed::new(alloc, F::coset_shift(alloc)?)
     }
 
-    fn coset_shift_inv(alloc: Global) -> Mem<Boxed> {
+    fn coset_shift_inv(alloc: Global) -> Mem<Boxed<F>> {
         Boxed::new(alloc, F::coset_shift_inv(alloc)?)
     }
 
-    fn div_2(&self, alloc: Global) -> Mem<Boxed> {
+    fn div_2(&self, alloc: Global) -> Mem<Boxed<F>> {
         Boxed::new(alloc, FieldNTT::div_2(&self.value(), alloc)?)
     }
 
     ghost roots = { roots };
 }
 
-/// The sums are a space over the field of the elements themselves too, which are not boxed.
-impl Space<F> for Boxed {
-    ghost scaling = { product };
-
-    fn scale_assign(&mut self, alloc: Global, r: &F) -> Mem<()> {
-        *self = Boxed::new(alloc, self.value() * *r)?;
-        Ok(())
-    }
-
-    ghost spans = { ring_is_module equality group commutes ring };
-}
-
-/// The group of sums, whose scalars are the elements that are not boxed; five generates it.
-impl CryptoGroup for Boxed {
-    type Scalar = F;
+/// The group of sums, whose scalars are the boxed elements themselves; five generates it.
+impl CryptoGroup for Boxed<F> {
+    type Scalar = Boxed<F>;
 
     ghost generator = { residue 5 };
 
-    fn generator(alloc: Global) -> Mem<Boxed> {
+    fn generator(alloc: Global) -> Mem<Boxed<F>> {
         Boxed::new(alloc, F::from(5))
     }
 }

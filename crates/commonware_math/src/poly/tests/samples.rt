@@ -100,10 +100,10 @@ fn values_of_combinations<R: Ring>(rt: &impl Abort, alloc: Global) -> Result<(),
 fn over_each_ring(rt: HostRuntime) -> Result<(), Fail> {
     let alloc = rt.alloc();
     sums_and_multiples::<F>(&rt, alloc)?;
-    sums_and_multiples::<Boxed>(&rt, alloc)?;
+    sums_and_multiples::<Boxed<F>>(&rt, alloc)?;
     sums_and_multiples::<Quotient>(&rt, alloc)?;
     values_of_combinations::<F>(&rt, alloc)?;
-    values_of_combinations::<Boxed>(&rt, alloc)?;
+    values_of_combinations::<Boxed<F>>(&rt, alloc)?;
     values_of_combinations::<Quotient>(&rt, alloc)
 }
 
@@ -116,10 +116,10 @@ fn commitments(rt: HostRuntime) -> Result<(), Fail> {
     assert!(rt; value.equals(alloc, &Quotient::new(6, 1))?);
     let scaled = Quotient::generator(alloc)?.mul(alloc, &Quotient::new(234 % 97, 1))?;
     assert!(rt; value.equals(alloc, &scaled)?);
-    let p = whole_polynomial::<F>(alloc, &[4, 6, 8])?;
-    let commitment = Poly::<Boxed>::commit(alloc, p)?;
+    let p = whole_polynomial::<Boxed<F>>(alloc, &[4, 6, 8])?;
+    let commitment = Poly::<Boxed<F>>::commit(alloc, p)?;
     check(&rt, alloc, &commitment, &[20, 30, 40])?;
-    let value = commitment.eval(alloc, &F::from(5))?;
+    let value = commitment.eval(alloc, &Boxed::new(alloc, F::from(5))?)?;
     assert_eq!(rt; value.value(), F::from(1170));
     Ok(())
 }
