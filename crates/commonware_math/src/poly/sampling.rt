@@ -11,8 +11,7 @@ impl<K: Random + Drop> Poly<K> {
     /// A polynomial of `degree + 1` coefficients, each sampled from the source, from the constant
     /// upwards.
     ///
-    /// It refuses where a sample is refused, or with `Memory`. The source then stands after the words
-    /// that were looked at.
+    /// It refuses where a sample is refused, or with `Memory`.
     pub fn new<G: Rng + CryptoRng>(
         alloc: Global,
         rng: &mut G,
@@ -28,8 +27,7 @@ impl<K: Random + Drop> Poly<K> {
     /// A polynomial of `degree + 1` coefficients: the given constant, and then samples from the
     /// source upwards.
     ///
-    /// It refuses where a sample is refused, or with `Memory`. The source then stands after the words
-    /// that were looked at.
+    /// It refuses where a sample is refused, or with `Memory`.
     pub fn new_with_constant<G: Rng + CryptoRng>(
         alloc: Global,
         rng: &mut G,
