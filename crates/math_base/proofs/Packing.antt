@@ -3,7 +3,6 @@ use Rattle.std.proofs.Common.{◌≡◌, ℕ, ◌+◌, ◌*◌, ◌%◌, ◌<◌
 use Rattle.std.proofs.lemmas.List.{map-append, length-map}
 use Rattle.std.proofs.lemmas.List.Elements.{All-head, All-tail}
 use Rattle.std.specs.List.{All}
-use native.Mathlib.Bridge.{le_prop}
 use Rattle.math_theory.specs.Bits as Bits
 use Rattle.math_theory.specs.Bits.{bits, bits-zero, joined, pieces, piece_count, cut, repacked, zero_word_unless}
 use Rattle.math_theory.specs.Goldilocks.{P}
@@ -14,18 +13,9 @@ use Rattle.math_base.specs.Repacking.{Advances}
 use Rattle.math_base.specs.Packing.{word_bits, element_bits, elements_of_bits, elements_of, words_of, waiting_bits}
 use Rattle.math_base.specs.declared.fields.goldilocks.F.{F}
 use Rattle.math_base.specs.declared.fields.goldilocks.packing.WaitingBits.{WaitingBits}
+use Rattle.math_base.proofs.ElementNumbers.{same_number, residue-number}
 use Rattle.math_base.proofs.BitFronts.{cut-waiting, pieces_below}
 use Rattle.math_base.proofs.Repacking.{Advances-ended}
-
--- elements with one number are one
-pub same_number : (a b : F) → number a ≡ number b → a ≡ b
-same_number a b e =
-    let is_a : ℕ → Type 0 = λ n. (below : n < P) → a ≡ record { value = n; below = below } in
-    subst is_a e (λ below. ap (λ (p : number a < P). record { value = number a; below = p }) (le_prop a.below below)) b.below
-
--- an element is the residue of its number
-pub residue-number : (a : F) → residue (number a) ≡ a
-residue-number a = same_number (residue (number a)) a (mod-eq_of_lt a.below)
 
 -- numbers below 2 ^ 63 are the numbers of their residues
 pub map-number-residue : (ns : List ℕ) → All (λ n. n < 2 ^ 63) ns → map number (map residue ns) ≡ ns

@@ -1,10 +1,13 @@
 -- The elements of the Goldilocks field and their operations: those of whole numbers, then the remainder by P.
-use Rattle.std.specs.Prelude.{◌≡◌, ℕ, ◌+◌, ◌*◌, ◌%◌, ◌<◌}
+use Rattle.std.specs.Prelude.{◌≡◌, ℕ, ◌+◌, ◌*◌, ◌%◌, ◌<◌, Option}
+use Rattle.std.specs.Option.{option_map}
 use Rattle.std.proofs.Common.{lit<}
 use Rattle.std.proofs.Math.Nat.{mod-lt}
 use Rattle.math_theory.specs.Goldilocks.{P}
 use Rattle.math_theory.specs.Residues as Residues
+use Rattle.rand_core.specs.Stream.{Stream}
 use Rattle.math_base.specs.Roots.{root, shift}
+use Rattle.math_base.specs.Samples.{first_below}
 use Rattle.math_base.specs.declared.fields.goldilocks.F.{F}
 
 -- the number from 0 to P - 1 that an element is
@@ -49,3 +52,7 @@ shift_of = residue shift
 -- the remainder of the product with the inverse of two
 abbrev pub half_of : F → F
 half_of a = residue (number a * 9223372034707292161)
+
+-- the first of the next 64 words that is below P, as an element, and the stream after the words that were looked at
+abbrev pub sample_of : Stream → Option F × Stream
+sample_of source = (option_map residue (first_below 64 source).0, (first_below 64 source).1)

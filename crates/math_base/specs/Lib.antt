@@ -1,10 +1,10 @@
 pub use Rattle.math_theory.specs.Laws as Laws
 pub mod Members
 pub mod Roots
+pub mod Samples
 pub mod Elements
 pub mod ElementLaws
 pub mod ElementRootLaws
-pub mod Samples
 pub mod ElementEncoding
 pub mod ElementEncodingLaws
 pub mod Progressions

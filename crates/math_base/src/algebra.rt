@@ -6,14 +6,15 @@
 //! trait speak of the definitions alone, up to `same`, and each implementation proves them. So code
 //! over these traits rests on the laws and on nothing else of a type.
 
-ghost use Rattle.std.specs.Prelude.{◌≡◌, ◌↔◌, ◌<◌, ◌≤◌, ℕ, List, [], Bool, IsTrue, IsSome, IsOk, IfOk, IfSome, OnOk, OnErr};
+ghost use Rattle.std.specs.Prelude.{◌≡◌, ◌↔◌, ◌<◌, ◌≤◌, ℕ, List, [], Option, Some, None, Bool, IsTrue, IsSome, IsOk, IfOk, IfErr, IfSome, OnOk, OnErr, alloc_error};
 ghost use Rattle.std.specs.Iterator.{YieldsThen};
-ghost use Rattle.rand_core.specs.Stream.{fill_bytes};
+ghost use Rattle.rand_core.specs.Stream.{Stream, fill_bytes};
 ghost use Rattle.math_theory.specs.Laws.{IsEquality, IsMonoid, IsGroup, IsProduct, IsRing, IsField, IsModule};
 ghost use Rattle.math_theory.specs.ModuleLaws.{ring_is_module};
 ghost use Rattle.math_theory.specs.Powers.{power, multiple};
 ghost use Rattle.math_theory.specs.RootLaws.{HasRootsOfUnity};
 ghost use Rattle.math_theory.specs.Sums.{number_of_limbs, weighted_sum};
+ghost use Rattle.math_base.specs.declared.algebra.RandomError.TheVariants.{Memory, TooManyWords};
 ghost use Rattle.math_base.specs.Progressions.{AreGeometric};
 
 mod progression;
@@ -21,7 +22,7 @@ mod progression;
 pub use math_codec::codec::Mem;
 pub use progression::Powers;
 use rand_core::{CryptoRng, Rng};
-use std::alloc::{AllocError, Global};
+use std::alloc::{AllocError, AllocFailed, Global};
 use std::fmt::Debug;
 use thiserror::Error;
 
@@ -361,10 +362,32 @@ pub enum RandomError {
     TooManyWords,
 }
 
+impl From<AllocError> for RandomError {
+    ghost from_gives = { λ x e. e ≡ Memory x };
+
+    fn from(e: AllocError) -> RandomError {
+        RandomError::Memory(e)
+    }
+}
+
+impl<T: Drop> From<AllocFailed<T>> for RandomError {
+    ghost from_gives = { λ _ e. e ≡ Memory alloc_error };
+
+    fn from(_e: AllocFailed<T>) -> RandomError {
+        RandomError::Memory(AllocError)
+    }
+}
+
 /// A type whose values can be sampled from a source of random words.
 pub trait Random: Sized {
-    /// A sample. How it is distributed is not promised.
-    fn random<G: Rng + CryptoRng>(alloc: Global, rng: &mut G) -> Result<Self, RandomError>;
+    /// The sample that a source gives, where its next words give one, and the source after the words
+    /// that were looked at.
+    ghost sample: { Stream → Option Self × Stream };
+
+    /// The next sample of the source. How samples are distributed is not promised.
+    fn random<G: Rng + CryptoRng>(alloc: Global, rng: &mut G) -> Result<Self, RandomError>
+        ensures sampled { IfOk result (λ x. sample (G.stream rng.old) ≡ (Some x, G.stream rng.new)) }
+        ensures refused { IfErr result (λ error. error ≡ TooManyWords → sample (G.stream rng.old) ≡ (None, G.stream rng.new)) };
 }
 
 /// `Ok(shift)`, `Ok(shift * base)`, `Ok(shift * base^2)` and so on, without end; after an `Err` it ends.

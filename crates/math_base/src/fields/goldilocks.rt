@@ -10,7 +10,6 @@ ghost use Rattle.math_theory.specs.Goldilocks.{P};
 ghost use Rattle.math_theory.specs.PowersModulo.{power_mod};
 ghost use Rattle.math_codec.specs.WordLaws.{word_bounded};
 ghost use Rattle.math_base.specs.Roots.{root, greatest_root, shift, shift_inverse};
-ghost use Rattle.math_base.specs.Samples.{first_below};
 ghost use Rattle.math_base.specs.declared.algebra.RandomError.TheVariants.{TooManyWords};
 
 mod packing;
@@ -455,13 +454,15 @@ impl FieldNTT for F {
 }
 
 impl Random for F {
-    ghost use Rattle.math_base.specs.Elements.{number};
+    ghost use Rattle.math_base.specs.Elements.{sample_of};
+
+    ghost sample = { sample_of };
 
     /// The first of at most 64 words of the source that is below P; `TooManyWords` where none of 64 is.
     /// The source stands after the words that were looked at.
     fn random<G: Rng + CryptoRng>(_alloc: Global, rng: &mut G) -> Result<F, RandomError>
-        ensures found { IfOk result (λ a. first_below 64 (G.stream rng.old) ≡ (Some (number a), G.stream rng.new)) }
-        ensures none { IfErr result (λ error. (error ≡ TooManyWords) × (first_below 64 (G.stream rng.old) ≡ (None, G.stream rng.new))) }
+        ensures sampled { IfOk result (λ a. sample_of (G.stream rng.old) ≡ (Some a, G.stream rng.new)) }
+        ensures refused { IfErr result (λ error. (error ≡ TooManyWords) × (sample_of (G.stream rng.old) ≡ (None, G.stream rng.new))) }
     {
         for _looked_at in 0..64u32 {
             let word = rng.next_u64();

@@ -6,6 +6,7 @@ use math_base::algebra::Mem;
 use math_base::fields::goldilocks::F;
 use rand_core::utils::{self, NextWord};
 use std::marker::Model;
+use std::process::Abort;
 use std::test::Fail;
 
 /// A source of the words of a list, and of zeros after them.
@@ -52,50 +53,6 @@ impl<'a> Rng for Listed<'a> {
 
 impl<'a> CryptoRng for Listed<'a> {}
 
-/// The next word of the source, other than zero.
-#[derive(Drop)]
-struct Word(u32);
-
-impl Random for Word {
-    fn random<G: Rng + CryptoRng>(_alloc: Global, rng: &mut G) -> Result<Word, RandomError> {
-        match rng.next_u32() {
-            0 => Err(RandomError::TooManyWords),
-            word => Ok(Word(word)),
-        }
-    }
-}
-
-#[test]
-fn samples(rt: HostRuntime) -> Result<(), Fail> {
-    let alloc = rt.alloc();
-    let table: [(Option<u32>, &[u32], u32, Option<&[u32]>); 6] = [
-        (None, &[5, 7, 9], 2, Some(&[5, 7, 9])),
-        (None, &[5, 7, 9], 0, Some(&[5])),
-        (None, &[5], 1, None),
-        (Some(4), &[5, 7], 2, Some(&[4, 5, 7])),
-        (Some(4), &[], 0, Some(&[4])),
-        (Some(4), &[5], 2, None),
-    ];
-    for (constant, words, degree, expected) in table {
-        let mut source = Listed { words };
-        let p = match constant {
-            Some(word) => Poly::new_with_constant(alloc, &mut source, degree, Word(word)),
-            None => Poly::<Word>::new(alloc, &mut source, degree),
-        };
-        match (p, expected) {
-            (Ok(p), Some(expected)) => {
-                assert_eq!(rt; p.coefficients.len(), expected.len());
-                for (coefficient, word) in p.coefficients.iter().zip(expected.iter()) {
-                    assert_eq!(rt; coefficient.0, *word);
-                }
-            }
-            (Err(RandomError::TooManyWords), None) => {}
-            _ => assert!(rt; false, "degree {degree} from {words:?}"),
-        }
-    }
-    Ok(())
-}
-
 /// The words in halves, the low one first.
 fn halves(alloc: Global, words: &[u64]) -> Mem<Vec<u32>> {
     let mut out = Vec::new(alloc);
@@ -122,26 +79,49 @@ fn elements(rt: HostRuntime) -> Result<(), Fail> {
     Ok(())
 }
 
+/// A sampled polynomial has the expected coefficients; with none expected it is refused with
+/// `TooManyWords`.
+fn check(
+    rt: &impl Abort,
+    p: Result<Poly<F>, RandomError>,
+    expected: Option<&[u64]>,
+) -> Result<(), Fail> {
+    match (p, expected) {
+        (Ok(p), Some(expected)) => {
+            assert_eq!(rt; p.coefficients.len(), expected.len());
+            for (coefficient, word) in p.coefficients.iter().zip(expected.iter()) {
+                assert_eq!(rt; *coefficient, F::from(*word));
+            }
+        }
+        (Err(RandomError::TooManyWords), None) => {}
+        _ => assert!(rt; false, "expected {expected:?}"),
+    }
+    Ok(())
+}
+
 #[test]
-fn polynomials_of_elements(rt: HostRuntime) -> Result<(), Fail> {
+fn polynomials(rt: HostRuntime) -> Result<(), Fail> {
     let alloc = rt.alloc();
-    let words = halves(alloc, &[5, 0xffff_ffff_0000_0001, 7, 9])?;
-    let p = Poly::<F>::new(alloc, &mut Listed { words: &words }, 2);
-    let p = p.ok().ok_or("a polynomial")?;
-    assert_eq!(rt;
-        p.coefficients.as_slice(),
-        [5, 7, 9].map(F::from).as_slice()
-    );
-    let words = halves(alloc, &[5, 7])?;
-    let p = Poly::new_with_constant(alloc, &mut Listed { words: &words }, 2, F::from(4));
-    let p = p.ok().ok_or("a polynomial")?;
-    assert_eq!(rt;
-        p.coefficients.as_slice(),
-        [4, 5, 7].map(F::from).as_slice()
-    );
+    let above = 0xffff_ffff_0000_0001;
+    let table: [(Option<u64>, &[u64], u32, Option<&[u64]>); 5] = [
+        (None, &[5, above, 7, 9], 2, Some(&[5, 7, 9])),
+        (None, &[5, 7, 9], 0, Some(&[5])),
+        (Some(4), &[5, 7], 2, Some(&[4, 5, 7])),
+        (Some(4), &[above, 5], 1, Some(&[4, 5])),
+        (Some(4), &[above], 0, Some(&[4])),
+    ];
+    for (constant, words, degree, expected) in table {
+        let words = halves(alloc, words)?;
+        let mut source = Listed { words: &words };
+        let p = match constant {
+            Some(word) => Poly::new_with_constant(alloc, &mut source, degree, F::from(word)),
+            None => Poly::new(alloc, &mut source, degree),
+        };
+        check(&rt, p, expected)?;
+    }
     let mut words = halves(alloc, &[5])?;
     words.extend_from_slice(&halves(alloc, &[u64::MAX; 64])?)?;
-    let refused = Poly::<F>::new(alloc, &mut Listed { words: &words }, 1);
-    assert!(rt; matches!(refused, Err(RandomError::TooManyWords)));
-    Ok(())
+    check(&rt, Poly::new(alloc, &mut Listed { words: &words }, 1), None)?;
+    let p = Poly::new_with_constant(alloc, &mut Listed { words: &words }, 2, F::from(4));
+    check(&rt, p, None)
 }

@@ -1,0 +1,59 @@
+-- Samples taken one after the other.
+use Rattle.std.proofs.Common.{◌≡◌, ℕ, zero, suc, ◌+◌, ◌<◌, List, [], ◌∷◌, ◌++◌, Option, Some, None, refl, sym, ap, ◌∙◌, arith}
+use Rattle.std.specs.Option.{option_map}
+use Rattle.std.proofs.lemmas.Option.{none-some, same_Some}
+use Rattle.rand_core.specs.Stream.{Stream}
+use Rattle.math_base.specs.Samples.{before_samples, samples}
+
+-- the list that a first item was put before
+rest_of : {T : Type 0} (q : Option (List T) × Stream) (y : T) (xs : List T) (t : Stream) → ◌≡◌ {A = Option (List T) × Stream} (option_map (λ ys. y ∷ ys) q.0, q.1) (Some xs, t)
+    → (ys : List T) × (q ≡ (Some ys, t)) × (y ∷ ys ≡ xs)
+rest_of (None, r) y xs t e = absurd (none-some xs (ap (λ p. p.0) e))
+rest_of (Some ys, r) y xs t e = (ys, ap (λ z. (Some ys, z)) (ap (λ p. p.1) e), same_Some (y ∷ ys) xs (ap (λ p. p.0) e))
+
+behind : {T : Type 0} (o : Option T × Stream) (first whole : Stream → Option (List T) × Stream) (t u : Stream) (x : T) (xs : List T)
+    → ((r : Stream) (ys : List T) → first r ≡ (Some ys, t) → whole r ≡ (Some (ys ++ x ∷ []), u)) → before_samples o first ≡ (Some xs, t) → before_samples o whole ≡ (Some (xs ++ x ∷ []), u)
+unfolding before_samples
+behind (None, r) first whole t u x xs h e = absurd (none-some xs (ap (λ p. p.0) e))
+behind (Some y, r) first whole t u x xs h e =
+    let (ys, f, g) = rest_of (first r) y xs t e in
+    rw (h r ys f) (ap (λ l. (Some (l ++ x ∷ []), u)) g)
+
+sample_after : {T : Type 0} (sample : Stream → Option T × Stream) (n : ℕ) (s t u : Stream) (xs : List T) (x : T)
+    → samples sample n s ≡ (Some xs, t) → sample t ≡ (Some x, u) → samples sample (suc n) s ≡ (Some (xs ++ x ∷ []), u)
+unfolding samples before_samples
+sample_after sample zero s t u xs x e f =
+    let none : [] ≡ xs = same_Some [] xs (ap (λ p. p.0) e) in
+    let same_source : s ≡ t = ap (λ p. p.1) e in
+    rw (same_source, f, ← none) refl
+sample_after sample (suc n) s t u xs x e f = behind (sample s) (samples sample n) (samples sample (suc n)) t u x xs (λ r ys g. sample_after sample n r t u ys x g f) e
+
+-- a sample that the source gives after n samples is the last of n + 1
+pub sample_behind : {T : Type 0} (sample : Stream → Option T × Stream) (n : ℕ) (s t u : Stream) (xs : List T) (x : T)
+    → samples sample n s ≡ (Some xs, t) → sample t ≡ (Some x, u) → samples sample (n + 1) s ≡ (Some (xs ++ x ∷ []), u)
+sample_behind sample n s t u xs x e f = let one_more : n + 1 ≡ suc n = omega arith in rw one_more (sample_after sample n s t u xs x e f)
+
+ended : {T : Type 0} (o : Option T × Stream) (first whole : Stream → Option (List T) × Stream) (t u : Stream) (xs : List T)
+    → ((r : Stream) (ys : List T) → first r ≡ (Some ys, t) → whole r ≡ (None, u)) → before_samples o first ≡ (Some xs, t) → before_samples o whole ≡ (None, u)
+unfolding before_samples
+ended (None, r) first whole t u xs h e = absurd (none-some xs (ap (λ p. p.0) e))
+ended (Some y, r) first whole t u xs h e =
+    let (ys, f, g) = rest_of (first r) y xs t e in
+    rw (h r ys f) refl
+
+-- where the source gives none after n samples, it gives no more than n
+pub samples_end : {T : Type 0} (sample : Stream → Option T × Stream) (n m : ℕ) (s t u : Stream) (xs : List T)
+    → samples sample n s ≡ (Some xs, t) → sample t ≡ (None, u) → n < m → samples sample m s ≡ (None, u)
+unfolding samples before_samples
+samples_end sample n zero s t u xs e f h = absurd (omega arith)
+samples_end sample zero (suc m) s t u xs e f h =
+    let same_source : s ≡ t = ap (λ p. p.1) e in
+    rw (same_source, f) refl
+samples_end sample (suc n) (suc m) s t u xs e f h =
+    ended (sample s) (samples sample n) (samples sample m) t u xs (λ r ys g. samples_end sample n m r t u ys g f (omega arith)) e
+
+-- a first sample, and then n
+pub sample_before : {T : Type 0} (sample : Stream → Option T × Stream) (n : ℕ) (s t : Stream) (x : T) → sample s ≡ (Some x, t)
+    → samples sample (n + 1) s ≡ (option_map (λ xs. x ∷ xs) (samples sample n t).0, (samples sample n t).1)
+unfolding samples before_samples
+sample_before sample n s t x e = let h : n + 1 ≡ suc n = omega arith in rw (h, e) refl
