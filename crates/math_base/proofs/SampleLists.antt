@@ -1,5 +1,5 @@
 -- Samples taken one after the other.
-use Rattle.std.proofs.Common.{◌≡◌, ℕ, zero, suc, ◌+◌, ◌<◌, List, [], ◌∷◌, ◌++◌, Option, Some, None, refl, sym, ap, ◌∙◌, arith}
+use Rattle.std.proofs.Common.{◌≡◌, ℕ, zero, suc, ◌+◌, ◌<◌, List, [], ◌∷◌, ◌++◌, drop, slice_get, Option, Some, None, refl, sym, ap, ◌∙◌, arith}
 use Rattle.std.specs.Option.{option_map}
 use Rattle.std.proofs.lemmas.Option.{none-some, same_Some}
 use Rattle.rand_core.specs.Stream.{Stream}
@@ -53,7 +53,27 @@ samples_end sample (suc n) (suc m) s t u xs e f h =
     ended (sample s) (samples sample n) (samples sample m) t u xs (λ r ys g. samples_end sample n m r t u ys g f (omega arith)) e
 
 -- a first sample, and then n
-pub sample_before : {T : Type 0} (sample : Stream → Option T × Stream) (n : ℕ) (s t : Stream) (x : T) → sample s ≡ (Some x, t)
+sample_before : {T : Type 0} (sample : Stream → Option T × Stream) (n : ℕ) (s t : Stream) (x : T) → sample s ≡ (Some x, t)
     → samples sample (n + 1) s ≡ (option_map (λ xs. x ∷ xs) (samples sample n t).0, (samples sample n t).1)
 unfolding samples before_samples
 sample_before sample n s t x e = let h : n + 1 ≡ suc n = omega arith in rw (h, e) refl
+
+-- no sample leaves the source as it is
+pub no_samples : {T : Type 0} (sample : Stream → Option T × Stream) (s : Stream) → samples sample 0 s ≡ (Some [], s)
+unfolding samples
+no_samples sample s = refl
+
+-- a first sample, and then none
+pub none_behind_first : {T : Type 0} (sample : Stream → Option T × Stream) (n : ℕ) (s t u : Stream) (x : T)
+    → sample s ≡ (Some x, t) → samples sample n t ≡ (None, u) → samples sample (n + 1) s ≡ (None, u)
+none_behind_first sample n s t u x e f = sample_before sample n s t x e ∙ ap (λ p. (option_map (λ xs. x ∷ xs) p.0, p.1)) f
+
+first_and_rest : {T : Type 0} (x : T) (xs : List T) → slice_get xs 0 ≡ Some x → x ∷ drop 1 xs ≡ xs
+first_and_rest x [] e = absurd (none-some x e)
+first_and_rest x (y ∷ ys) e = ap (λ z. z ∷ ys) (same_Some x y (sym e))
+
+-- a first sample, and then those behind it
+pub samples_behind_first : {T : Type 0} (sample : Stream → Option T × Stream) (n : ℕ) (s t u : Stream) (x : T) (xs : List T)
+    → sample s ≡ (Some x, t) → samples sample n t ≡ (Some (drop 1 xs), u) → slice_get xs 0 ≡ Some x → samples sample (n + 1) s ≡ (Some xs, u)
+samples_behind_first sample n s t u x xs e f first =
+    sample_before sample n s t x e ∙ ap (λ p. (option_map (λ ys. x ∷ ys) p.0, p.1)) f ∙ ap (λ ys. (Some ys, u)) (first_and_rest x xs first)

@@ -2,6 +2,7 @@
 
 ghost use Rattle.std.specs.Prelude.{◌≡◌, ◌+◌, ◌-◌, ◌<◌, ◌^◌, IfOk, IfErr, Some, None, drop, length, slice_get};
 ghost use Rattle.math_base.specs.Samples.{samples};
+ghost use Rattle.math_base.specs.declared.algebra.RandomError.TheVariants.{TooManyWords};
 
 use super::Poly;
 use math_base::algebra::{Random, RandomError};

@@ -121,7 +121,11 @@ fn polynomials(rt: HostRuntime) -> Result<(), Fail> {
     }
     let mut words = halves(alloc, &[5])?;
     words.extend_from_slice(&halves(alloc, &[u64::MAX; 64])?)?;
-    check(&rt, Poly::new(alloc, &mut Listed { words: &words }, 1), None)?;
+    check(
+        &rt,
+        Poly::new(alloc, &mut Listed { words: &words }, 1),
+        None,
+    )?;
     let p = Poly::new_with_constant(alloc, &mut Listed { words: &words }, 2, F::from(4));
     check(&rt, p, None)
 }
