@@ -4,17 +4,14 @@ use Rattle.std.proofs.lemmas.List.{map-append, append_assoc, length-append, appe
 use Rattle.std.proofs.Math.ListN.{set, get_or}
 use Rattle.std.proofs.Math.Seq.{set-append_seam, get_or-append_seam}
 use Rattle.std.proofs.iter.Next.{Yields-more}
-use Rattle.std.specs.List.{AllZip, zip}
+use Rattle.std.specs.List.{zip}
 use Rattle.std.specs.Iterator.{Yields, YieldsThen}
 use Rattle.math_theory.specs.Laws.{IsEquality, IsGroup}
 use Rattle.math_theory.specs.Powers.{powers_from}
 use Rattle.math_theory.specs.Domains.{coset}
+use Rattle.math_theory.proofs.WeightedPowers.{AreSums}
 use Rattle.math_base.specs.Progressions.{AreGeometric}
 use Rattle.commonware_math.proofs.GeometricItems.{items-endless}
-
--- each new one is the sum of two terms
-abbrev pub AreSums : {A : Type 0} → (A → A → Type 0) → (A → A → A) → List (A × A) → List A → Type 0
-AreSums same sum terms new = AllZip (λ x y. same y (sum x.0 x.1)) terms new
 
 -- i terms came, and were added to the first i sums, which are `done`; the others are as they were
 pub record TermsAdded {A X S : Type 0} (same : A → A → Type 0) (sum : A → A → A) (product : A → A → A) (one shift base : A) (steps : S → Option (Result A X) → S → Type 0)

@@ -28,7 +28,7 @@ module _ {A B : Type 0} {same : A → A → Type 0} {zero : A} {sum : A → A �
 
   -- the weights of one pair more
   pub combination-next : (pairs : List (B × B)) (i : ℕ) (d pair : B × B) (u : B) (old new : List B) (whole : A) → i < length pairs → pair ≡ get_or pairs i d → same_scalar u pair.0
-      → length p ≡ length old → AreSums E G M F P (zip old (coset one product u pair.1 (length old))) new
+      → length p ≡ length old → AreSums same_scalar sum_scalar (zip old (coset one product u pair.1 (length old))) new
       → same (sum (weighted old) (combination (drop i pairs))) whole → same (sum (weighted new) (combination (drop (i + 1) pairs))) whole
   combination-next pairs i d pair u old new whole within e h n k w =
       let rest = combination (drop (suc i) pairs) in

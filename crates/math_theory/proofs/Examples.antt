@@ -14,6 +14,13 @@ module _ {A : Type 0} (R : CommutativeRing A) where
   abbrev three : A
   three = sum one two
 
+  -- the cube of a + b
+  pub cube-sum : (a b : A) → product (product (sum a b) (sum a b)) (sum a b) ≡ sum (sum (product (product a a) a) (product three (product (product a a) b))) (sum (product three (product (product a b) b)) (product (product b b) b))
+  cube-sum a b =
+      ring R (a ∷ b ∷ [])
+      (((v0 ⊕ v1) ⊗ (v0 ⊕ v1)) ⊗ (v0 ⊕ v1))
+      ((((v0 ⊗ v0) ⊗ v0) ⊕ ((𝟙 ⊕ (𝟙 ⊕ 𝟙)) ⊗ ((v0 ⊗ v0) ⊗ v1))) ⊕ (((𝟙 ⊕ (𝟙 ⊕ 𝟙)) ⊗ ((v0 ⊗ v1) ⊗ v1)) ⊕ ((v1 ⊗ v1) ⊗ v1))) refl
+
   weighted-horner : (u v : A) (p : List A) → weighted_sum R (values_at R (one ∷ two ∷ []) p) (u ∷ v ∷ []) ≡ sum (product (horner R one p) u) (sum (product (horner R two p) v) R.zero)
   weighted-horner u v p = ap₂ (λ x y. sum (product x u) (sum (product y v) R.zero)) (value-horner R one p) (value-horner R two p)
 

@@ -8,6 +8,10 @@ use Rattle.math_theory.specs.Sums.{weighted_sum}
 use Rattle.math_theory.specs.Values.{value_from, value_over}
 use Rattle.math_theory.proofs.Horner.{scaling_zero}
 
+-- each new one is the sum of two terms
+abbrev pub AreSums : {A : Type 0} → (A → A → Type 0) → (A → A → A) → List (A × A) → List A → Type 0
+AreSums same sum terms new = AllZip (λ x y. same y (sum x.0 x.1)) terms new
+
 module _ {A B : Type 0} {same : A → A → Type 0} {zero : A} {sum : A → A → A} {negative : A → A} {scaling : A → B → A} {same_scalar : B → B → Type 0}
     {zero_scalar : B} {sum_scalar : B → B → B} {product : B → B → B} {one : B}
     (E : IsEquality same) (G : IsGroup same zero sum negative) (M : IsModule same zero sum scaling same_scalar zero_scalar sum_scalar product one)
@@ -40,17 +44,13 @@ module _ {A B : Type 0} {same : A → A → Type 0} {zero : A} {sum : A → A �
   weighted_sum-powers u r e p weights h =
       E.transitive _ _ _ (weighted_sum-coset one u r e p weights h) (M.identity (value_over zero sum scaling one product r p))
 
-  -- each weight is the sum of an old one and a term
-  abbrev pub AreSums : List (B × B) → List B → Type 0
-  AreSums terms weights = AllZip (λ (x : B × B) (w : B). same_scalar w (sum_scalar x.0 x.1)) terms weights
-
   regrouped : (x v y z : A) → same (sum (sum x v) (sum y z)) (sum (sum x y) (sum v z))
   regrouped x v y z =
       let s = λ (k l : A). E.symmetric k l in
       grw (E.transitive, E.reflexive, G.respects_sum, G.associative x v (sum y z), s _ _ (G.associative v y z), G.commutative v y, G.associative y v z, s _ _ (G.associative x y (sum v z)))
 
   weighted_sum-added_from : (a u r : B) → same_scalar u a → (i : ℕ) (p : List A) (old new : List B) → length p ≡ length old
-      → AreSums (zip old (map (product u) (powers_from one product r i (length old)))) new
+      → AreSums same_scalar sum_scalar (zip old (map (product u) (powers_from one product r i (length old)))) new
       → same (weighted_sum zero sum scaling p new) (sum (weighted_sum zero sum scaling p old) (scaling (value_from zero sum scaling one product r i p) a))
   weighted_sum-added_from a u r e i [] old new n h = E.symmetric _ _ (E.transitive _ _ _ (G.identity (scaling zero a)) (scaling_zero E G M a))
   weighted_sum-added_from a u r e i (x ∷ p) [] new n h = absurd (omega arith)
@@ -62,13 +62,13 @@ module _ {A B : Type 0} {same : A → A → Type 0} {zero : A} {sum : A → A �
       = E.transitive _ _ _ (M.respects_scalars x _ _ h.0)
       (E.transitive _ _ _ (M.sum_of_scalars x o (product u t))
       (G.respects_sum _ _ _ _ (E.reflexive (scaling x o)) (E.transitive _ _ _ (M.respects_scalars x _ _ (P.respects _ _ _ _ e (F.reflexive t))) (scaled_term x a t)))) in
-      let rest = weighted_sum-added_from a u r e (suc i) p old new (omega arith) (subst (λ (j : ℕ). AreSums (zip old (map (product u) (powers_from one product r j (length old)))) new) (add-one i) h.1) in
+      let rest = weighted_sum-added_from a u r e (suc i) p old new (omega arith) (subst (λ (j : ℕ). AreSums same_scalar sum_scalar (zip old (map (product u) (powers_from one product r j (length old)))) new) (add-one i) h.1) in
       E.transitive _ _ _ (G.respects_sum _ _ _ _ here rest)
       (E.transitive _ _ _ (regrouped (scaling x o) (scaling (scaling x t) a) (weighted_sum zero sum scaling p old) (scaling v a))
       (G.respects_sum _ _ _ _ (E.reflexive (sum (scaling x o) (weighted_sum zero sum scaling p old))) (E.symmetric _ _ (M.sum_of_points (scaling x t) v a))))
 
   -- a times the powers of r, added to the weights, adds the value at r scaled by a
   pub weighted_sum-added : (a u r : B) → same_scalar u a → (p : List A) (old new : List B) → length p ≡ length old
-      → AreSums (zip old (coset one product u r (length old))) new
+      → AreSums same_scalar sum_scalar (zip old (coset one product u r (length old))) new
       → same (weighted_sum zero sum scaling p new) (sum (weighted_sum zero sum scaling p old) (scaling (value_over zero sum scaling one product r p) a))
   weighted_sum-added a u r e p old new n h = weighted_sum-added_from a u r e 0 p old new n h
