@@ -1,4 +1,4 @@
--- Small cases of the definitions, in every commutative ring.
+-- Small cases of the definitions and of the ring normaliser, in every commutative ring.
 use Rattle.std.proofs.Common.{◌≡◌, ℕ, zero, suc, ◌<◌, ◌≤◌, List, [], ◌∷◌, true, false, true≢false, length, get_or, refl, sym, ◌∙◌, ap₂, arith}
 use Rattle.math_theory.specs.OverRing.{power, value, values_at, weighted_sum, AreWeightsAt, Fits}
 use Rattle.math_theory.specs.Rings.{CommutativeRing}
