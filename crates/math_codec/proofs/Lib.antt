@@ -7,3 +7,11 @@ pub mod ExactScan
 pub mod GroupsWritten
 pub mod Steps
 pub mod LengthFaults
+pub mod FirstPairs
+pub mod MapParts
+pub mod SearchedPairs
+pub mod ItemsSoFar
+pub mod ValuePlaces
+pub mod DistinctValues
+pub mod SeenSoFar
+pub mod SearchedValues

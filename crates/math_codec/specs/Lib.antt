@@ -8,3 +8,5 @@ pub mod LengthLaws
 pub mod Lists
 pub mod ListLaws
 pub mod Theorems
+pub mod OrderedMaps
+pub mod OrderedFaults

@@ -1,0 +1,5 @@
+use Rattle.math_codec.proofs.MapParts.{values_of_view}
+use Rattle.math_codec.proofs.ordered.map.Map.into_values.Goals as goal
+
+pub returns : goal.returns
+returns g c = values_of_view c.self.inside.keys.items c.self.inside.values.items c.args.self c.self.invariant.0 c.self.view_is

@@ -1,0 +1,29 @@
+use Rattle.std.proofs.Common.{◌≡◌, ap, sym, subst, ◌∙◌}
+use Rattle.std.specs.Map.{values_of}
+use Rattle.math_codec.specs.OrderedMaps.{KeysDiffer, ValuesDiffer, HasFirstOfEachKey, IsOrderByValue}
+use Rattle.math_codec.proofs.DistinctValues.{values_differ_kept}
+use Rattle.math_codec.proofs.ItemsSoFar.{vec_items}
+use Rattle.math_codec.proofs.ordered.two_way.BiMap.try_from_iter.Goals as goal
+
+pub invariant_of-result : goal.invariant_of-result
+invariant_of-result g c =
+    let made = c.in_ok-pairs.ensures in
+    let all = vec_items made.0 made.1 c.loop-pair.taken.items made.3 made.2.0 (made.2.1 ∙ c.loop-pair.taken.ok.0) in
+    let differ = subst (ValuesDiffer g.V.Ord.cmp) (c.deref.ensures.value ∙ sym all) c.in_ok-check_distinct.ensures.values in (
+      values_differ_kept g.met.I.Ord.total g.met.V.Ord.total made.1 c.in_ok-pairs.pairs differ made.4,
+      subst (λ vs. IsOrderByValue g.V.Ord.cmp vs c.in_ok-by_value.by_value.items) c.values.ensures c.in_ok-by_value.ensures,
+    )
+
+pub returns-clause-ok : goal.returns-clause-ok
+returns-clause-ok g c =
+    let made = c.in_ok-pairs.ensures in
+    let all = vec_items made.0 made.1 c.loop-pair.taken.items made.3 made.2.0 (made.2.1 ∙ c.loop-pair.taken.ok.0) in
+    let items = c.deref.ensures.value ∙ c.loop-pair.invariant.2 in (
+      c.into_iter-pair-iterator.result,
+      c.loop-pair.yielded,
+      c.into_iter-pair-iterator.ensures.into_iter_gives,
+      (c.next.new.self, (c.loop-pair.pair-iterator, c.loop-pair.yielded_by, c.in-None.ensures.steps)),
+      subst (KeysDiffer g.I.Ord.cmp) items c.in_ok-check_distinct.ensures.keys,
+      subst (ValuesDiffer g.V.Ord.cmp) items c.in_ok-check_distinct.ensures.values,
+      subst (λ xs. HasFirstOfEachKey g.I.Ord.cmp xs c.in_ok-pairs.pairs) (all ∙ c.loop-pair.invariant.2) made.4,
+    )

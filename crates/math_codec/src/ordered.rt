@@ -1,0 +1,16 @@
+//! Maps in the order of their keys.
+//!
+//! A map is a list of pairs whose keys strictly rise, and in a two-way map no value occurs twice
+//! either. Two keys, or two values, are equal where `cmp` answers `Equal`. Building a map of n pairs
+//! takes O(n log n) comparisons, and looking a pair up O(log n).
+
+mod error;
+mod map;
+mod two_way;
+
+pub use error::Error;
+pub use map::Map;
+pub use two_way::BiMap;
+
+#[cfg(test)]
+mod tests;

@@ -1,0 +1,162 @@
+//! Sorted maps.
+
+ghost use Rattle.std.specs.Prelude.{◌≡◌, ◌++◌, ◌∷◌, [], List, length, map, true, IsTrue, ◌↔◌, IfOk, OnOk, not};
+ghost use Rattle.std.specs.Iterator.{IsFiniteIterable, Drains, Yields};
+ghost use Rattle.std.specs.List.{zip};
+ghost use Rattle.std.specs.List.Sorted.{IsStrictlySortedBy};
+ghost use Rattle.std.specs.Map.{keys_of, values_of};
+ghost use Rattle.std.specs.Option.{option_copied};
+ghost use Rattle.math_codec.specs.OrderedMaps.{KeysRise, KeysDiffer, HasFirstOfEachKey, EndsAtRepeatedKey, add_pair, has_key, value_at};
+ghost use Rattle.math_codec.specs.OrderedFaults.{OnDuplicateKey, OnDuplicateValue};
+
+use super::error::Error;
+use crate::codec::Mem;
+use std::alloc::Global;
+use std::collections::BTreeMap;
+use std::marker::Model;
+
+/// Pairs of a key and a value, in the order of the keys, which strictly rise.
+#[derive(Debug, Drop)]
+pub struct Map<I: Ord + Drop, V: Drop> {
+    keys: Vec<I>,
+    values: Vec<V>,
+}
+
+/// Contracts see a map as the list of its pairs.
+impl<I: Ord + Drop, V: Drop> Model for Map<I, V> {
+    ghost Value = { List (I × V) };
+
+    ghost view = { λ m. zip m.keys.items m.values.items };
+
+    ghost invariant = { λ m. (length m.values.items ≡ length m.keys.items) × IsStrictlySortedBy I.cmp m.keys.items };
+}
+
+/// Adds a pair unless its key is there, and says whether it did.
+pub(super) fn add_new<I: Ord + Drop, V: Drop>(
+    entries: &mut BTreeMap<I, V>,
+    key: I,
+    value: V,
+) -> Mem<bool>
+    ensures added { IfOk result (λ added. added ≡ not (has_key I.cmp key entries.old.entries)) }
+    ensures entries { OnOk result (entries.new.entries ≡ add_pair I.cmp entries.old.entries key value) }
+{
+    if entries.contains_key(&key) {
+        return Ok(false);
+    }
+    entries.insert(key, value)?;
+    Ok(true)
+}
+
+impl<I: Ord + Drop, V: Drop> Map<I, V> {
+    /// The pairs of a tree, as a map.
+    pub(super) fn from_entries(alloc: Global, entries: BTreeMap<I, V>) -> Mem<Self>
+        ensures pairs { IfOk result (λ m. m ≡ entries.entries) }
+        ensures rise { IfOk result (λ m. KeysRise I.cmp m) }
+    {
+        let mut keys = Vec::new(alloc);
+        let mut values = Vec::new(alloc);
+        for (key, value) in entries {
+            keys.push(key)?;
+            values.push(value)?;
+        }
+        Ok(Map { keys, values })
+    }
+
+    /// The map of the pairs: of each key the first.
+    ///
+    /// It refuses where memory runs out.
+    pub fn from_iter_dedup<P: IntoIterator<Item = (I, V)>>(alloc: Global, pairs: P) -> Mem<Self>
+    where
+        P::IntoIter: Drop,
+        requires { IsFiniteIterable P.into_iter_gives P.IntoIter.can_next P.IntoIter.remaining pairs }
+        ensures { IfOk result (λ m. (it : P.IntoIter) × (xs : List (I × V)) × P.into_iter_gives pairs it × Drains P.IntoIter.next_gives it xs × HasFirstOfEachKey I.cmp xs m) }
+    {
+        let mut entries = BTreeMap::new(alloc);
+        for (key, value) in pairs {
+            add_new(&mut entries, key, value)?;
+        }
+        Self::from_entries(alloc, entries)
+    }
+
+    /// The map of the pairs, no two of which may have equal keys.
+    ///
+    /// It refuses with `DuplicateKey` at the first pair whose key occurred before, and then asks
+    /// for no more pairs; with `Memory` where memory runs out.
+    pub fn try_from_iter<P: IntoIterator<Item = (I, V)>>(
+        alloc: Global,
+        pairs: P,
+    ) -> Result<Self, Error>
+    where
+        P::IntoIter: Drop,
+        requires { IsFiniteIterable P.into_iter_gives P.IntoIter.can_next P.IntoIter.remaining pairs }
+        ensures ok { IfOk result (λ m. (it : P.IntoIter) × (xs : List (I × V)) × P.into_iter_gives pairs it × Drains P.IntoIter.next_gives it xs × KeysDiffer I.cmp xs × HasFirstOfEachKey I.cmp xs m) }
+        ensures repeated { OnDuplicateKey result ((it : P.IntoIter) × (xs : List (I × V)) × (rest : P.IntoIter) × P.into_iter_gives pairs it × Yields P.IntoIter.next_gives it xs rest × EndsAtRepeatedKey I.cmp xs) }
+        ensures any_value { OnDuplicateValue result ⊥ }
+    {
+        let mut entries = BTreeMap::new(alloc);
+        for (key, value) in pairs {
+            if !add_new(&mut entries, key, value)? {
+                return Err(Error::DuplicateKey);
+            }
+        }
+        let map = Self::from_entries(alloc, entries)?;
+        Ok(map)
+    }
+
+    /// The map with the same keys, and in the order of the keys these values.
+    pub fn with_values<W: Drop>(self, values: Vec<W>) -> Map<I, W>
+        requires { length values.items ≡ length self }
+        ensures { result ≡ zip (keys_of self) values.items }
+    {
+        Map {
+            keys: self.keys,
+            values,
+        }
+    }
+
+    /// The keys, which strictly rise.
+    pub fn keys(&self) -> &[I]
+        ensures keys { result.now ≡ keys_of self.now }
+        ensures rise { KeysRise I.cmp self.now }
+    {
+        &self.keys
+    }
+
+    /// The values, in the order of their keys.
+    pub fn values(&self) -> &[V]
+        ensures { result.now ≡ values_of self.now }
+    {
+        &self.values
+    }
+
+    /// The values alone, in the order of their keys.
+    pub fn into_values(self) -> Vec<V>
+        ensures { result.items ≡ values_of self }
+    {
+        self.values
+    }
+
+    /// The value at a key, found by O(log n) comparisons.
+    pub fn get(&self, key: &I) -> Option<&V>
+        ensures { option_copied result ≡ value_at I.cmp key.now self.now }
+    {
+        match self.keys.binary_search(key) {
+            Ok(place) => self.values.get(place),
+            Err(_) => None,
+        }
+    }
+
+    /// The number of pairs.
+    pub fn len(&self) -> usize
+        ensures { result ≡ length self.now }
+    {
+        self.keys.len()
+    }
+
+    /// Whether the map has no pair.
+    pub fn is_empty(&self) -> bool
+        ensures { IsTrue result ↔ (length self.now ≡ 0) }
+    {
+        self.keys.len() == 0
+    }
+}

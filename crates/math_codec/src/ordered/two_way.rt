@@ -1,0 +1,161 @@
+//! Two-way maps.
+
+ghost use Rattle.std.specs.Prelude.{◌≡◌, ◌++◌, ◌∷◌, [], List, ℕ, length, map, true, IsTrue, ◌↔◌, IfOk, OnOk, IfErr};
+ghost use Rattle.std.specs.Iterator.{IsFiniteIterable, Drains};
+ghost use Rattle.std.specs.Map.{keys_of, values_of};
+ghost use Rattle.std.specs.Option.{option_copied};
+ghost use Rattle.math_codec.specs.OrderedMaps.{KeysRise, KeysDiffer, ValuesDiffer, HasFirstOfEachKey, RepeatsKeyFirst, RepeatsValueFirst, value_at, compared_at, key_with, IsOrderByValue};
+ghost use Rattle.math_codec.specs.OrderedFaults.{OnDuplicateKey, OnDuplicateValue};
+
+use super::error::Error;
+use super::map::{Map, add_new};
+use crate::codec::Mem;
+use std::alloc::Global;
+use std::cmp::Ordering;
+use std::collections::{BTreeMap, BTreeSet};
+use std::marker::Model;
+
+/// Pairs of a key and a value, in the order of the keys, which strictly rise, where no two values
+/// are equal.
+#[derive(Debug, Drop)]
+pub struct BiMap<I: Ord + Drop, V: Ord + Drop> {
+    pairs: Map<I, V>,
+    /// The places of the values, by rising value.
+    by_value: Vec<usize>,
+}
+
+/// Contracts see a two-way map as the list of its pairs.
+impl<I: Ord + Drop, V: Ord + Drop> Model for BiMap<I, V> {
+    ghost Value = { List (I × V) };
+
+    ghost view = { λ m. m.pairs };
+
+    ghost invariant = { λ m. ValuesDiffer V.cmp m.pairs × IsOrderByValue V.cmp (values_of m.pairs) m.by_value.items };
+}
+
+/// Refuses at the first pair whose key or value occurred before, and looks at the key first.
+fn check_distinct<I: Ord + Drop, V: Ord + Drop>(
+    alloc: Global,
+    pairs: &[(I, V)],
+) -> Result<(), Error>
+    ensures keys { OnOk result (KeysDiffer I.cmp pairs.now) }
+    ensures values { OnOk result (ValuesDiffer V.cmp pairs.now) }
+    ensures repeated_key { OnDuplicateKey result (RepeatsKeyFirst I.cmp V.cmp pairs.now) }
+    ensures repeated_value { OnDuplicateValue result (RepeatsValueFirst I.cmp V.cmp pairs.now) }
+{
+    let mut keys = BTreeSet::new(alloc);
+    let mut values = BTreeSet::new(alloc);
+    for (key, value) in pairs {
+        if !keys.insert(key)? {
+            return Err(Error::DuplicateKey);
+        }
+        if !values.insert(value)? {
+            return Err(Error::DuplicateValue);
+        }
+    }
+    Ok(())
+}
+
+/// The places of the values, by rising value.
+fn places_by_value<V: Ord + Drop>(alloc: Global, values: &[V]) -> Mem<Vec<usize>>
+    ensures { IfOk result (λ by_value. IsOrderByValue V.cmp values.now by_value.items) }
+{
+    let mut table = BTreeMap::new(alloc);
+    for place in 0..values.len() {
+        add_new(&mut table, &values[place], place)?;
+    }
+    let by_value = Map::from_entries(alloc, table)?;
+    Ok(by_value.into_values())
+}
+
+impl<I: Ord + Drop, V: Ord + Drop> BiMap<I, V> {
+    /// The two-way map of the pairs, no two of which may have equal keys or equal values.
+    ///
+    /// All pairs are taken, and then looked at in the order in which they came. It refuses at the
+    /// first pair whose key or value occurred before, with `DuplicateKey` for the key and else with
+    /// `DuplicateValue`; with `Memory` where memory runs out.
+    pub fn try_from_iter<P: IntoIterator<Item = (I, V)>>(
+        alloc: Global,
+        pairs: P,
+    ) -> Result<Self, Error>
+    where
+        P::IntoIter: Drop,
+        requires { IsFiniteIterable P.into_iter_gives P.IntoIter.can_next P.IntoIter.remaining pairs }
+        ensures ok { IfOk result (λ m. (it : P.IntoIter) × (xs : List (I × V)) × P.into_iter_gives pairs it × Drains P.IntoIter.next_gives it xs × KeysDiffer I.cmp xs × ValuesDiffer V.cmp xs × HasFirstOfEachKey I.cmp xs m) }
+        ensures repeated_key { OnDuplicateKey result ((it : P.IntoIter) × (xs : List (I × V)) × P.into_iter_gives pairs it × Drains P.IntoIter.next_gives it xs × RepeatsKeyFirst I.cmp V.cmp xs) }
+        ensures repeated_value { OnDuplicateValue result ((it : P.IntoIter) × (xs : List (I × V)) × P.into_iter_gives pairs it × Drains P.IntoIter.next_gives it xs × RepeatsValueFirst I.cmp V.cmp xs) }
+    {
+        let mut taken = Vec::new(alloc);
+        for pair in pairs {
+            taken.push(pair)?;
+        }
+        check_distinct(alloc, &taken)?;
+        let pairs = Map::from_iter_dedup(alloc, taken)?;
+        let by_value = places_by_value(alloc, pairs.values())?;
+        Ok(BiMap { pairs, by_value })
+    }
+
+    /// The key whose value is `value`, found by O(log n) comparisons.
+    pub fn get_key(&self, value: &V) -> Option<&I>
+        ensures { option_copied result ≡ key_with V.cmp value.now self.now }
+    {
+        let values = self.pairs.values();
+        let compared = |place: &usize| -> Ordering
+            ensures { result ≡ compared_at V.cmp values.entry.now value.entry.now place.now }
+        {
+            match values.get(*place) {
+                Some(at) => at.cmp(value),
+                None => Ordering::Equal,
+            }
+        };
+        let found = self.by_value.binary_search_by(compared);
+        match found {
+            Ok(at) => self.pairs.keys().get(self.by_value[at]),
+            Err(_) => None,
+        }
+    }
+
+    /// The value at a key, found by O(log n) comparisons.
+    pub fn get(&self, key: &I) -> Option<&V>
+        ensures { option_copied result ≡ value_at I.cmp key.now self.now }
+    {
+        self.pairs.get(key)
+    }
+
+    /// The keys, which strictly rise.
+    pub fn keys(&self) -> &[I]
+        ensures keys { result.now ≡ keys_of self.now }
+        ensures rise { KeysRise I.cmp self.now }
+    {
+        self.pairs.keys()
+    }
+
+    /// The values, in the order of their keys, no two of which are equal.
+    pub fn values(&self) -> &[V]
+        ensures values { result.now ≡ values_of self.now }
+        ensures differ { ValuesDiffer V.cmp self.now }
+    {
+        self.pairs.values()
+    }
+
+    /// The number of pairs.
+    pub fn len(&self) -> usize
+        ensures { result ≡ length self.now }
+    {
+        self.pairs.len()
+    }
+
+    /// Whether the map has no pair.
+    pub fn is_empty(&self) -> bool
+        ensures { IsTrue result ↔ (length self.now ≡ 0) }
+    {
+        self.pairs.is_empty()
+    }
+
+    /// The pairs as a sorted map.
+    pub fn into_map(self) -> Map<I, V>
+        ensures { result ≡ self }
+    {
+        self.pairs
+    }
+}
