@@ -12,3 +12,6 @@ pub mod ZippedLists
 pub mod CombinationSteps
 pub mod WholeWrites
 pub mod ListSizes
+pub mod WeightLoops
+pub mod InterpolatorLaws
+pub mod EqualKeys

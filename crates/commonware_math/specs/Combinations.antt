@@ -1,11 +1,7 @@
--- Values of polynomials over a ring, and linear combinations of values.
+-- Linear combinations of values of polynomials.
 use Rattle.std.specs.Prelude.{List, [], ◌∷◌}
 use Rattle.math_theory.specs.Values.{value_over}
 use Rattle.math_base.specs.Members.{RingOf, SpaceOf}
-
--- the value at r of the polynomial with coefficients a in the ring itself: the sum of a_i times r to the power i
-abbrev pub value_in_ring : {A : Type 0} → RingOf A → List A → A → A
-value_in_ring R a r = value_over R.zero R.sum R.product R.one R.product r a
 
 -- over explicit operations, the sum over the pairs (weight, point) of the value at the point scaled by the weight
 abbrev pub combination_over : {A B : Type 0} → A → (A → A → A) → (A → B → A) → B → (B → B → B) → List A → List (B × B) → A

@@ -4,4 +4,4 @@
 pub mod poly;
 
 pub use math_base::{algebra, fields};
-pub use math_codec::codec;
+pub use math_codec::{codec, ordered};

@@ -10,9 +10,11 @@ ghost use Rattle.math_base.specs.Members.{value};
 mod algebra;
 mod commitment;
 mod evaluation;
+mod interpolation;
 mod sampling;
 mod writing;
 
+pub use interpolation::Interpolator;
 use math_base::algebra::{Mem, Ring, Space};
 use math_codec::codec::{Encoding, Error, LengthRange, Read, read_list};
 use std::alloc::Global;

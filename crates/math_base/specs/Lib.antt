@@ -1,5 +1,6 @@
 pub use Rattle.math_theory.specs.Laws as Laws
 pub mod Members
+pub mod Polynomials
 pub mod Roots
 pub mod Samples
 pub mod Elements

@@ -1,6 +1,7 @@
 -- Horner's rule over a module, up to the type's own equality: the value of a ∷ p at r is a plus the value of p at r scaled by r.
 use Rattle.std.proofs.Common.{ℕ, suc, List, [], ◌∷◌, ◌++◌, map, reverse, Bor}
 use Rattle.std.proofs.lemmas.List.{map-append, reverse-append}
+use Rattle.math_theory.specs.Coefficients.{coefficient}
 use Rattle.math_theory.specs.Laws.{IsEquality, IsGroup, IsModule}
 use Rattle.math_theory.specs.Powers.{power, power-zero, power-suc}
 use Rattle.math_theory.specs.Values.{value_from, value_over}
@@ -32,6 +33,13 @@ module _ {A B : Type 0} {same : A → A → Type 0} {zero : A} {sum : A → A �
   pub value_over-cons : (r : B) (a : A) (p : List A) → same (value_over zero sum scaling one product r (a ∷ p)) (sum a (scaling (value_over zero sum scaling one product r p) r))
   value_over-cons r a p =
       rw (power-zero one product r) (G.respects_sum _ _ _ _ (M.identity a) (value_from-suc r 0 p))
+
+  -- the value at zero is the first coefficient
+  pub value_over-at_zero : (a : List A) → same (value_over zero sum scaling one product zero_scalar a) (coefficient zero a 0)
+  value_over-at_zero [] = E.reflexive zero
+  value_over-at_zero (c ∷ a) =
+      E.transitive _ _ _ (value_over-cons zero_scalar c a)
+      (E.transitive _ _ _ (G.respects_sum _ _ _ _ (E.reflexive c) (M.annihilation (value_over zero sum scaling one product zero_scalar a))) (E.transitive _ _ _ (G.commutative c zero) (G.identity c)))
 
   -- a step of the loop that goes over the coefficients from the last to the first
   pub horner_step : (taken : List (Bor A)) (b : Bor A) (r : B) (before scaled after : A) → same before (value_over zero sum scaling one product r (reverse (map (λ x. x.now) taken)))

@@ -54,7 +54,7 @@ module _ {A : Type 0} (F : Field A) where
       ap (product (product (sum (get_or others k d) (negative y)) (inverse (sum p (negative y))))) (lagrange_weight-zero p others k d (omega arith)) ∙ product-zero R _
 
   -- the other points are apart from point i
-  others-apart : (points : List A) (i : ℕ) → AreDistinct points → i < length points → All (λ y. get_or points i F.zero ≢ y) (remove points i)
+  pub others-apart : (points : List A) (i : ℕ) → AreDistinct points → i < length points → All (λ y. get_or points i F.zero ≢ y) (remove points i)
   others-apart points i d l k e m =
       elim (cases_lt k i) [
         | inl below ↦ λ z. d k i F.zero below l (sym (z ∙ get_or_default (remove points i) k e F.zero m ∙ get_or-remove_below points i F.zero k below l))

@@ -16,6 +16,7 @@ pub mod Roots
 pub mod RootProducts
 pub mod Lagrange
 pub mod Interpolation
+pub mod WeightQuotients
 pub mod WeightsInSpaces
 pub mod FilledItems
 pub mod Fitting
@@ -24,6 +25,8 @@ pub mod ClassesOfLists
 pub mod CarriedRingLaws
 pub mod CarriedRoots
 pub mod CarriedInterpolation
+pub mod SharedInverse
+pub mod DifferenceProducts
 pub mod CarriedRecovery
 pub mod Examples
 pub mod PowersModulo

@@ -1,12 +1,25 @@
 -- Weights at given points, by which the values of a polynomial there give its value elsewhere.
 use Rattle.std.specs.List.{range_with_len}
-use Rattle.std.specs.Prelude.{◌≡◌, ◌≤◌, List, [], ◌∷◌, length, map, slice_index_or, remove, AllPairs}
+use Rattle.std.specs.Prelude.{◌≡◌, ◌≢◌, ◌≤◌, ◌<◌, ℕ, List, [], ◌∷◌, length, map, slice_index_or, remove, AllPairs}
+use Rattle.math_theory.specs.RootProducts.{root_product}
 use Rattle.math_theory.specs.Sums.{weighted_sum}
 use Rattle.math_theory.specs.Values.{value}
 
 -- no two are same
 abbrev pub AreApart : {A : Type 0} → (A → A → Type 0) → List A → Type 0
 AreApart same xs = AllPairs (λ x y. ¬ (same x y)) xs
+
+-- some two are same
+abbrev pub SomeAreSame : {A : Type 0} → (A → A → Type 0) → List A → Type 0
+SomeAreSame {A} same xs = (i : ℕ) × (j : ℕ) × (d : A) × (i < j) × (j < length xs) × same (slice_index_or xs i d) (slice_index_or xs j d)
+
+-- item k is same as x, and no item before it is
+abbrev pub IsFirstPlace : {A : Type 0} → (A → A → Type 0) → A → List A → ℕ → Type 0
+IsFirstPlace same x xs k = (k < length xs) × same (slice_index_or xs k x) x × ((i : ℕ) → i < k → ¬ (same (slice_index_or xs i x) x))
+
+-- item k is same as one, and every other item is same as zero
+abbrev pub IsOneAt : {A : Type 0} → (A → A → Type 0) → A → A → ℕ → List A → Type 0
+IsOneAt same zero one k xs = same (slice_index_or xs k zero) one × ((i : ℕ) → i < length xs → i ≢ k → same (slice_index_or xs i zero) zero)
 
 -- the values of a at the points
 abbrev pub values_at : {A : Type 0} → A → (A → A → A) → (A → A → A) → A → List A → List A → List A
@@ -27,3 +40,8 @@ lagrange_weight sum negative product one inverse x p (y ∷ others) =
 abbrev pub lagrange_weights : {A : Type 0} → A → (A → A → A) → (A → A) → (A → A → A) → A → (A → A) → A → List A → List A
 lagrange_weights zero sum negative product one inverse x points =
     map (λ i. lagrange_weight sum negative product one inverse x (slice_index_or points i zero) (remove points i)) (range_with_len 0 (length points))
+
+-- x - p times the product of p - y over the other points y, where p is point i; divided by it, the product of x - y over all points y is weight i
+abbrev pub weight_divisor : {A : Type 0} → A → (A → A → A) → (A → A) → (A → A → A) → A → A → List A → ℕ → A
+weight_divisor zero sum negative product one x points i =
+    product (sum x (negative (slice_index_or points i zero))) (root_product sum negative product one (slice_index_or points i zero) (remove points i))

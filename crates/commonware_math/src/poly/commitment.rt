@@ -3,7 +3,7 @@
 ghost use Rattle.std.specs.Prelude.{◌≡◌, IfOk, length};
 ghost use Rattle.std.specs.List.{AllZip};
 ghost use Rattle.math_base.specs.Members.{value};
-ghost use Rattle.commonware_math.specs.Combinations.{value_in_ring};
+ghost use Rattle.math_base.specs.Polynomials.{value_in_ring};
 
 use super::Poly;
 use math_base::algebra::{CryptoGroup, Mem};
