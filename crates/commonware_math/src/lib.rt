@@ -5,3 +5,4 @@ pub mod poly;
 
 pub use math_base::{algebra, fields};
 pub use math_codec::{codec, ordered};
+pub use math_ntt::ntt;

@@ -1,0 +1,5 @@
+pub use Rattle.math_base.specs.Samples as Samples
+pub mod Matrices
+pub mod MatrixLends
+pub mod MatrixEncoding
+pub mod MatrixEncodingLaws
