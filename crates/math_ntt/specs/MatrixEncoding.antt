@@ -37,7 +37,7 @@ scan_count most bytes = do
   n ← length_at bytes
   if nat_lt most n.0 then Err (InvalidLength n.0) else Ok n
 
--- what a read of a matrix leaves, or the first fault; where the list has not rows times columns cells, that is the last one
+-- what a read of a matrix leaves, or the first fault; that the list has not rows times columns cells is found after its cells are read
 unfoldable pub scan_matrix : ℕ → (List ℕ → Result (List ℕ) Fault) → List ℕ → Result (List ℕ) Fault
 scan_matrix most scan bytes = do
   rows ← scan_count most bytes
