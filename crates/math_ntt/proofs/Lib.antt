@@ -5,3 +5,9 @@ pub mod WholeWrites
 pub mod MatrixRows
 pub mod MatrixProducts
 pub mod WrittenRows
+pub mod WordBits
+pub mod BitmapPoints
+pub mod PaddedPolynomials
+pub mod FirstRows
+pub mod WrittenCells
+pub mod ComparedTruths

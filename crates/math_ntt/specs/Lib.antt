@@ -3,3 +3,6 @@ pub mod Matrices
 pub mod MatrixLends
 pub mod MatrixEncoding
 pub mod MatrixEncodingLaws
+pub mod Bitmaps
+pub mod PolynomialRows
+pub mod Evaluations

@@ -1,5 +1,11 @@
 //! Bitmaps of points, matrices, and vectors of polynomials and of their values at a domain.
 
+mod evaluations;
 mod matrix;
+mod polynomials;
+mod vanishing_points;
 
+pub use evaluations::EvaluationVector;
 pub use matrix::{Matrix, Rows};
+pub use polynomials::{CoefficientRows, PolynomialVector};
+pub use vanishing_points::VanishingPoints;

@@ -89,7 +89,7 @@ impl<F: Additive> Matrix<F> {
 }
 
 /// The cells, and after them as many zeros as make their number `count`.
-fn filled_up<F: Additive>(alloc: Global, cells: Vec<F>, count: usize) -> Mem<Vec<F>>
+pub(super) fn filled_up<F: Additive>(alloc: Global, cells: Vec<F>, count: usize) -> Mem<Vec<F>>
     requires { length cells.items ≤ count }
     ensures count { IfOk result (λ v. length v.items ≡ count) }
     ensures cells { IfOk result (λ v. AreFilledUp F.same F.zero cells.items v.items) }
@@ -253,9 +253,9 @@ impl<F: fmt::Debug + Drop> fmt::Debug for Matrix<F> {
 /// The rows of a matrix, in their order: see `Matrix::iter`.
 #[derive(Drop)]
 pub struct Rows<'a, F: Drop> {
-    left: usize,
-    cols: usize,
-    cells: &'a [F],
+    pub(super) left: usize,
+    pub(super) cols: usize,
+    pub(super) cells: &'a [F],
 }
 
 /// The rows that are left.

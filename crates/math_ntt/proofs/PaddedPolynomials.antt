@@ -1,0 +1,72 @@
+-- The columns of a matrix that is filled up with rows of zeros.
+use Rattle.std.proofs.Common.{◌≡◌, ◌∙◌, inl, inr, ℕ, suc, ◌+◌, ◌-◌, ◌*◌, ◌/◌, ◌^◌, ◌<◌, ◌≤◌, List, ◌++◌, length, take, drop, get_or, max, ap, refl, sym, arith, pow_mono, pow_pos}
+use Rattle.std.specs.Int.{IsNextPowerOfTwo, IsPowerOfTwo}
+use Rattle.std.specs.List.{All, AllZip}
+use Rattle.std.proofs.lemmas.Bool.{cases_lt, cases_order}
+use Rattle.std.proofs.lemmas.List.{get_or-take, get_or-drop, get_or_past, get_or_append_left, get_or-append-add}
+use Rattle.std.proofs.lemmas.List.Elements.{AllZip-get_or, length_all_zip}
+use Rattle.std.proofs.lemmas.Nat.{mul-le, mul-add-lt}
+use Rattle.math_theory.proofs.RootOrders.{power_of_two-suc}
+use Rattle.math_theory.specs.Laws.{IsEquality}
+use Rattle.math_ntt.specs.Matrices.{MatrixOf, row_of, column_of, cell_of, AreFilledUp}
+use Rattle.math_ntt.specs.PolynomialRows.{FitsPadded, HaveSamePolynomials}
+use Rattle.math_ntt.proofs.MatrixRows.{length-column, column-at}
+
+-- where the least power of two that is n or more fits a word, n is at most 2^63
+pub padded-below : {A : Type 0} (m : MatrixOf A) (n : ℕ) → n < 2 ^ 64 → FitsPadded m n → n ≤ 2 ^ 63
+padded-below m n l h =
+    elim (cases_lt (2 ^ 63) n) [
+      | inl above ↦ absurd (let q = (h (2 ^ 64) ((64, refl), omega arith, omega arith)).0 in omega (arith, q))
+      | inr below ↦ omega (arith, below)
+    ]
+
+exponent-below : (n i j : ℕ) → n ≤ 2 ^ i → 2 ^ j / 2 < max 1 n → j ≤ i
+exponent-below n i j h k =
+    elim (cases_lt i j) [
+      | inl m ↦ absurd (omega (arith, power_of_two-suc i, let p : 2 ^ suc i ≤ 2 ^ j = pow_mono m in p, pow_pos i, h, k))
+      | inr m ↦ m
+    ]
+
+-- there is only one such power of two
+pub next_power_of_two-once : (n p q : ℕ) → IsNextPowerOfTwo n p → IsNextPowerOfTwo n q → p ≡ q
+next_power_of_two-once n p q h k =
+    let low : n ≤ 2 ^ h.0.0 = rw (← h.0.1) h.1 in
+    let i : k.0.0 ≤ h.0.0 = exponent-below n h.0.0 k.0.0 low (rw (← k.0.1) k.2) in
+    let j : h.0.0 ≤ k.0.0 = exponent-below n k.0.0 h.0.0 (rw (← k.0.1) k.1) (rw (← h.0.1) h.2) in
+    h.0.1 ∙ ap (λ e. 2 ^ e) (let e : h.0.0 ≡ k.0.0 = omega (arith, i, j) in e) ∙ sym k.0.1
+
+module _ {A : Type 0} {same : A → A → Type 0} (E : IsEquality same) (zero_of : A) where
+  -- coefficient i of column k is the cell in row i, also past the last row, where there is none
+  column-cell : (m : MatrixOf A) (k i : ℕ) → k < m.cols → length m.cells ≡ m.rows * m.cols → get_or (column_of zero_of m k) i zero_of ≡ cell_of zero_of m i k
+  column-cell m k i l e =
+      elim (cases_lt i m.rows) [
+        | inl within ↦
+            column-at zero_of m k i zero_of within
+            ∙ get_or-take m.cols (drop (i * m.cols) m.cells) k zero_of l
+            ∙ get_or-drop (i * m.cols) m.cells k zero_of
+        | inr past ↦
+            let cells : m.rows * m.cols ≤ i * m.cols = mul-le m.rows m.cols i m.cols (omega (arith, past)) (omega arith) in
+            get_or_past (column_of zero_of m k) i zero_of (rw (length-column zero_of m k) (omega (arith, past)))
+            ∙ sym (get_or_past m.cells (i * m.cols + k) zero_of (rw e (omega (arith, cells))))
+      ]
+
+  -- each place holds the same cell, or zero where there is none
+  padded-at : (items copies cells : List A) (p : ℕ) → AllZip same copies items → AreFilledUp same zero_of copies cells → same (get_or cells p zero_of) (get_or items p zero_of)
+  padded-at items copies cells p h f =
+      let long : length copies ≡ length items = length_all_zip same copies items h in
+      rw f.1 (elim (cases_lt p (length copies)) [
+        | inl within ↦ rw (get_or_append_left copies f.0 zero_of p within) (AllZip-get_or same copies items p zero_of zero_of h within)
+        | inr past ↦
+            let q = p - length copies in
+            let at : p ≡ length copies + q = omega (arith, past) in
+            let none : get_or items p zero_of ≡ zero_of = get_or_past items p zero_of (omega (arith, past, long)) in
+            rw (none, at, get_or-append-add copies f.0 q zero_of) (elim (cases_lt q (length f.0)) [
+              | inl there ↦ f.2 q zero_of there
+              | inr after ↦ rw (get_or_past f.0 q zero_of after) (E.reflexive zero_of)
+            ])
+      ])
+
+  pub same_polynomials : (m : MatrixOf A) (n : ℕ) (copies cells : List A) → length m.cells ≡ m.rows * m.cols → length cells ≡ n * m.cols
+      → AllZip same copies m.cells → AreFilledUp same zero_of copies cells → HaveSamePolynomials same zero_of (record { rows = n; cols = m.cols; cells = cells }) m
+  same_polynomials m n copies cells e f h k j l i =
+      rw (column-cell (record { rows = n; cols = m.cols; cells = cells }) j i l f, column-cell m j i l e) (padded-at m.cells copies cells (i * m.cols + j) h k)

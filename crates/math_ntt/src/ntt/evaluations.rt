@@ -1,0 +1,108 @@
+//! Values of polynomials at the points of a domain.
+
+ghost use Rattle.std.specs.Prelude.{◌≡◌, ◌↔◌, ◌*◌, ◌<◌, ◌≤◌, ◌^◌, IsTrue, IsOk, IfOk, OnOk, OnErr, length, replicate, false};
+ghost use Rattle.std.specs.List.{All};
+ghost use Rattle.math_theory.specs.Recovery.{count_true};
+ghost use Rattle.math_ntt.specs.Matrices.{IsOfSize};
+ghost use Rattle.math_ntt.specs.Evaluations.{IsFilledAt, AreSameEvaluations};
+
+use super::matrix::{Matrix, copies, filled_up};
+use super::vanishing_points::VanishingPoints;
+use math_base::algebra::{Additive, Mem, Object};
+use std::alloc::Global;
+use std::marker::Model;
+
+/// Values of polynomials at the points of a domain of a power of two of points, one polynomial a
+/// column: row i holds the value of each at point i, which is power i of the root. Some rows are
+/// filled, and the others are to be recovered.
+#[derive(Debug, Drop)]
+pub struct EvaluationVector<F: Drop> {
+    pub(super) matrix: Matrix<F>,
+    pub(super) filled: VanishingPoints,
+}
+
+/// The matrix of the values, and a truth value a row, true where the row is filled.
+impl<F: Drop> Model for EvaluationVector<F> {
+    ghost use Rattle.std.specs.Prelude.{◌≡◌, length};
+    ghost use Rattle.std.specs.Int.{IsPowerOfTwo};
+    ghost use Rattle.math_ntt.specs.Evaluations.{EvaluationsOf};
+
+    ghost Value = { EvaluationsOf F };
+
+    ghost view = { λ v. record { matrix = v.matrix; filled = v.filled } };
+
+    ghost invariant = { λ v. IsPowerOfTwo v.matrix.rows × (length v.filled ≡ v.matrix.rows) };
+}
+
+impl<F: Additive> EvaluationVector<F> {
+    /// 2^lg_rows rows of `cols` cells, each of which is zero. No row is filled.
+    ///
+    /// `lg_rows` is below 64, and the number of cells below 2^64.
+    pub fn empty(alloc: Global, lg_rows: usize, cols: usize) -> Mem<Self>
+        requires small { lg_rows < 64 }
+        requires fits { 2 ^ lg_rows * cols < 2 ^ 64 }
+        ensures size { IfOk result (λ v. IsOfSize v.matrix (2 ^ lg_rows) cols) }
+        ensures cells { IfOk result (λ v. All (λ cell. F.same cell F.zero) v.matrix.cells) }
+        ensures filled { IfOk result (λ v. v.filled ≡ replicate (2 ^ lg_rows) false) }
+    {
+        let rows = 1 << lg_rows;
+        let cells = filled_up(alloc, Vec::new(alloc), rows * cols)?;
+        let matrix = Matrix { rows, cols, cells };
+        let filled = VanishingPoints::new(alloc, lg_rows as u32)?;
+        Ok(EvaluationVector { matrix, filled })
+    }
+
+    /// Puts copies of `data` in place of the first cells of a row, which counts as filled from then on.
+    /// The further cells are as they were. Where it is refused, all of them are, and so is what counts
+    /// as filled: each copy is made before the first cell is written.
+    ///
+    /// `row` is below the number of rows, and `data` has no more items than there are columns.
+    pub fn fill_row(&mut self, alloc: Global, row: usize, data: &[F]) -> Mem<()>
+        requires row { row < self.old.matrix.rows }
+        requires few { length «data».now ≤ self.old.matrix.cols }
+        ensures ok { OnOk result (IsFilledAt F.same self.old row «data».now self.new) }
+        ensures err { OnErr result (self.new ≡ self.old) }
+    {
+        let mut copies = copies(alloc, data)?;
+        let matrix = &mut self.matrix;
+        let from = row * matrix.cols;
+        let cells = matrix.cells.slice_mut(from..from + data.len());
+        cells.swap_with_slice(&mut copies);
+        self.filled.set_non_vanishing(row as u64);
+        Ok(())
+    }
+}
+
+impl<F: Drop> EvaluationVector<F> {
+    /// The matrix of the cells, of filled rows and of others.
+    pub fn data(self) -> Matrix<F>
+        ensures { result ≡ self.matrix }
+    {
+        self.matrix
+    }
+
+    /// How many distinct rows are filled.
+    pub fn filled_rows(&self) -> usize
+        ensures { result ≡ count_true self.now.filled }
+    {
+        self.filled.count_non_vanishing() as usize
+    }
+}
+
+impl<F: Object> EvaluationVector<F> {
+    /// Whether both have as many rows, as many columns, in each place the same cell, and the same rows
+    /// are filled. Where calls on cells are never refused, neither is this one.
+    pub fn equals(&self, alloc: Global, other: &Self) -> Mem<bool>
+        ensures ok { IfOk result (λ answer. IsTrue answer ↔ AreSameEvaluations F.same self.now other.now) }
+        ensures never { IsTrue F.NEVER_REFUSES → IsOk result }
+    {
+        if self.filled != other.filled {
+            return Ok(false);
+        }
+        let out = self.matrix.equals(alloc, &other.matrix)?;
+        Ok(out)
+    }
+}
+
+#[cfg(test)]
+mod tests;

@@ -1,0 +1,132 @@
+//! Vectors of polynomials.
+
+ghost use Rattle.std.specs.Prelude.{◌≡◌, ◌↔◌, ◌<◌, ◌^◌, IsTrue, IsOk, IsSome, IfOk, IfSome, length, min, take};
+ghost use Rattle.std.specs.Int.{IsNextPowerOfTwo};
+ghost use Rattle.std.specs.Iterator.{YieldsFirstRef, item_count};
+ghost use Rattle.math_ntt.specs.Matrices.{rows_of, IsOfSize, AreSame};
+ghost use Rattle.math_ntt.specs.PolynomialRows.{AreEnough, FitsPadded, HaveSamePolynomials};
+
+use super::matrix::{Matrix, Rows, copies, filled_up};
+use math_base::algebra::{Additive, Mem, Object};
+use std::alloc::Global;
+use std::marker::Model;
+
+/// Polynomials with the same number of coefficients, a power of two, one polynomial a column: row i
+/// holds coefficient i of each. The last coefficients may be zero.
+#[derive(Debug, Drop)]
+pub struct PolynomialVector<F: Drop> {
+    pub(super) coefficients: Matrix<F>,
+}
+
+/// A vector of polynomials is the matrix of the coefficients.
+impl<F: Drop> Model for PolynomialVector<F> {
+    ghost use Rattle.std.specs.Int.{IsPowerOfTwo};
+    ghost use Rattle.math_ntt.specs.Matrices.{MatrixOf};
+
+    ghost Value = { MatrixOf F };
+
+    ghost view = { λ v. v.coefficients };
+
+    ghost invariant = { λ v. IsPowerOfTwo v.coefficients.rows };
+}
+
+impl<F: Additive> Matrix<F> {
+    /// The polynomials whose coefficients are the columns of this matrix, from the constant upwards,
+    /// filled up with zeros to N rows, where N is the least power of two that is `min_coefficients` or
+    /// more. Where `min_coefficients` is 0, or less than the number of rows, it is `None`.
+    ///
+    /// Where it is `Some`, N and N times the number of columns have to be below 2^64.
+    pub fn as_polynomials(
+        &self,
+        alloc: Global,
+        min_coefficients: usize,
+    ) -> Mem<Option<PolynomialVector<F>>>
+        requires fits { AreEnough self.now min_coefficients → FitsPadded self.now min_coefficients }
+        ensures some { IfOk result (λ answer. IsSome answer ↔ AreEnough self.now min_coefficients) }
+        ensures rows { IfOk result (λ answer. IfSome answer (λ v. IsNextPowerOfTwo min_coefficients v.rows)) }
+        ensures size { IfOk result (λ answer. IfSome answer (λ v. IsOfSize v v.rows self.now.cols)) }
+        ensures polynomials { IfOk result (λ answer. IfSome answer (λ v. HaveSamePolynomials F.same F.zero v self.now)) }
+    {
+        if min_coefficients == 0 || min_coefficients < self.rows {
+            return Ok(None);
+        }
+        let rows = min_coefficients.next_power_of_two();
+        let cells = filled_up(alloc, copies(alloc, &self.cells)?, rows * self.cols)?;
+        let coefficients = Matrix {
+            rows,
+            cols: self.cols,
+            cells,
+        };
+        Ok(Some(PolynomialVector { coefficients }))
+    }
+}
+
+impl<F: Drop> PolynomialVector<F> {
+    /// The rows of the coefficients from the constants upwards, n rows or all where they are fewer.
+    /// Each row has one coefficient a polynomial.
+    pub fn coefficients_up_to(&self, n: usize) -> CoefficientRows<'_, F>
+        ensures rows { result ≡ take n (rows_of self.now) }
+        ensures count { length result ≡ min n self.now.rows }
+        ensures fits { length result < 2 ^ 64 }
+    {
+        let matrix = &self.coefficients;
+        let left = n.min(matrix.rows);
+        CoefficientRows {
+            rows: Rows {
+                left,
+                cols: matrix.cols,
+                cells: &matrix.cells[..left * matrix.cols],
+            },
+        }
+    }
+}
+
+impl<F: Object> PolynomialVector<F> {
+    /// Polynomials that equal these.
+    pub fn clone(&self, alloc: Global) -> Mem<Self>
+        ensures { IfOk result (λ copy. AreSame F.same copy self.now) }
+    {
+        let coefficients = self.coefficients.clone(alloc)?;
+        Ok(PolynomialVector { coefficients })
+    }
+
+    /// Whether both have as many polynomials, as many coefficients of each, and in each place the same
+    /// coefficient. Where calls on coefficients are never refused, neither is this one.
+    pub fn equals(&self, alloc: Global, other: &Self) -> Mem<bool>
+        ensures ok { IfOk result (λ answer. IsTrue answer ↔ AreSame F.same self.now other.now) }
+        ensures never { IsTrue F.NEVER_REFUSES → IsOk result }
+    {
+        let out = self.coefficients.equals(alloc, &other.coefficients)?;
+        Ok(out)
+    }
+}
+
+/// The first rows of a vector of polynomials: see `PolynomialVector::coefficients_up_to`.
+#[derive(Drop)]
+pub struct CoefficientRows<'a, F: Drop> {
+    rows: Rows<'a, F>,
+}
+
+/// The rows that are left.
+impl<'a, F: Drop> Model for CoefficientRows<'a, F> {
+    ghost use Rattle.std.specs.Prelude.{List};
+
+    ghost Value = { List (List F) };
+
+    ghost view = { λ s. s.rows };
+}
+
+impl<'a, F: Drop> Iterator for CoefficientRows<'a, F> {
+    type Item = &'a [F];
+
+    ghost next_gives = { YieldsFirstRef (λ rows. rows) };
+
+    ghost remaining = { item_count (λ rows. rows) };
+
+    fn next(&mut self) -> Option<&'a [F]> {
+        self.rows.next()
+    }
+}
+
+#[cfg(test)]
+mod tests;
