@@ -10,7 +10,6 @@ pub mod GeometricItems
 pub mod AddedTerms
 pub mod ZippedLists
 pub mod CombinationSteps
-pub mod WholeWrites
 pub mod ListSizes
 pub mod WeightLoops
 pub mod InterpolatorLaws

@@ -4,12 +4,7 @@ use Rattle.std.specs.List.{AllZip}
 use Rattle.std.proofs.Math.Seq.{get_or-append_seam}
 use Rattle.std.proofs.lemmas.Bool.{cases_lt}
 use Rattle.std.proofs.lemmas.List.{take_more, get_or_append_left}
-
-AllZip-append : {A B : Type 0} (R : A → B → Type 0) (xs : List A) (ys : List B) (x : A) (y : B) → AllZip R xs ys → R x y → AllZip R (xs ++ x ∷ []) (ys ++ y ∷ [])
-AllZip-append R [] [] x y h k = (k, tt)
-AllZip-append R [] (b ∷ ys) x y h k = absurd h
-AllZip-append R (a ∷ xs) [] x y h k = absurd h
-AllZip-append R (a ∷ xs) (b ∷ ys) x y h k = (h.0, AllZip-append R xs ys x y h.1 k)
+use Rattle.math_theory.proofs.PlaceByPlace.{AllZip-append}
 
 -- one more place
 pub AllZip-next : {A B : Type 0} (R : A → B → Type 0) (xs : List A) (ys : List B) (i : ℕ) (x : A) (y : B) → i < length xs → x ≡ get_or xs i x

@@ -2,18 +2,13 @@
 use Rattle.std.proofs.Common.{◌≡◌, ℕ, ◌+◌, ◌<◌, List, [], ◌∷◌, ◌++◌, length, take, get_or}
 use Rattle.std.specs.List.{AllZip}
 use Rattle.std.proofs.lemmas.List.{take_more}
+use Rattle.math_theory.proofs.PlaceByPlace.{AllZip-append}
 
 module _ {A B : Type 0} (R : A → B → Type 0) where
-  AllZip-append : (xs : List A) (ys : List B) (x : A) (y : B) → AllZip R xs ys → R x y → AllZip R (xs ++ x ∷ []) (ys ++ y ∷ [])
-  AllZip-append [] [] x y h k = (k, tt)
-  AllZip-append [] (b ∷ ys) x y h k = absurd h
-  AllZip-append (a ∷ xs) [] x y h k = absurd h
-  AllZip-append (a ∷ xs) (b ∷ ys) x y h k = (h.0, AllZip-append xs ys x y h.1 k)
-
   -- one more item, beside the next place of a list
   pub AllZip-push : (xs : List A) (ys : List B) (i : ℕ) (x : A) (y : B) → i < length ys → y ≡ get_or ys i y
       → AllZip R xs (take i ys) → R x y → AllZip R (xs ++ x ∷ []) (take (i + 1) ys)
-  AllZip-push xs ys i x y l e h k = rw (take_more ys i y l, ← e) (AllZip-append xs (take i ys) x y h k)
+  AllZip-push xs ys i x y l e h k = rw (take_more ys i y l, ← e) (AllZip-append R xs (take i ys) x y h k)
 
   -- the next place of both lists
   pub AllZip-next : (xs : List A) (ys : List B) (i : ℕ) (x : A) (y : B) → i < length xs → x ≡ get_or xs i x → i < length ys → y ≡ get_or ys i y

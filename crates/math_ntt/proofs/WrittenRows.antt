@@ -3,7 +3,7 @@ use Rattle.std.proofs.Common.{◌≡◌, ◌∙◌, ℕ, ◌+◌, ◌*◌, ◌<�
 use Rattle.std.proofs.lemmas.List.{drop-drop, length-append, length-take-le, length-drop}
 use Rattle.math_ntt.specs.Matrices.{MatrixOf}
 use Rattle.math_ntt.specs.MatrixLends.{with_row}
-use Rattle.math_ntt.proofs.WholeWrites.{take-written}
+use Rattle.math_theory.proofs.WholeWrites.{take-written}
 
 -- a row lies within the cells
 pub row-within : (i rows cols : ℕ) → i < rows → i * cols + cols ≤ rows * cols

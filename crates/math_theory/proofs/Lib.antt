@@ -41,6 +41,8 @@ pub mod ResidueLaws
 pub mod BitLists
 pub mod BitPieces
 pub mod ListMaps
+pub mod PlaceByPlace
+pub mod WholeWrites
 pub mod PowerLists
 pub mod RootOrders
 pub mod EvenOddItems
