@@ -1,5 +1,5 @@
 -- Lists whose comparison answers that they are equal.
-use Rattle.std.proofs.Common.{◌≡◌, ◌∙◌, sym, ap, Bool, true, false, refl, List, [], ◌∷◌}
+use Rattle.std.proofs.Common.{◌≡◌, ◌∙◌, sym, ap, true, false, refl, List, [], ◌∷◌}
 use Rattle.std.specs.Cmp.Lexicographic.{slice_cmp}
 use Rattle.std.specs.List.{AllZip}
 use Rattle.std.specs.Ordering.{ordering_then, is_ne}

@@ -1,10 +1,9 @@
 -- The sum of the rows of a matrix, each scaled by a cell of a row: in each place it is the sum of the products of that row and a column.
-use Rattle.std.proofs.Common.{◌≡◌, inl, ℕ, ◌+◌, ◌<◌, ◌≤◌, List, [], ◌∷◌, length, drop, get_or, refl, arith}
+use Rattle.std.proofs.Common.{◌≡◌, ℕ, ◌+◌, ◌<◌, List, ◌∷◌, length, drop, get_or, refl, arith}
 use Rattle.std.proofs.lemmas.List.{drop_more}
-use Rattle.std.proofs.Math.ListN.{drop_of_length-le}
 use Rattle.math_theory.specs.Laws.{IsEquality, IsGroup, IsProduct}
 use Rattle.math_theory.specs.Sums.{weighted_sum}
-use Rattle.math_theory.proofs.WeightedSums.{weighted_sum-start, weighted_sum-step, weighted_sum-end}
+use Rattle.math_theory.proofs.WeightedSums.{weighted_sum-start, weighted_sum-step}
 use Rattle.math_ntt.specs.Matrices.{MatrixOf, row_of, column_of}
 use Rattle.math_ntt.proofs.MatrixRows.{length-column, column-at}
 
@@ -31,9 +30,3 @@ module _ {A : Type 0} {same : A → A → Type 0} {zero_of : A} {sum : A → A �
       let column = column_of zero_of m k in
       let scalars : drop j column ≡ get_or (row_of m j) k zero_of ∷ drop (j + 1) column = rw (column-at zero_of m k j zero_of below) at (drop_more column j zero_of (rw (length-column zero_of m k) below)) in
       weighted_sum-step E G left _ points scalars (E.reflexive factor) (E.reflexive _) h w
-
-  -- nothing is left
-  pub makes-all : (m : MatrixOf A) (row sums : List A) (j k : ℕ) → length row ≤ j → Makes m row sums j k → same (get_or sums k zero_of) (weighted_sum zero_of sum product row (column_of zero_of m k))
-  makes-all m row sums j k l w =
-      let ended : drop j row ≡ [] = drop_of_length-le row l in
-      weighted_sum-end E G left (drop j row) _ (inl (rw ended refl)) w

@@ -139,7 +139,10 @@ module _ {A : Type 0} {same : A → A → Type 0} {zero : A} {sum : A → A → 
       let count : length points' ≡ length points = length-classes E points in
       let z = classes.zero in
       let equal : get_or points' i z ≡ get_or points' j z =
-      coefficient-class E G P R points i ∙ ap (class E) (get_or_default points i zero d (omega arith)) ∙ class_same E _ _ s ∙ ap (class E) (get_or_default points j d zero m) ∙ sym (coefficient-class E G P R points j) in
-      (i, omega arith, same_class E _ _ (sym (divisor-class x points i)
-      ∙ ap (classes.product (classes.sum (class E x) (classes.negative (get_or points' i z)))) (root_product-of_repeated classes.ring points' i j z l (omega (arith, m, count)) equal)
-      ∙ product-zero classes.ring (classes.sum (class E x) (classes.negative (get_or points' i z)))))
+      coefficient-class E G P R points i ∙ ap (class E) (get_or_default points i zero d (omega arith)) ∙ class_same E _ _ s ∙ ap (class E) (get_or_default points j d zero m) ∙ sym (coefficient-class E G P R points j) in (
+        i,
+        omega arith,
+        same_class E _ _ (sym (divisor-class x points i)
+            ∙ ap (classes.product (classes.sum (class E x) (classes.negative (get_or points' i z)))) (root_product-of_repeated classes.ring points' i j z l (omega (arith, m, count)) equal)
+            ∙ product-zero classes.ring (classes.sum (class E x) (classes.negative (get_or points' i z)))),
+      )

@@ -7,7 +7,7 @@ use Rattle.math_theory.specs.Laws.{IsEquality, IsGroup, IsProduct, IsRing, IsFie
 use Rattle.math_theory.specs.Sums.{total}
 use Rattle.math_theory.proofs.Classes.{class, class_same, same_class, field_of_classes}
 use Rattle.math_theory.proofs.Normal.{◌⊗◌, 𝟘, 𝟙, v0, v1, v2, v3, v4, v5}
-use Rattle.math_theory.proofs.RingUpToSame.{ring_same, combine_same, combine2_same, combine3_same}
+use Rattle.math_theory.proofs.RingUpToSame.{combine_same, combine2_same, combine3_same}
 use Rattle.math_theory.proofs.Roots.{product-nonzero}
 
 module _ {A : Type 0} {same : A → A → Type 0} {zero_of : A} {sum : A → A → A} {negative : A → A} {product : A → A → A} {one : A}

@@ -6,8 +6,7 @@ use Rattle.std.specs.List.{All, remove}
 use Rattle.math_theory.specs.OverRing.{AreDistinct, root_product, lagrange_weight}
 use Rattle.math_theory.specs.Rings.{CommutativeRing, Field}
 use Rattle.math_theory.proofs.Lagrange.{others-apart}
-use Rattle.math_theory.proofs.Normal.{ring, combine, combine2, ◌⊗◌, ◌⊖◌, 𝟙, v0, v1, v2, v3, v4, v5, v6}
-use Rattle.math_theory.proofs.RingLaws.{product-zero}
+use Rattle.math_theory.proofs.Normal.{combine, combine2, ◌⊗◌, ◌⊖◌, 𝟙, v0, v1, v2, v3, v4, v5, v6}
 use Rattle.math_theory.proofs.RootProducts.{root_product-at_root, root_product-nonzero}
 use Rattle.math_theory.proofs.Roots.{product-nonzero, product-cancel_right, difference-nonzero}
 

@@ -64,8 +64,8 @@ fn cells_after_fills<R: Ring>(rt: &impl Abort, alloc: Global) -> Result<(), Fail
         let m = v.data();
         assert_eq!(rt; m.rows(), 1 << lg_rows.min(63));
         assert_eq!(rt; m.cols(), cols);
-        assert_eq!(rt; m.iter().flatten().count(), cells.len());
-        for (cell, n) in m.iter().flatten().zip(cells) {
+        assert_eq!(rt; m.cells.len(), cells.len());
+        for (cell, n) in m.cells.iter().zip(cells) {
             assert!(rt; cell.equals(alloc, &whole::<R>(alloc, *n)?)?);
         }
     }

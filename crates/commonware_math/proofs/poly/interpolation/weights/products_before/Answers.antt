@@ -1,4 +1,4 @@
-use Rattle.std.proofs.Common.{◌++◌, [], ◌∷◌, ◌≡◌, length, take, get_or, arith}
+use Rattle.std.proofs.Common.{◌++◌, [], ◌∷◌, ◌≡◌, take, arith}
 use Rattle.std.proofs.lemmas.List.{length-append}
 use Rattle.math_theory.specs.Sums.{total}
 use Rattle.commonware_math.proofs.PlaceByPlace.{each_place_next}
