@@ -8,20 +8,13 @@ use Rattle.std.specs.declared.alloc.AllocError.{AllocError}
 use Rattle.std.specs.declared.iter.Take.{Take}
 use Rattle.math_theory.specs.Powers.{powers_from}
 use Rattle.math_theory.specs.Domains.{coset}
+use Rattle.math_theory.proofs.TakenItems.{take-yields}
 use Rattle.math_base.specs.Progressions.{GivesPower, AreGeometric}
 use Rattle.math_base.specs.declared.algebra.Powers.{Powers}
 
 -- one call of an iterator of powers
 abbrev pub gives_power : {A : Type 0} → (A → A → Type 0) → (A → A → A) → Powers A → Option (Result A AllocError) → Powers A → Type 0
 gives_power same product s r t = GivesPower same product s.base.now s.next_power r t.next_power × (t.base.now ≡ s.base.now)
-
-module _ {S X : Type 0} (steps : S → Option X → S → Type 0) where
-  -- a run over the first items of a source is a run of the source, and the count goes down by one an item
-  pub take-yields : (s t : Take S) (xs : List X) → Yields (take_steps steps) s xs t → Yields steps (take_source s) xs (take_source t) × (length xs + take_count t ≡ take_count s)
-  take-yields s t [] h = (ap take_source h, omega (arith, ap take_count h))
-  take-yields s t (x ∷ xs) h =
-      let r = take-yields h.0 t xs h.2 in
-      ((take_source h.0, h.1.0, r.0), omega (arith, h.1.1, r.1))
 
 -- X is the type of the error
 module _ {A : Type 0} (X : Type 0) (same : A → A → Type 0) (product : A → A → A) (one shift base : A) where

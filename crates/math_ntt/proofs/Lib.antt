@@ -3,7 +3,6 @@ pub mod TakenItems
 pub mod FilledCells
 pub mod MatrixRows
 pub mod MatrixProducts
-pub mod WrittenRows
 pub mod WordBits
 pub mod BitmapPoints
 pub mod PaddedPolynomials

@@ -43,6 +43,7 @@ pub mod BitPieces
 pub mod ListMaps
 pub mod PlaceByPlace
 pub mod WholeWrites
+pub mod TakenItems
 pub mod PowerLists
 pub mod RootOrders
 pub mod EvenOddItems
