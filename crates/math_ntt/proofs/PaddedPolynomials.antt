@@ -1,14 +1,14 @@
 -- The columns of a matrix that is filled up with rows of zeros.
-use Rattle.std.proofs.Common.{◌≡◌, ◌∙◌, inl, inr, ℕ, suc, ◌+◌, ◌-◌, ◌*◌, ◌/◌, ◌^◌, ◌<◌, ◌≤◌, List, ◌++◌, length, take, drop, get_or, max, ap, refl, sym, arith, pow_mono, pow_pos}
-use Rattle.std.specs.Int.{IsNextPowerOfTwo, IsPowerOfTwo}
-use Rattle.std.specs.List.{All, AllZip}
-use Rattle.std.proofs.lemmas.Bool.{cases_lt, cases_order}
+use Rattle.std.proofs.Common.{◌≡◌, ◌∙◌, inl, inr, ℕ, suc, ◌+◌, ◌-◌, ◌*◌, ◌/◌, ◌^◌, ◌<◌, ◌≤◌, List, length, drop, get_or, max, ap, refl, sym, arith, pow_mono, pow_pos}
+use Rattle.std.specs.Int.{IsNextPowerOfTwo}
+use Rattle.std.specs.List.{AllZip}
+use Rattle.std.proofs.lemmas.Bool.{cases_lt}
 use Rattle.std.proofs.lemmas.List.{get_or-take, get_or-drop, get_or_past, get_or_append_left, get_or-append-add}
 use Rattle.std.proofs.lemmas.List.Elements.{AllZip-get_or, length_all_zip}
-use Rattle.std.proofs.lemmas.Nat.{mul-le, mul-add-lt}
+use Rattle.std.proofs.lemmas.Nat.{mul-le}
 use Rattle.math_theory.proofs.RootOrders.{power_of_two-suc}
 use Rattle.math_theory.specs.Laws.{IsEquality}
-use Rattle.math_ntt.specs.Matrices.{MatrixOf, row_of, column_of, cell_of, AreFilledUp}
+use Rattle.math_ntt.specs.Matrices.{MatrixOf, column_of, cell_of, AreFilledUp}
 use Rattle.math_ntt.specs.PolynomialRows.{FitsPadded, HaveSamePolynomials}
 use Rattle.math_ntt.proofs.MatrixRows.{length-column, column-at}
 

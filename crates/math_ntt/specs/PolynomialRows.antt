@@ -1,5 +1,5 @@
 -- Matrices whose columns are polynomials: row i holds coefficient i of each.
-use Rattle.std.specs.Prelude.{◌≡◌, ℕ, ◌*◌, ◌<◌, ◌≤◌, ◌^◌}
+use Rattle.std.specs.Prelude.{ℕ, ◌*◌, ◌<◌, ◌≤◌, ◌^◌}
 use Rattle.std.specs.Int.{IsNextPowerOfTwo}
 use Rattle.math_theory.specs.Coefficients.{HaveSameCoefficients}
 use Rattle.math_ntt.specs.Matrices.{MatrixOf, column_of}

@@ -12,7 +12,7 @@ fn whole<R: Ring>(alloc: Global, n: i64) -> Mem<R> {
     if n == -1 {
         return one.neg(alloc);
     }
-    one.scale(alloc, &[n as u64])
+    one.scale(alloc, &[n.unsigned_abs()])
 }
 
 /// The matrix with these cells, and with zeros after them.
@@ -36,8 +36,12 @@ fn polynomials<R: Ring>(
     m: &Matrix<R>,
     n: usize,
 ) -> Result<Option<PolynomialVector<R>>, Fail> {
-    let rows = n.checked_next_power_of_two().ok_or("too many rows")?;
-    rows.checked_mul(m.cols()).ok_or("too many cells")?;
+    let Some(rows) = n.checked_next_power_of_two() else {
+        return Err("too many rows".into());
+    };
+    let Some(_cells) = rows.checked_mul(m.cols()) else {
+        return Err("too many cells".into());
+    };
     Ok(m.as_polynomials(alloc, n)?)
 }
 

@@ -17,7 +17,8 @@ returns-clause-ok g c =
     rw c.matrix.invariant (omega (arith, row-within c.args.row c.matrix.inside.rows c.matrix.inside.cols below, count, cols, c.requires.few)) in
     let put : c.swap_with_slice.new.self ≡ copies = c.swap_with_slice.ensures.after ∙ c.deref_mut.ensures.value in
     rw (← v, ← w, put) (
-      copies, c.in_ok-copies.ensures,
+      copies,
+      c.in_ok-copies.ensures,
       ap (λ xs. record { rows = c.matrix.inside.rows; cols = c.matrix.inside.cols; cells = xs }) (cells-between cells.len (c.args.row * c.matrix.inside.cols) cells.items copies cells.ok.0 within),
-      c.set_non_vanishing.ensures
+      c.set_non_vanishing.ensures,
     )

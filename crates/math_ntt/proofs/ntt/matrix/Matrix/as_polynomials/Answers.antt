@@ -1,7 +1,6 @@
-use Rattle.std.proofs.Common.{◌≡◌, ◌∙◌, ◌*◌, ◌≤◌, ◌<◌, length, ap, sym, arith}
+use Rattle.std.proofs.Common.{◌≡◌, ◌∙◌, ◌*◌, ◌<◌, length, ap, arith}
 use Rattle.std.proofs.lemmas.List.Elements.{length_all_zip}
 use Rattle.std.proofs.lemmas.Nat.{mul-le}
-use Rattle.math_ntt.specs.PolynomialRows.{AreEnough}
 use Rattle.math_ntt.proofs.PaddedPolynomials.{padded-below, same_polynomials}
 use Rattle.math_ntt.proofs.ntt.matrix.Matrix.as_polynomials.Goals as goal
 
