@@ -1,5 +1,5 @@
 -- The loop that adds the terms of a geometric progression to some sums in turn.
-use Rattle.std.proofs.Common.{◌≡◌, ℕ, suc, ◌+◌, ◌<◌, ◌≤◌, List, [], ◌∷◌, ◌++◌, Option, None, Some, Result, Ok, Err, length, map, refl, sym, ap, ◌∙◌, subst, arith, add-one}
+use Rattle.std.proofs.Common.{◌≡◌, ℕ, suc, ◌+◌, ◌<◌, ◌≤◌, List, [], ◌∷◌, ◌++◌, Option, None, Some, Result, Ok, length, map, refl, sym, ap, ◌∙◌, subst, arith, add-one}
 use Rattle.std.proofs.lemmas.List.{map-append, append_assoc, length-append, append-nil}
 use Rattle.std.proofs.Math.ListN.{set, get_or}
 use Rattle.std.proofs.Math.Seq.{set-append_seam, get_or-append_seam}

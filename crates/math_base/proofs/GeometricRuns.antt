@@ -1,9 +1,9 @@
 -- A run of calls, each of which gives the next power, gives a geometric progression.
 use Rattle.std.proofs.Common.{◌≡◌, ℕ, suc, List, [], ◌∷◌, Option, None, Some, Result, Ok, Err, refl, sym, ap, subst, ◌∙◌}
-use Rattle.std.specs.Iterator.{Yields, YieldsThen}
+use Rattle.std.specs.Iterator.{YieldsThen}
 use Rattle.math_theory.specs.Laws.{IsEquality, IsProduct}
 use Rattle.math_theory.specs.Powers.{power, power-suc}
-use Rattle.math_base.specs.Progressions.{GivesPower, IsTerm, AreGeometric}
+use Rattle.math_base.specs.Progressions.{GivesPower, AreGeometric}
 
 -- X is the type of the error
 module _ {A S : Type 0} {same : A → A → Type 0} {product : A → A → A} (E : IsEquality same) (P : IsProduct same product) (one : A) (X : Type 0) (next_of : S → Option A) (base_of : S → A) where

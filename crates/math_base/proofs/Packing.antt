@@ -1,5 +1,5 @@
 -- Words packed into elements, and elements unpacked to words.
-use Rattle.std.proofs.Common.{◌≡◌, ℕ, ◌+◌, ◌*◌, ◌%◌, ◌<◌, ◌^◌, List, [], ◌∷◌, ◌++◌, take, drop, length, map, Option, None, ◌⊎◌, ⊎_elim, refl, sym, ap, subst, ◌∙◌, arith, mod-eq_of_lt, lit<}
+use Rattle.std.proofs.Common.{◌≡◌, ℕ, ◌+◌, ◌*◌, ◌%◌, ◌<◌, ◌^◌, List, [], ◌∷◌, ◌++◌, take, drop, length, map, Option, None, ◌⊎◌, ⊎_elim, refl, sym, ap, ◌∙◌, arith, lit<}
 use Rattle.std.proofs.lemmas.List.{map-append, length-map}
 use Rattle.std.proofs.lemmas.List.Elements.{All-head, All-tail}
 use Rattle.std.specs.List.{All}
@@ -13,7 +13,7 @@ use Rattle.math_base.specs.Repacking.{Advances}
 use Rattle.math_base.specs.Packing.{word_bits, element_bits, elements_of_bits, elements_of, words_of, waiting_bits}
 use Rattle.math_base.specs.declared.fields.goldilocks.F.{F}
 use Rattle.math_base.specs.declared.fields.goldilocks.packing.WaitingBits.{WaitingBits}
-use Rattle.math_base.proofs.ElementNumbers.{same_number, residue-number}
+use Rattle.math_base.proofs.ElementNumbers.{residue-number}
 use Rattle.math_base.proofs.BitFronts.{cut-waiting, pieces_below}
 use Rattle.math_base.proofs.Repacking.{Advances-ended}
 

@@ -1,16 +1,16 @@
 -- Values that differ still differ where of each key the first pair is kept.
-use Rattle.std.proofs.Common.{◌≡◌, ℕ, ◌<◌, Bool, true, false, cond, List, [], ◌∷◌, length, get_or, map, Option, Some, None, option_map, arith, sym, refl, ap, ◌∙◌}
+use Rattle.std.proofs.Common.{◌≡◌, ℕ, Bool, true, false, cond, List, [], ◌∷◌, get_or, map, Some, option_map, arith, sym, refl, ap, ◌∙◌}
 use Rattle.std.specs.declared.cmp.Ordering.{Ordering}
 use Rattle.std.specs.declared.cmp.Ordering.TheVariants.{Less, Equal}
 use Rattle.std.specs.Ordering.{is_eq, eq_by_cmp}
 use Rattle.std.specs.Cmp.{IsTotalOrder, eq_by_cmp_equiv, tied_itself}
-use Rattle.std.specs.List.{AllByRecursion, IsDistinct, slice_get}
+use Rattle.std.specs.List.{AllByRecursion, slice_get}
 use Rattle.std.specs.Map.{keys_of, values_of, lookup_entry}
 use Rattle.std.proofs.lemmas.Bool.{true≢false}
 use Rattle.std.proofs.lemmas.Map.Entries.{length-keys_of, length-values_of}
 use Rattle.std.proofs.lemmas.Map.Keys.{IsDistinct-head, IsDistinct-tail, IsDistinct-from_apart, Less-from_sorted}
 use Rattle.std.proofs.lemmas.Option.{same_Some, none-some, slice_get-map, get_or_from_slice_get}
-use Rattle.math_codec.specs.OrderedMaps.{first_pair, ValuesDiffer, HasFirstOfEachKey}
+use Rattle.math_codec.specs.OrderedMaps.{ValuesDiffer, HasFirstOfEachKey}
 use Rattle.math_codec.proofs.SearchedPairs.{with_element, first_at}
 
 module _ {K X : Type 0} (test : K → Bool) (p : X → Bool) where

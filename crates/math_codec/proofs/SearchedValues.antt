@@ -1,5 +1,5 @@
 -- Where a binary search over the places of values, by rising value, ends.
-use Rattle.std.proofs.Common.{◌≡◌, ℕ, ◌+◌, ◌<◌, List, length, get_or, map, Option, Some, None, option_map, HoldsAt, arith, sym, refl, ap, ◌∙◌, subst}
+use Rattle.std.proofs.Common.{◌≡◌, ℕ, ◌+◌, ◌<◌, List, length, get_or, Option, Some, None, option_map, HoldsAt, arith, sym, ap, ◌∙◌, subst}
 use Rattle.std.specs.declared.cmp.Ordering.{Ordering}
 use Rattle.std.specs.declared.cmp.Ordering.TheVariants.{Less, Equal, Greater}
 use Rattle.std.specs.Ordering.{ordering_index}
@@ -10,7 +10,7 @@ use Rattle.std.specs.Map.{keys_of, values_of}
 use Rattle.std.specs.Option.{unwrap_or}
 use Rattle.std.proofs.lemmas.Map.Entries.{length-values_of}
 use Rattle.std.proofs.lemmas.Option.{slice_get-map, get_or_from_slice_get}
-use Rattle.math_codec.specs.OrderedMaps.{compared_at, first_pair, key_with, places_from, IsOrderByValue}
+use Rattle.math_codec.specs.OrderedMaps.{compared_at, key_with, IsOrderByValue}
 use Rattle.math_codec.proofs.SearchedPairs.{first_at, search_found, search_missed}
 use Rattle.math_codec.proofs.ValuePlaces.{Found, place_found, place_missed}
 

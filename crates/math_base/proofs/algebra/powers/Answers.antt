@@ -1,5 +1,4 @@
-use Rattle.std.proofs.Common.{refl}
-use Rattle.math_theory.specs.Powers.{power, power-zero}
+use Rattle.math_theory.specs.Powers.{power-zero}
 use Rattle.math_base.proofs.GeometricRuns.{geometric}
 use Rattle.math_base.proofs.algebra.powers.Goals as goal
 

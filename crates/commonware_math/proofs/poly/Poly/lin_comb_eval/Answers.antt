@@ -1,4 +1,4 @@
-use Rattle.std.proofs.Common.{◌≡◌, ◌∙◌, ◌∷◌, ◌++◌, length, take, drop, sym, ap}
+use Rattle.std.proofs.Common.{◌≡◌, ◌∙◌, ◌++◌, length, take, drop, sym, ap}
 use Rattle.std.specs.List.{AllZip}
 use Rattle.math_theory.specs.Domains.{coset}
 use Rattle.commonware_math.proofs.CombinationSteps.{combination-first, combination-next, combination-all}

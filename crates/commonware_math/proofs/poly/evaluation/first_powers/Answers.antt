@@ -1,7 +1,5 @@
-use Rattle.std.proofs.Common.{◌≡◌, ◌∙◌, ◌++◌, [], ◌∷◌, Some, Ok, map, length, ap, sym}
+use Rattle.std.proofs.Common.{◌≡◌, ◌∙◌, ◌++◌, [], ◌∷◌, Some, Ok, length, ap}
 use Rattle.std.proofs.lemmas.List.{map-append}
-use Rattle.std.specs.List.{AllZip}
-use Rattle.math_theory.specs.Domains.{coset}
 use Rattle.commonware_math.proofs.GeometricItems.{gives_power, taken_items, taken_count}
 use Rattle.commonware_math.proofs.poly.evaluation.first_powers.Goals as goal
 

@@ -1,8 +1,7 @@
-use Rattle.std.proofs.Common.{◌≡◌, true, false, not, cond, sym, ap, ◌∙◌}
+use Rattle.std.proofs.Common.{not, cond, sym, ap, ◌∙◌}
 use Rattle.std.specs.BTreeMap.{insert_entry}
 use Rattle.std.specs.Ordering.{is_eq}
 use Rattle.std.proofs.lemmas.Map.Made.{is_some-lookup}
-use Rattle.math_codec.specs.OrderedMaps.{has_key}
 use Rattle.math_codec.proofs.ordered.map.add_new.Goals as goal
 
 pub returns-then-contains_key-clause-added : goal.returns-then-contains_key-clause-added

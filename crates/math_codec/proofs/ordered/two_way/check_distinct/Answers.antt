@@ -1,9 +1,9 @@
-use Rattle.std.proofs.Common.{◌≡◌, ◌+◌, Bool, true, false, not, List, [], ◌∷◌, ◌++◌, take, drop, Bor, sym, ap, ◌∙◌, subst}
+use Rattle.std.proofs.Common.{◌+◌, take, drop, Bor, sym, ap, ◌∙◌}
 use Rattle.std.specs.List.{list_any}
 use Rattle.std.specs.Map.{keys_of, values_of}
 use Rattle.std.specs.Ordering.{is_eq}
 use Rattle.std.proofs.lemmas.Bool.{not-true, not-false}
-use Rattle.math_codec.specs.OrderedMaps.{has_key, has_value, is_equal, KeysDiffer, ValuesDiffer}
+use Rattle.math_codec.specs.OrderedMaps.{is_equal}
 use Rattle.math_codec.proofs.FirstPairs.{none_alike}
 use Rattle.math_codec.proofs.SeenSoFar.{seen_more, differ_more, taken_more, taken_before, key_taken, value_taken}
 use Rattle.math_codec.proofs.ordered.two_way.check_distinct.Goals as goal

@@ -1,8 +1,8 @@
-use Rattle.std.proofs.Common.{Bor, ◌≡◌, ◌∷◌, [], ◌++◌, take, get_or, length, arith, ap, sym, subst, ◌∙◌}
-use Rattle.std.proofs.lemmas.List.{take_more, take_all, length-take-le}
+use Rattle.std.proofs.Common.{Bor, take, ap, sym, subst, ◌∙◌}
+use Rattle.std.proofs.lemmas.List.{take_all}
 use Rattle.math_codec.specs.OrderedMaps.{places_from, first_pair, KeysRise}
 use Rattle.std.specs.Map.{values_of}
-use Rattle.math_codec.proofs.FirstPairs.{SameFirsts, same_firsts_push}
+use Rattle.math_codec.proofs.FirstPairs.{same_firsts_push}
 use Rattle.math_codec.proofs.ValuePlaces.{with_keys, with_keys-add_pair, values_of-with_keys, keys_rise-with_keys, places_taken}
 use Rattle.math_codec.proofs.ordered.two_way.places_by_value.Goals as goal
 

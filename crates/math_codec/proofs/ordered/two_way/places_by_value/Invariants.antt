@@ -1,4 +1,4 @@
-use Rattle.std.proofs.Common.{map, take}
+use Rattle.std.proofs.Common.{take}
 use Rattle.math_codec.specs.OrderedMaps.{places_from}
 use Rattle.math_codec.proofs.FirstPairs.{SameFirsts}
 use Rattle.math_codec.proofs.ValuePlaces.{with_keys}

@@ -1,4 +1,4 @@
-use Rattle.std.proofs.Common.{◌≡◌, ◌≢◌, ◌*◌, ◌%◌, ap, sym, ◌∙◌, arith, lit<}
+use Rattle.std.proofs.Common.{◌≢◌, ◌*◌, ◌%◌, ap, ◌∙◌, arith, lit<}
 use Rattle.math_theory.specs.Goldilocks.{P}
 use Rattle.math_theory.specs.PowersModulo.{power_mod}
 use Rattle.math_theory.proofs.Fermat.{inverse_mod-inverts}

@@ -1,5 +1,4 @@
-use Rattle.std.proofs.Common.{◌≡◌, sym, subst}
-use Rattle.std.specs.List.{zip}
+use Rattle.std.proofs.Common.{sym, subst}
 use Rattle.math_codec.specs.OrderedMaps.{KeysRise}
 use Rattle.math_codec.proofs.MapParts.{zip_of_all}
 use Rattle.math_codec.proofs.ordered.map.Map.from_entries.Goals as goal

@@ -1,12 +1,7 @@
-use Rattle.std.proofs.Common.{◌≡◌, length, None, option_map, option_copied, HoldsAt, sym, ap, ◌∙◌, subst, refl, arith}
-use Rattle.std.specs.declared.cmp.Ordering.TheVariants.{Equal}
+use Rattle.std.proofs.Common.{sym, ap, ◌∙◌, subst}
 use Rattle.std.specs.List.{slice_get}
 use Rattle.std.specs.List.Sorted.{IsStrictlySortedBy}
-use Rattle.std.specs.Map.{keys_of, values_of}
-use Rattle.std.specs.Ordering.{is_eq}
-use Rattle.std.proofs.lemmas.Map.Entries.{length-keys_of}
-use Rattle.std.proofs.lemmas.Option.{slice_get-map}
-use Rattle.math_codec.proofs.MapParts.{keys_of_view, values_of_view, length_of_view}
+use Rattle.math_codec.proofs.MapParts.{keys_of_view, values_of_view}
 use Rattle.math_codec.proofs.SearchedPairs.{got_item, value_found, value_missed}
 use Rattle.math_codec.proofs.ordered.map.Map.get.Goals as goal
 

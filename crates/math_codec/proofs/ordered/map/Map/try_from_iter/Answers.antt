@@ -1,6 +1,6 @@
-use Rattle.std.proofs.Common.{◌≡◌, Bool, true, false, not, subst, sym, refl, ap, ◌∙◌, ◌++◌, ◌∷◌, []}
+use Rattle.std.proofs.Common.{◌≡◌, true, false, subst, sym, refl, ap, ◌∙◌, ◌++◌, ◌∷◌, []}
 use Rattle.std.proofs.lemmas.Bool.{not-true, not-false}
-use Rattle.math_codec.specs.OrderedMaps.{first_pair, has_key, is_equal, KeysDiffer}
+use Rattle.math_codec.specs.OrderedMaps.{first_pair, has_key, is_equal}
 use Rattle.math_codec.proofs.FirstPairs.{SameFirsts, same_firsts_push, same_keys, keys_differ_push, none_alike}
 use Rattle.math_codec.proofs.ItemsSoFar.{yields_more}
 use Rattle.math_codec.proofs.ordered.map.Map.try_from_iter.Goals as goal

@@ -1,5 +1,4 @@
-use Rattle.std.proofs.Common.{◌≡◌, ap, sym, subst, ◌∙◌}
-use Rattle.std.specs.Map.{values_of}
+use Rattle.std.proofs.Common.{sym, subst, ◌∙◌}
 use Rattle.math_codec.specs.OrderedMaps.{KeysDiffer, ValuesDiffer, HasFirstOfEachKey, IsOrderByValue}
 use Rattle.math_codec.proofs.DistinctValues.{values_differ_kept}
 use Rattle.math_codec.proofs.ItemsSoFar.{vec_items}
