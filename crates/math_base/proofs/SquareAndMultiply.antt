@@ -8,13 +8,6 @@ use Rattle.math_theory.specs.Laws.{IsEquality, IsGroup, IsProduct, IsRing, IsMon
 use Rattle.math_theory.specs.Powers.{power, power-zero, power-suc}
 use Rattle.math_theory.specs.Sums.{number_of_limbs}
 
--- sums, and products, are a monoid
-pub monoid_of_sums : {A : Type 0} {same : A → A → Type 0} {nothing : A} {sum : A → A → A} {negative : A → A} → IsGroup same nothing sum negative → IsMonoid same nothing sum
-monoid_of_sums G = record { respects = G.respects_sum; commutative = G.commutative; associative = G.associative; identity = G.identity }
-
-pub monoid_of_products : {A : Type 0} {same : A → A → Type 0} {sum : A → A → A} {product : A → A → A} {one : A} → IsProduct same product → IsRing same sum product one → IsMonoid same one product
-monoid_of_products P R = record { respects = P.respects; commutative = P.commutative; associative = P.associative; identity = R.identity }
-
 power_of_two-half : (k : ℕ) → 0 < k → 2 ^ k ≡ 2 ^ (k - 1) * 2
 power_of_two-half zero h = absurd (omega arith)
 power_of_two-half (suc k) h = let e : suc k - 1 ≡ k = omega arith in rw e (pow-suc 2 k)
@@ -68,13 +61,6 @@ module _ {A : Type 0} {same : A → A → Type 0} {one : A} {product : A → A �
       let r : same acc (power one product a n) = taken m (k - 1) f (omega arith) in
       let v : m * 2 ^ k + w / 2 ^ (i - 1) ≡ suc (n + n) = omega (arith, exponent_step m k w i (omega arith) low) in
       rw (v, power-suc one product a (n + n)) (grw (E.transitive, E.reflexive, M.respects, h', h, r, r, E.symmetric _ _ (power-add a n n)))
-
-  -- before any bit of the word
-  pub TakenTo-start : {first : A} (a : A) (w : ℕ) → w < 2 ^ 64 → TakenTo same (power one product a) first w first 64
-  TakenTo-start {first} a w low m k f e =
-      let z : k ≡ 0 = omega arith in
-      let v : m * 2 ^ k + w / 2 ^ 64 ≡ m = rw z (omega arith) in
-      rw v f
 
   -- after all bits of the word, it is one limb more
   pub TakenTo-limb : {first acc : A} (a : A) (w i : ℕ) → i ≤ 0 → (limbs : List (Bor ℕ)) (limb : Bor ℕ) → limb.now ≡ w

@@ -34,10 +34,6 @@ bits-append (suc k) m a x h =
     ∙ ap₂ (λ b l. b ∷ bits (k + m) l) low high
     ∙ sym (bits-suc (k + m) (a + x * 2 ^ suc k)) ∙ ap (λ l. bits l (a + x * 2 ^ suc k)) s
 
--- the same, with more behind
-pub bits-append_append : (k m a x : ℕ) (rest : List ℕ) → a < 2 ^ k → bits k a ++ (bits m x ++ rest) ≡ bits (k + m) (a + x * 2 ^ k) ++ rest
-bits-append_append k m a x rest h = sym (append_assoc (bits k a) (bits m x) rest) ∙ ap (λ l. l ++ rest) (bits-append k m a x h)
-
 -- the j lowest bits, and the m above them
 pub bits-add : (j m n : ℕ) → bits (j + m) n ≡ bits j n ++ bits m (n / 2 ^ j)
 bits-add zero m n =

@@ -66,14 +66,6 @@ module _ (k : ℕ) (positive : 0 < k) where
       ∙ ap₂ (λ s t. number s ∷ cut k t) (take_at (bits k a) more k (length-bits k a)) (drop_at (bits k a) more k (length-bits k a))
       ∙ ap (λ t. t ∷ cut k more) (number-bits k a)
 
-  -- at most k bits are one piece
-  pub cut-short : (n a : ℕ) → 0 < n → n ≤ k → a < 2 ^ n → cut k (bits n a) ≡ a ∷ []
-  cut-short n a h l b =
-      let e : length (bits n a) ≡ n = length-bits n a in
-      cut-first (bits n a) (omega arith)
-      ∙ ap₂ (λ s t. number s ∷ cut k t) (take_all k (bits n a) (omega arith)) (drop_all k (bits n a) (omega arith))
-      ∙ ap₂ (λ s t. s ∷ t) (number-bits n a ∙ mod-eq_of_lt b) cut-nil
-
   -- numbers below 2 ^ k, joined and cut at their own width, come back
   pub cut-joined : (ns rest : List ℕ) → All (λ n. n < 2 ^ k) ns → cut k (joined k ns ++ rest) ≡ ns ++ cut k rest
   cut-joined [] rest h = refl

@@ -41,9 +41,3 @@ proth n x s big odd p small = record {
       let c : (2 ^ suc s + 1) * (2 ^ suc s + 1) ≤ d * e = mul-le-mul l m in
       omega (arith, q, c, small);
 }
-
-pub two_prime : IsPrime 2
-two_prime = record {
-  above_one = omega arith;
-  no_factors = λ d e q h k. let c : 2 * 2 ≤ d * e = mul-le-mul h k in omega (arith, q, c);
-}

@@ -40,25 +40,6 @@ length-dilation_from scaling one product s i (a ∷ p) = ap suc (length-dilation
 pub length-dilation : {A B : Type 0} (scaling : A → B → A) (one : B) (product : B → B → B) (s : B) (p : List A) → length (polynomial_dilation scaling one product s p) ≡ length p
 length-dilation scaling one product s p = length-dilation_from scaling one product s 0 p
 
--- two degrees of one polynomial are equal
-pub degree-unique : {A : Type 0} (same : A → A → Type 0) (zero_of : A) (a : List A) (m n : ℕ) → HasDegree same zero_of a m → HasDegree same zero_of a n → m ≡ n
-degree-unique same zero_of a m n h k =
-    elim (cases_lt m n) [
-      | inl l ↦ elim k.leading [ inl e ↦ absurd (omega (arith, l, e)) | inr f ↦ absurd (f (h.above n l)) ]
-      | inr l ↦ elim (cases_lt n m) [
-        | inl g ↦ elim h.leading [ inl e ↦ absurd (omega (arith, g, e)) | inr f ↦ absurd (f (k.above m g)) ]
-        | inr g ↦ omega (arith, l, g)
-      ]
-    ]
-
--- the degree is below the number of coefficients, where there is one
-pub degree-below_length : {A : Type 0} (same : A → A → Type 0) (zero_of : A) → ((a : A) → same a a) → (a : List A) (n : ℕ) → HasDegree same zero_of a n → 1 ≤ length a → n < length a
-degree-below_length same zero_of reflexive a n h some =
-    elim (cases_lt n (length a)) [
-      | inl l ↦ l
-      | inr g ↦ elim h.leading [ inl e ↦ absurd (omega (arith, some, g, e)) | inr f ↦ absurd (f (subst (λ c. same c zero_of) (sym (get_or_past a n zero_of g)) (reflexive zero_of))) ]
-    ]
-
 module _ {A : Type 0} (R : CommutativeRing A) where
   pub coefficient-sum : (p q : List A) (i : ℕ) → coefficient R.zero (polynomial_sum R.sum p q) i ≡ R.sum (coefficient R.zero p i) (coefficient R.zero q i)
   coefficient-sum [] q i = sym (R.sum_zero (coefficient R.zero q i))
@@ -71,9 +52,6 @@ module _ {A : Type 0} (R : CommutativeRing A) where
 
   pub coefficient-difference : (p q : List A) (i : ℕ) → coefficient R.zero (polynomial_difference R.sum R.negative p q) i ≡ R.sum (coefficient R.zero p i) (R.negative (coefficient R.zero q i))
   coefficient-difference p q i = coefficient-sum p (polynomial_negative R.negative q) i ∙ ap (R.sum (coefficient R.zero p i)) (coefficient-negative q i)
-
-  pub coefficient-multiple : (p : List A) (s : A) (i : ℕ) → coefficient R.zero (polynomial_multiple R.product p s) i ≡ R.product (coefficient R.zero p i) s
-  coefficient-multiple p s i = ap (get_or (polynomial_multiple R.product p s) i) (sym (zero-product R s)) ∙ get_or-map (λ c. R.product c s) p i R.zero
 
   coefficient-dilation_from : (s : A) (k : ℕ) (p : List A) (i : ℕ) → coefficient R.zero (dilation_from R.product R.one R.product s k p) i ≡ R.product (coefficient R.zero p i) (OverRing.power R s (k + i))
   coefficient-dilation_from s k [] i = sym (zero-product R (OverRing.power R s (k + i)))

@@ -1,10 +1,19 @@
--- Three identities by the normaliser, worked in docs/RING_NORMALISER.md.
+-- Identities by the normaliser; the last three are worked in docs/RING_NORMALISER.md.
 use Rattle.std.proofs.Common.{◌≡◌, [], ◌∷◌, refl}
 use Rattle.math_theory.specs.Rings.{CommutativeRing}
 use Rattle.math_theory.proofs.rings.Normal.{ring, combine, combine2, ◌⊕◌, ◌⊗◌, ◌⊖◌, minus, 𝟘, 𝟙, v0, v1, v2, v3}
 
 module _ {A : Type 0} (R : CommutativeRing A) where
   open R use {zero, one, sum, negative, product}
+
+  -- the cube of a + b is a a a + 3 a a b + 3 a b b + b b b
+  pub cube-sum : (a b : A) → let three = sum one (sum one one) in
+      product (product (sum a b) (sum a b)) (sum a b)
+      ≡ sum (sum (product (product a a) a) (product three (product (product a a) b))) (sum (product three (product (product a b) b)) (product (product b b) b))
+  cube-sum a b =
+      ring R (a ∷ b ∷ [])
+      (((v0 ⊕ v1) ⊗ (v0 ⊕ v1)) ⊗ (v0 ⊕ v1))
+      ((((v0 ⊗ v0) ⊗ v0) ⊕ ((𝟙 ⊕ (𝟙 ⊕ 𝟙)) ⊗ ((v0 ⊗ v0) ⊗ v1))) ⊕ (((𝟙 ⊕ (𝟙 ⊕ 𝟙)) ⊗ ((v0 ⊗ v1) ⊗ v1)) ⊕ ((v1 ⊗ v1) ⊗ v1))) refl
 
   -- (a + b) (a - b) is a a - b b
   pub sum-times-difference : (a b : A) → product (sum a b) (sum a (negative b)) ≡ sum (product a a) (negative (product b b))

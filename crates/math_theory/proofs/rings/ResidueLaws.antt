@@ -62,11 +62,3 @@ module _ {A : Type 0} (n : ℕ) (value : A → ℕ) (residue : ℕ → A) (reads
             reads _ ∙ ap (λ t. value a * t % n) (reads (inverse_mod n (value a))) ∙ mul-mod_second (value a) (inverse_mod n (value a)) n
             ∙ f.inverts (value a) (λ z. d (let e : value a % n ≡ value a = mod-eq_of_lt (below a) in sym e ∙ z ∙ sym (reads 0))) ∙ sym (reads 1);
       }
-
-  -- an element has the order of its remainder modulo n
-  pub residues_order : (a : A) (t : ℕ) → HasOrder n (value a) t → HasExactOrder (same value) (residue 1) (product value residue) a t
-  residues_order a t o = record {
-    positive = o.positive;
-    power_is_one = residues_power a t ∙ o.power_is_one ∙ sym (reads 1);
-    least = λ m positive small e. o.least m positive small (sym (residues_power a m) ∙ e ∙ reads 1);
-  }

@@ -61,9 +61,6 @@ module _ {Carrier : Type 0} (R : CommutativeRing Carrier) where
   pub product-negative : (a b : Carrier) → product a (negative b) ≡ negative (product a b)
   product-negative a b = R.product_comm a (negative b) ∙ negative-product b a ∙ ap negative (R.product_comm b a)
 
-  pub negative-product_negative : (a b : Carrier) → product (negative a) (negative b) ≡ product a b
-  negative-product_negative a b = negative-product a (negative b) ∙ ap negative (product-negative a b) ∙ negative-negative (product a b)
-
   -- where the difference is zero, the two are equal
   pub difference-zero : (a b : Carrier) → sum a (negative b) ≡ zero → a ≡ b
   difference-zero a b h = sym (negative-negative a) ∙ sym (ap negative (negative-unique a (negative b) h)) ∙ negative-negative b
