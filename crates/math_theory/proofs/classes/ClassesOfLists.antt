@@ -51,7 +51,8 @@ module _ {A : Type 0} {same : A → A → Type 0} {zero_of : A} {sum : A → A �
       by_index [] = refl
       by_index (i ∷ is) = ap₂ (λ x xs. x ∷ xs) (power-class a i) (by_index is)
 
-  value_from-class : (r : A) (i : ℕ) (p : List A) → value_from classes.zero classes.sum classes.product classes.one classes.product (class E r) i (map (class E) p) ≡ class E (value_from zero_of sum product one product r i p)
+  value_from-class : (r : A) (i : ℕ) (p : List A)
+      → value_from classes.zero classes.sum classes.product classes.one classes.product (class E r) i (map (class E) p) ≡ class E (value_from zero_of sum product one product r i p)
   value_from-class r i [] = refl
   value_from-class r i (a ∷ p) = ap₂ classes.sum (ap (classes.product (class E a)) (power-class r i)) (value_from-class r (suc i) p)
 

@@ -54,7 +54,8 @@ module _ {A : Type 0} {same : A → A → Type 0} {zero_of : A} {sum : A → A �
     distinct = λ i j d l m e.
         let b : j < n = omega (arith, m, long) in
         power-apart C (class E w) n i j (HasExactOrder-classes w n o) l b
-        (power-class E G P R w i ∙ class_same E _ _ (subst (λ x. same x (power one product w j)) (at i d (omega arith)) (subst (λ y. same (get_or (powers one product w n) i d) y) (at j d b) e)) ∙ sym (power-class E G P R w j));
+        (power-class E G P R w i ∙ class_same E _ _
+        (subst (λ x. same x (power one product w j)) (at i d (omega arith)) (subst (λ y. same (get_or (powers one product w n) i d) y) (at j d b) e)) ∙ sym (power-class E G P R w j));
     shift_nonzero = nonzero;
     apart = λ i j l m e.
         coset-apart C (class E w) (class E s) n o.positive (power-class E G P R w n ∙ class_same E _ _ o.power_is_one)

@@ -46,7 +46,8 @@ module _ {A : Type 0} (R : CommutativeRing A) where
   place_factor r x true = R.one
   place_factor r x false = sum r (negative x)
 
-  root_product-missing_cons : (r x : A) (xs : List A) (b : Bool) (filled : List Bool) → root_product R r (missing_items (x ∷ xs) (b ∷ filled)) ≡ product (place_factor r x b) (root_product R r (missing_items xs filled))
+  root_product-missing_cons : (r x : A) (xs : List A) (b : Bool) (filled : List Bool)
+      → root_product R r (missing_items (x ∷ xs) (b ∷ filled)) ≡ product (place_factor r x b) (root_product R r (missing_items xs filled))
   root_product-missing_cons r x xs true filled = sym (R.product_one (root_product R r (missing_items xs filled)))
   root_product-missing_cons r x xs false filled = refl
 
@@ -80,7 +81,8 @@ module _ {A : Type 0} (R : CommutativeRing A) where
   -- the same as a product of two such products, where w w' is one
   pub missing_product-scaled_halves : (r w w' : A) (n : ℕ) (filled : List Bool) → product w w' ≡ R.one → length filled ≡ n + n
       → missing_product R r w filled
-      ≡ product (power R w (length (missing_points R (product w w) (odd_items filled)))) (product (missing_product R r (product w w) (even_items filled)) (missing_product R (product w' r) (product w w) (odd_items filled)))
+      ≡ product (power R w (length (missing_points R (product w w) (odd_items filled))))
+      (product (missing_product R r (product w w) (even_items filled)) (missing_product R (product w' r) (product w w) (odd_items filled)))
   missing_product-scaled_halves r w w' n filled u h =
       missing_product-halves r w n filled h
       ∙ ap (product (missing_product R r (product w w) (even_items filled))) (root_product-scaled R r w w' u (missing_points R (product w w) (odd_items filled)))
@@ -99,7 +101,8 @@ module _ {A : Type 0} (R : CommutativeRing A) where
   missing_product-whole lg r w root = missing_product-all r w (2 ^ lg) ∙ root_product-powers R lg r w root
 
   -- one place more
-  pub missing_product-push : (r w : A) (filled : List Bool) (b : Bool) → missing_product R r w (filled ++ (b ∷ [])) ≡ product (missing_product R r w filled) (place_factor r (power R w (length filled)) b)
+  pub missing_product-push : (r w : A) (filled : List Bool) (b : Bool)
+      → missing_product R r w (filled ++ (b ∷ [])) ≡ product (missing_product R r w filled) (place_factor r (power R w (length filled)) b)
   missing_product-push r w filled b =
       let n = length filled in
       ap (λ xs. root_product R r (missing_items xs (filled ++ (b ∷ [])))) (ap (powers R w) (length-append filled (b ∷ [])) ∙ powers-append R w n 1)
@@ -139,7 +142,8 @@ module _ {A : Type 0} (F : Field A) where
   -- the values are zero at the missing places, and at no others
   pub IsVanishing-zero : (w : A) (filled : List Bool) (at_zero : A) (values : List A) → HasExactOrder R w (length filled) → IsVanishing R w filled at_zero values
       → (i : ℕ) → i < length filled → (get_or values i F.zero ≡ F.zero) ↔ (get_or filled i false ≡ false)
-  IsVanishing-zero w filled at_zero values o a i l = (λ z. false_from_ne_true (get_or filled i false) (λ t. apart t z), λ e. a.value_at_power i l ∙ ap (product a.factor) (root e) ∙ product-zero R a.factor)
+  IsVanishing-zero w filled at_zero values o a i l =
+      (λ z. false_from_ne_true (get_or filled i false) (λ t. apart t z), λ e. a.value_at_power i l ∙ ap (product a.factor) (root e) ∙ product-zero R a.factor)
     where
       missing : List A
       missing = missing_points R w filled
@@ -158,5 +162,6 @@ module _ {A : Type 0} (F : Field A) where
       apart : get_or filled i false ≡ true → get_or values i F.zero ≢ F.zero
       apart t z =
           product-nonzero F a.factor (root_product R (power R w i) missing) a.factor_is_not_zero
-          (root_product-nonzero F (power R w i) missing (subst (λ x. All (λ y. x ≢ y) missing) point (filled-apart F.zero (powers R w (length filled)) filled i (powers-distinct R w (length filled) o) inside t)))
+          (root_product-nonzero F (power R w i) missing
+          (subst (λ x. All (λ y. x ≢ y) missing) point (filled-apart F.zero (powers R w (length filled)) filled i (powers-distinct R w (length filled) o) inside t)))
           (sym (a.value_at_power i l) ∙ z)

@@ -21,7 +21,8 @@ module _ {A : Type 0} (R : CommutativeRing A) where
       ∙ ap (λ xs. powers R w m ++ xs) (map-range-add (power R w) 0 m n)
 
   pub powers-squared : (w : A) (n : ℕ) → powers R (product w w) n ≡ map (λ p. product p p) (powers R w n)
-  powers-squared w n = map-ap (power R (product w w)) (λ j. product (power R w j) (power R w j)) (power-product R w w) (range_with_len 0 n) ∙ sym (map-map (λ p. product p p) (power R w) (range_with_len 0 n))
+  powers-squared w n =
+      map-ap (power R (product w w)) (λ j. product (power R w j) (power R w j)) (power-product R w w) (range_with_len 0 n) ∙ sym (map-map (λ p. product p p) (power R w) (range_with_len 0 n))
 
   power-double : (w : A) (j : ℕ) → power R w (j + j) ≡ power R (product w w) j
   power-double w j = power-add R w j j ∙ sym (power-product R w w j)
@@ -29,7 +30,8 @@ module _ {A : Type 0} (R : CommutativeRing A) where
   power-double_suc : (w : A) (j : ℕ) → power R w (suc (j + j)) ≡ product w (power R (product w w) j)
   power-double_suc w j = power-suc R.one product w (j + j) ∙ R.product_comm (power R w (j + j)) w ∙ ap (product w) (power-double w j)
 
-  powers_from-interleaved : (w : A) (i n : ℕ) → powers_from R.one product w (i + i) (n + n) ≡ interleaved (powers_from R.one product (product w w) i n) (map (product w) (powers_from R.one product (product w w) i n))
+  powers_from-interleaved : (w : A) (i n : ℕ)
+      → powers_from R.one product w (i + i) (n + n) ≡ interleaved (powers_from R.one product (product w w) i n) (map (product w) (powers_from R.one product (product w w) i n))
   powers_from-interleaved w i zero = refl
   powers_from-interleaved w i (suc n) =
       ap (powers_from R.one product w (i + i)) (let e : suc n + suc n ≡ suc (suc (n + n)) = omega arith in e)

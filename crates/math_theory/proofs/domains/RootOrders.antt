@@ -36,7 +36,8 @@ module _ {A : Type 0} (R : CommutativeRing A) where
 
   minus_one-odd : (m : ℕ) → m % 2 ≡ 1 → power R (negative R.one) m ≡ negative R.one
   minus_one-odd m odd =
-      let two : power R (negative R.one) 2 ≡ R.one = power-add R (negative R.one) 1 1 ∙ ap₂ product (power-one R (negative R.one)) (power-one R (negative R.one)) ∙ ring R [] (minus 𝟙 ⊗ minus 𝟙) 𝟙 refl in
+      let two : power R (negative R.one) 2 ≡ R.one
+      = power-add R (negative R.one) 1 1 ∙ ap₂ product (power-one R (negative R.one)) (power-one R (negative R.one)) ∙ ring R [] (minus 𝟙 ⊗ minus 𝟙) 𝟙 refl in
       ap (power R (negative R.one)) (let e : m ≡ 2 * (m / 2) + 1 = omega arith in e) ∙ power-add R (negative R.one) (2 * (m / 2)) 1
       ∙ ap₂ product (power-mul R (negative R.one) 2 (m / 2) ∙ ap (λ x. power R x (m / 2)) two ∙ power-of_one R (m / 2)) (power-one R (negative R.one))
       ∙ R.product_one (negative R.one)

@@ -68,7 +68,8 @@ module _ {A : Type 0} (F : Field A) where
       let t = power R s' (length ys) in
       record {
         factor = product (product a.factor b.factor) t;
-        factor_is_not_zero = product-nonzero F (product a.factor b.factor) t (product-nonzero F a.factor b.factor a.factor_is_not_zero b.factor_is_not_zero) (power-nonzero s' (length ys) (invertible-nonzero s s' h));
+        factor_is_not_zero =
+            product-nonzero F (product a.factor b.factor) t (product-nonzero F a.factor b.factor a.factor_is_not_zero b.factor_is_not_zero) (power-nonzero s' (length ys) (invertible-nonzero s s' h));
         gives = λ r.
             ap₂ product (a.gives r) (b.gives (product s' r))
             ∙ combine R (a.factor ∷ b.factor ∷ root_product R r xs ∷ root_product R (product s' r) ys ∷ power R s (length ys) ∷ t ∷ [])

@@ -30,16 +30,20 @@ module _ {A : Type 0} {same : A → A → Type 0} {zero : A} {sum : A → A → 
   abbrev classes_of : List A → List (Class E)
   classes_of xs = map (class E) xs
 
-  AreWeightsAt-classes : (x : A) (points weights : List A) → AreWeightsAt same zero sum product one x points weights → OverRing.AreWeightsAt classes.ring (class E x) (classes_of points) (classes_of weights)
+  AreWeightsAt-classes : (x : A) (points weights : List A) → AreWeightsAt same zero sum product one x points weights
+      → OverRing.AreWeightsAt classes.ring (class E x) (classes_of points) (classes_of weights)
   AreWeightsAt-classes x points weights W = record {
     lengths = length-classes E points ∙ W.lengths ∙ sym (length-classes E weights);
-    give = of_classes E (λ a. length a ≤ length (classes_of points) → OverRing.weighted_sum classes.ring (OverRing.values_at classes.ring (classes_of points) a) (classes_of weights) ≡ OverRing.value classes.ring (class E x) a)
+    give =
+        of_classes E (λ a. length a ≤ length (classes_of points)
+        → OverRing.weighted_sum classes.ring (OverRing.values_at classes.ring (classes_of points) a) (classes_of weights) ≡ OverRing.value classes.ring (class E x) a)
         (λ a. Π_prop (λ l. Class-set E _ _))
         (λ a l. ap (λ vs. OverRing.weighted_sum classes.ring vs (classes_of weights)) (values_at-class E G P R points a) ∙ weighted_sum-class E G P R (values_at zero sum product one points a) weights
         ∙ class_same E _ _ (W.give a (omega (arith, l, length-classes E a, length-classes E points))) ∙ sym (value-class E G P R x a));
   }
 
-  AreWeightsAt-from_classes : (x : A) (points weights : List A) → OverRing.AreWeightsAt classes.ring (class E x) (classes_of points) (classes_of weights) → AreWeightsAt same zero sum product one x points weights
+  AreWeightsAt-from_classes : (x : A) (points weights : List A) → OverRing.AreWeightsAt classes.ring (class E x) (classes_of points) (classes_of weights)
+      → AreWeightsAt same zero sum product one x points weights
   AreWeightsAt-from_classes x points weights W = record {
     lengths = sym (length-classes E points) ∙ W.lengths ∙ length-classes E weights;
     give = λ a l. same_class E _ _
@@ -51,18 +55,22 @@ module _ {A : Type 0} {same : A → A → Type 0} {zero : A} {sum : A → A → 
   pub weights_given-same : (x : A) (points : List A) → AreApart same points → AreWeightsAt same zero sum product one x points (lagrange_weights zero sum negative product one inverse x points)
   weights_given-same x points d =
       AreWeightsAt-from_classes x points (lagrange_weights zero sum negative product one inverse x points)
-      (subst (λ ws. OverRing.AreWeightsAt classes.ring (class E x) (classes_of points) ws) (lagrange_weights-class E G P R F x points) (lagrange_weights-give classes (class E x) (classes_of points) (AreDistinct-classes E zero points d)))
+      (subst (λ ws. OverRing.AreWeightsAt classes.ring (class E x) (classes_of points) ws) (lagrange_weights-class E G P R F x points)
+      (lagrange_weights-give classes (class E x) (classes_of points) (AreDistinct-classes E zero points d)))
 
   -- and no others
-  pub weights_once-same : (x : A) (points weights : List A) → AreApart same points → AreWeightsAt same zero sum product one x points weights → (i : ℕ) → same (get_or weights i zero) (get_or (lagrange_weights zero sum negative product one inverse x points) i zero)
+  pub weights_once-same : (x : A) (points weights : List A) → AreApart same points → AreWeightsAt same zero sum product one x points weights
+      → (i : ℕ) → same (get_or weights i zero) (get_or (lagrange_weights zero sum negative product one inverse x points) i zero)
   weights_once-same x points weights d W i =
       same_class E _ _
       (sym (coefficient-class E G P R weights i)
-      ∙ ap (λ ws. get_or ws i classes.zero) (weights-lagrange_weights classes (class E x) (classes_of points) (classes_of weights) (AreDistinct-classes E zero points d) (AreWeightsAt-classes x points weights W) ∙ lagrange_weights-class E G P R F x points)
+      ∙ ap (λ ws. get_or ws i classes.zero) (weights-lagrange_weights classes (class E x) (classes_of points) (classes_of weights)
+      (AreDistinct-classes E zero points d) (AreWeightsAt-classes x points weights W) ∙ lagrange_weights-class E G P R F x points)
       ∙ coefficient-class E G P R (lagrange_weights zero sum negative product one inverse x points) i)
 
   -- any two lists of weights are same place by place
-  pub weights_same : (x : A) (points weights others : List A) → AreApart same points → AreWeightsAt same zero sum product one x points weights → AreWeightsAt same zero sum product one x points others → AllZip same others weights
+  pub weights_same : (x : A) (points weights others : List A) → AreApart same points → AreWeightsAt same zero sum product one x points weights
+      → AreWeightsAt same zero sum product one x points others → AllZip same others weights
   weights_same x points weights others d W V =
       AllZip-from_places same zero others weights (sym V.lengths ∙ W.lengths)
       (λ i l. E.transitive _ _ _ (weights_once-same x points others d V i) (E.symmetric _ _ (weights_once-same x points weights d W i)))
@@ -101,7 +109,8 @@ module _ {A : Type 0} {same : A → A → Type 0} {zero : A} {sum : A → A → 
   divisor_at x points k = weight_divisor zero sum negative product one x points k
 
   divisor-class : (x : A) (points : List A) (k : ℕ)
-      → classes.product (classes.sum (class E x) (classes.negative (get_or (classes_of points) k classes.zero))) (OverRing.root_product classes.ring (get_or (classes_of points) k classes.zero) (remove (classes_of points) k))
+      → classes.product (classes.sum (class E x) (classes.negative (get_or (classes_of points) k classes.zero)))
+      (OverRing.root_product classes.ring (get_or (classes_of points) k classes.zero) (remove (classes_of points) k))
       ≡ class E (divisor_at x points k)
   divisor-class x points k =
       let p = get_or points k zero in
@@ -139,7 +148,8 @@ module _ {A : Type 0} {same : A → A → Type 0} {zero : A} {sum : A → A → 
       let count : length points' ≡ length points = length-classes E points in
       let z = classes.zero in
       let equal : get_or points' i z ≡ get_or points' j z =
-      coefficient-class E G P R points i ∙ ap (class E) (get_or_default points i zero d (omega arith)) ∙ class_same E _ _ s ∙ ap (class E) (get_or_default points j d zero m) ∙ sym (coefficient-class E G P R points j) in (
+      coefficient-class E G P R points i ∙ ap (class E) (get_or_default points i zero d (omega arith)) ∙ class_same E _ _ s
+      ∙ ap (class E) (get_or_default points j d zero m) ∙ sym (coefficient-class E G P R points j) in (
         i,
         omega arith,
         same_class E _ _ (sym (divisor-class x points i)

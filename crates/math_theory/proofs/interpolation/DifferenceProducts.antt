@@ -15,7 +15,8 @@ module _ {A : Type 0} {same : A → A → Type 0} {zero_of : A} {sum : A → A �
   product_one a = E.transitive _ _ _ (P.commutative a one) (R.identity a)
 
   -- one root more is taken
-  pub differences-step : (r x out new copy difference whole : A) (roots : List A) (i : ℕ) → i < length roots → x ≡ get_or roots i x → same copy r → same difference (sum copy (negative x)) → same new (product out difference)
+  pub differences-step : (r x out new copy difference whole : A) (roots : List A) (i : ℕ) → i < length roots → x ≡ get_or roots i x
+      → same copy r → same difference (sum copy (negative x)) → same new (product out difference)
       → same (product out (differences r (drop i roots))) whole → same (product new (differences r (drop (i + 1) roots))) whole
   differences-step r x out new copy difference whole roots i l e c d n h =
       let rest = differences r (drop (suc i) roots) in

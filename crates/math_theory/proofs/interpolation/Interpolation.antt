@@ -29,13 +29,25 @@ module _ {A : Type 0} (R : CommutativeRing A) where
   length-combination-le n [] cs h = omega arith
   length-combination-le n (p ∷ ps) [] h = omega arith
   length-combination-le n (p ∷ ps) (c ∷ cs) h =
-      omega (arith, length-sum R.sum (polynomial_multiple R p c) (combination ps cs), length-map p (λ x. R.product x c), h 0 (omega arith), length-combination-le n ps cs (λ i l. h (suc i) (omega arith)))
+      omega (
+        arith,
+        length-sum R.sum (polynomial_multiple R p c) (combination ps cs),
+        length-map p (λ x. R.product x c),
+        h 0 (omega arith),
+        length-combination-le n ps cs (λ i l. h (suc i) (omega arith)),
+      )
 
   length-combination : (n : ℕ) (ps : List (List A)) (cs : List A) → ((i : ℕ) → i < length ps → length (get_or ps i []) ≡ n) → 0 < length ps → length ps ≡ length cs → length (combination ps cs) ≡ n
   length-combination n [] cs h some e = absurd (omega arith)
   length-combination n (p ∷ ps) [] h some e = absurd (omega arith)
   length-combination n (p ∷ ps) (c ∷ cs) h some e =
-      omega (arith, length-sum R.sum (polynomial_multiple R p c) (combination ps cs), length-map p (λ x. R.product x c), h 0 (omega arith), length-combination-le n ps cs (λ i l. h (suc i) (omega arith)))
+      omega (
+        arith,
+        length-sum R.sum (polynomial_multiple R p c) (combination ps cs),
+        length-map p (λ x. R.product x c),
+        h 0 (omega arith),
+        length-combination-le n ps cs (λ i l. h (suc i) (omega arith)),
+      )
 
 module _ {A : Type 0} (F : Field A) where
   open F use {ring as R}
@@ -64,7 +76,8 @@ module _ {A : Type 0} (F : Field A) where
   lagrange_weights-zero points i k l m n =
       get_or-lagrange_weights (get_or points k F.zero) points i F.zero l ∙ lagrange_weight-at_other F points i k l m (λ e. n (sym e))
 
-  weighted_sum-at_point : (points values : List A) (k : ℕ) → AreDistinct points → k < length points → weighted_sum R values (lagrange_weights F (get_or points k F.zero) points) ≡ get_or values k F.zero
+  weighted_sum-at_point : (points values : List A) (k : ℕ) → AreDistinct points → k < length points
+      → weighted_sum R values (lagrange_weights F (get_or points k F.zero) points) ≡ get_or values k F.zero
   weighted_sum-at_point points values k d l =
       weighted_sum-one_at R k values (lagrange_weights F (get_or points k F.zero) points) (omega (arith, length-lagrange_weights (get_or points k F.zero) points)) (lagrange_weights-one points k d l)
       (λ i m n. lagrange_weights-zero points i k (omega (arith, m, length-lagrange_weights (get_or points k F.zero) points)) l n)
@@ -120,7 +133,8 @@ module _ {A : Type 0} (F : Field A) where
         let values = values_at R points a in
         let e : length points ≡ length values = sym (length-map points (λ p. value R p a)) in
         sym (value-interpolated x points values)
-        ∙ value-agreement F points (interpolated points values) a (omega (arith, length-interpolated points values e)) l d (at_each points (interpolated points values) a (values_at-interpolated points values d e)) x;
+        ∙ value-agreement F points (interpolated points values) a (omega (arith, length-interpolated points values e)) l d
+        (at_each points (interpolated points values) a (values_at-interpolated points values d e)) x;
   }
 
   -- and there are no others

@@ -58,7 +58,8 @@ module _ {A : Type 0} (F : Field A) where
   others-apart points i d l k e m =
       elim (cases_lt k i) [
         | inl below ↦ λ z. d k i F.zero below l (sym (z ∙ get_or_default (remove points i) k e F.zero m ∙ get_or-remove_below points i F.zero k below l))
-        | inr above ↦ λ z. d i (k + 1) F.zero (omega arith) (omega (arith, m, length-remove points i l)) (z ∙ get_or_default (remove points i) k e F.zero m ∙ get_or-remove_above points i F.zero k above l)
+        | inr above ↦ λ z. d i (k + 1) F.zero (omega arith) (omega (arith, m, length-remove points i l))
+            (z ∙ get_or_default (remove points i) k e F.zero m ∙ get_or-remove_above points i F.zero k above l)
       ]
 
   pub lagrange_weight-at_point : (points : List A) (i : ℕ) → AreDistinct points → i < length points

@@ -30,7 +30,8 @@ module _ {A : Type 0} {same : A → A → Type 0} {zero_of : A} {sum : A → A �
   product-split [] i d l = absurd (omega arith)
   product-split (c ∷ ds) zero d l = E.symmetric _ _ (R.identity (product c (all ds)))
   product-split (c ∷ ds) (suc i) d l =
-      E.transitive _ _ _ (P.respects _ _ _ _ (E.reflexive c) (product-split ds i d (omega arith))) (E.symmetric _ _ (P.associative c (all (take i ds)) (product (get_or ds i d) (all (drop (suc i) ds)))))
+      E.transitive _ _ _ (P.respects _ _ _ _ (E.reflexive c) (product-split ds i d (omega arith)))
+      (E.symmetric _ _ (P.associative c (all (take i ds)) (product (get_or ds i d) (all (drop (suc i) ds)))))
 
   -- from place i on, item i comes first
   pub product-drop : (ds : List A) (i : ℕ) (d : A) → i < length ds → all (drop i ds) ≡ product (get_or ds i d) (all (drop (suc i) ds))
@@ -70,7 +71,8 @@ module _ {A : Type 0} {same : A → A → Type 0} {zero_of : A} {sum : A → A �
         refl)
 
     -- and it is zero, where some divisor is zero
-    pub quotient-of_zero : (u factor : A) (ds : List A) (i k : ℕ) (d w : A) → k < length ds → same (get_or ds k d) zero_of → same u (product (inverse (all ds)) factor) → same w (quotient_at u ds i) → same w zero_of
+    pub quotient-of_zero : (u factor : A) (ds : List A) (i k : ℕ) (d w : A) → k < length ds → same (get_or ds k d) zero_of
+        → same u (product (inverse (all ds)) factor) → same w (quotient_at u ds i) → same w zero_of
     quotient-of_zero u factor ds i k d w l z e q =
         let inverted : same (inverse (all ds)) zero_of = E.transitive _ _ _ (F.respects _ _ (product-of_zero ds k d l z)) F.inverse_of_zero in
         E.transitive _ _ _ q

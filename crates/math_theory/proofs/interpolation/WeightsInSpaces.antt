@@ -12,7 +12,8 @@ module _ {A B : Type 0} {same : A → A → Type 0} {zero_of : A} {sum : A → A
     {zero_scalar : B} {sum_scalar : B → B → B} {product : B → B → B} {one : B}
     (E : IsEquality same) (G : IsGroup same zero_of sum negative) (M : IsModule same zero_of sum scaling same_scalar zero_scalar sum_scalar product one) where
   -- points that are same have sums that are same
-  pub weighted_sum-respects : {C : Type 0} (f g : C → A) → ((c : C) → same (f c) (g c)) → (cs : List C) (ws : List B) → same (weighted_sum zero_of sum scaling (map f cs) ws) (weighted_sum zero_of sum scaling (map g cs) ws)
+  pub weighted_sum-respects : {C : Type 0} (f g : C → A) → ((c : C) → same (f c) (g c)) → (cs : List C) (ws : List B)
+      → same (weighted_sum zero_of sum scaling (map f cs) ws) (weighted_sum zero_of sum scaling (map g cs) ws)
   weighted_sum-respects f g h [] ws = E.reflexive _
   weighted_sum-respects f g h (c ∷ cs) [] = E.reflexive _
   weighted_sum-respects f g h (c ∷ cs) (w ∷ ws) = G.respects_sum _ _ _ _ (M.respects_points (f c) (g c) w (h c)) (weighted_sum-respects f g h cs ws)
@@ -70,7 +71,8 @@ module _ {A B : Type 0} {same : A → A → Type 0} {zero_of : A} {sum : A → A
       → same_scalar (weighted_sum zero_scalar sum_scalar product (map (λ p. power one product p k) points) weights) (power one product x k)
   weighted_sum-powers x points weights W k l =
       Es.transitive _ _ _
-      (weighted_sum-respects Es Gs (ring_is_module Es Gs Ps Rs) (λ p. power one product p k) (λ p. value zero_scalar sum_scalar product one p (monomial k)) (λ p. Es.symmetric _ _ (value-monomial p k)) points weights)
+      (weighted_sum-respects Es Gs (ring_is_module Es Gs Ps Rs) (λ p. power one product p k)
+      (λ p. value zero_scalar sum_scalar product one p (monomial k)) (λ p. Es.symmetric _ _ (value-monomial p k)) points weights)
       (Es.transitive _ _ _ (W.give (monomial k) (omega (arith, length-monomial k))) (value-monomial x k))
 
   weights-value_from : (x : B) (points weights : List B) → AreWeightsAt same_scalar zero_scalar sum_scalar product one x points weights → (k : ℕ) (a : List A) → k + length a ≤ length points

@@ -35,9 +35,11 @@ module _ {A : Type 0} {same : A → A → Type 0} {zero : A} {sum : A → A → 
       )
 
   -- polynomials of at most n coefficients that agree at n points that are apart have the same coefficients
-  pub agreement-same : (points p q : List A) → length p ≤ length points → length q ≤ length points → AreApart same points → All (λ x. same (value_of x p) (value_of x q)) points → HaveSameCoefficients same zero p q
+  pub agreement-same : (points p q : List A) → length p ≤ length points → length q ≤ length points → AreApart same points
+      → All (λ x. same (value_of x p) (value_of x q)) points → HaveSameCoefficients same zero p q
   agreement-same points p q l m d h =
       HaveSameCoefficients-from_classes E G P R p q
-      (agreement classes (classes_of points) (classes_of p) (classes_of q) (omega (arith, l, length-classes E p, length-classes E points)) (omega (arith, m, length-classes E q, length-classes E points)) (AreDistinct-classes E zero points d)
+      (agreement classes (classes_of points) (classes_of p) (classes_of q) (omega (arith, l, length-classes E p, length-classes E points))
+      (omega (arith, m, length-classes E q, length-classes E points)) (AreDistinct-classes E zero points d)
       (All-map (λ x. OverRing.value classes.ring x (classes_of p) ≡ OverRing.value classes.ring x (classes_of q)) (class E) points
       (λ k e n. value-class E G P R (get_or points k e) p ∙ class_same E _ _ (h k e n) ∙ sym (value-class E G P R (get_or points k e) q))))

@@ -23,7 +23,12 @@ module _ {A : Type 0} (sum : A → A → A) where
   length-product zero_of product [] q h k = absurd (omega arith)
   length-product zero_of product (a ∷ []) q h k = omega (arith, length-sum (polynomial_multiple product q a) (zero_of ∷ []), length-map q (λ c. product c a))
   length-product zero_of product (a ∷ b ∷ p) q h k =
-      omega (arith, length-sum (polynomial_multiple product q a) (zero_of ∷ polynomial_product zero_of sum product (b ∷ p) q), length-map q (λ c. product c a), length-product zero_of product (b ∷ p) q (omega arith) k)
+      omega (
+        arith,
+        length-sum (polynomial_multiple product q a) (zero_of ∷ polynomial_product zero_of sum product (b ∷ p) q),
+        length-map q (λ c. product c a),
+        length-product zero_of product (b ∷ p) q (omega arith) k,
+      )
 
   -- and where one may be empty, at most one less than both together, or as many as the first
   pub length-product-le : (zero_of : A) (product : A → A → A) (p q : List A) (n : ℕ) → length p ≤ n → length p + length q ≤ suc n → length (polynomial_product zero_of sum product p q) ≤ n
@@ -53,7 +58,8 @@ module _ {A : Type 0} (R : CommutativeRing A) where
   pub coefficient-difference : (p q : List A) (i : ℕ) → coefficient R.zero (polynomial_difference R.sum R.negative p q) i ≡ R.sum (coefficient R.zero p i) (R.negative (coefficient R.zero q i))
   coefficient-difference p q i = coefficient-sum p (polynomial_negative R.negative q) i ∙ ap (R.sum (coefficient R.zero p i)) (coefficient-negative q i)
 
-  coefficient-dilation_from : (s : A) (k : ℕ) (p : List A) (i : ℕ) → coefficient R.zero (dilation_from R.product R.one R.product s k p) i ≡ R.product (coefficient R.zero p i) (OverRing.power R s (k + i))
+  coefficient-dilation_from : (s : A) (k : ℕ) (p : List A) (i : ℕ)
+      → coefficient R.zero (dilation_from R.product R.one R.product s k p) i ≡ R.product (coefficient R.zero p i) (OverRing.power R s (k + i))
   coefficient-dilation_from s k [] i = sym (zero-product R (OverRing.power R s (k + i)))
   coefficient-dilation_from s k (a ∷ p) zero = let e : k ≡ k + 0 = omega arith in ap (λ n. R.product a (OverRing.power R s n)) e
   coefficient-dilation_from s k (a ∷ p) (suc i) =

@@ -41,4 +41,5 @@ module _ {A : Type 0} (R : CommutativeRing A) where
 pub root_product-nonzero : {A : Type 0} (F : Field A) (r : A) (roots : List A) → All (λ x. r ≢ x) roots → root_product F.ring r roots ≢ F.zero
 root_product-nonzero F r [] h e = F.one_apart e
 root_product-nonzero F r (x ∷ roots) h e =
-    product-nonzero F (F.sum r (F.negative x)) (root_product F.ring r roots) (difference-nonzero F r x (All-head (λ x. r ≢ x) x roots h)) (root_product-nonzero F r roots (All-tail (λ x. r ≢ x) x roots h)) e
+    product-nonzero F (F.sum r (F.negative x)) (root_product F.ring r roots) (difference-nonzero F r x (All-head (λ x. r ≢ x) x roots h))
+    (root_product-nonzero F r roots (All-tail (λ x. r ≢ x) x roots h)) e

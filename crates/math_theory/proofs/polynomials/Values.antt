@@ -70,7 +70,8 @@ module _ {A : Type 0} (R : CommutativeRing A) where
   pub value-product : (r : A) (p q : List A) → value R r (polynomial_product R p q) ≡ product (value R r p) (value R r q)
   value-product r p q = value-horner r (polynomial_product R p q) ∙ horner-product r p q ∙ sym (ap₂ product (value-horner r p) (value-horner r q))
 
-  value_from-dilation : (r s : A) (i : ℕ) (p : List A) → value_from R.zero sum product R.one product r i (dilation_from product R.one product s i p) ≡ value_from R.zero sum product R.one product (product s r) i p
+  value_from-dilation : (r s : A) (i : ℕ) (p : List A)
+      → value_from R.zero sum product R.one product r i (dilation_from product R.one product s i p) ≡ value_from R.zero sum product R.one product (product s r) i p
   value_from-dilation r s i [] = refl
   value_from-dilation r s i (a ∷ p) =
       ap₂ sum (R.product_assoc a (power R s i) (power R r i) ∙ sym (ap (product a) (power-product R s r i))) (value_from-dilation r s (suc i) p)

@@ -23,14 +23,16 @@ module _ {A B : Type 0} {same : A → A → Type 0} {zero : A} {sum : A → A �
 
   -- weights that are a times the powers of r from the i-th on give the sum of the terms, scaled by a
   weighted_sum-powers_from : (a u r : B) → same_scalar u a → (i : ℕ) (p : List A) (weights : List B)
-      → AllZip same_scalar weights (map (product u) (powers_from one product r i (length p))) → same (weighted_sum zero sum scaling p weights) (scaling (value_from zero sum scaling one product r i p) a)
+      → AllZip same_scalar weights (map (product u) (powers_from one product r i (length p)))
+      → same (weighted_sum zero sum scaling p weights) (scaling (value_from zero sum scaling one product r i p) a)
   weighted_sum-powers_from a u r e i [] weights h = E.symmetric _ _ (scaling_zero E G M a)
   weighted_sum-powers_from a u r e i (x ∷ p) [] h = absurd h
   weighted_sum-powers_from a u r e i (x ∷ p) (w ∷ weights) h =
       let t = power one product r i in
       let k : same_scalar w (product a t) = F.transitive _ _ _ h.0 (P.respects _ _ _ _ e (F.reflexive t)) in
       E.transitive _ _ _
-      (G.respects_sum _ _ _ _ (E.transitive _ _ _ (M.respects_scalars x _ _ k) (scaled_term x a t)) (weighted_sum-powers_from a u r e (suc i) p weights (subst (λ (j : ℕ). AllZip same_scalar weights (map (product u) (powers_from one product r j (length p)))) (add-one i) h.1)))
+      (G.respects_sum _ _ _ _ (E.transitive _ _ _ (M.respects_scalars x _ _ k) (scaled_term x a t))
+      (weighted_sum-powers_from a u r e (suc i) p weights (subst (λ (j : ℕ). AllZip same_scalar weights (map (product u) (powers_from one product r j (length p)))) (add-one i) h.1)))
       (E.symmetric _ _ (M.sum_of_points (scaling x t) (value_from zero sum scaling one product r (suc i) p) a))
 
   -- weights that are a times the powers of r give the value at r scaled by a
@@ -62,7 +64,8 @@ module _ {A B : Type 0} {same : A → A → Type 0} {zero : A} {sum : A → A �
       = E.transitive _ _ _ (M.respects_scalars x _ _ h.0)
       (E.transitive _ _ _ (M.sum_of_scalars x o (product u t))
       (G.respects_sum _ _ _ _ (E.reflexive (scaling x o)) (E.transitive _ _ _ (M.respects_scalars x _ _ (P.respects _ _ _ _ e (F.reflexive t))) (scaled_term x a t)))) in
-      let rest = weighted_sum-added_from a u r e (suc i) p old new (omega arith) (subst (λ (j : ℕ). AreSums same_scalar sum_scalar (zip old (map (product u) (powers_from one product r j (length old)))) new) (add-one i) h.1) in
+      let rest = weighted_sum-added_from a u r e (suc i) p old new (omega arith)
+      (subst (λ (j : ℕ). AreSums same_scalar sum_scalar (zip old (map (product u) (powers_from one product r j (length old)))) new) (add-one i) h.1) in
       E.transitive _ _ _ (G.respects_sum _ _ _ _ here rest)
       (E.transitive _ _ _ (regrouped (scaling x o) (scaling (scaling x t) a) (weighted_sum zero sum scaling p old) (scaling v a))
       (G.respects_sum _ _ _ _ (E.reflexive (sum (scaling x o) (weighted_sum zero sum scaling p old))) (E.symmetric _ _ (M.sum_of_points (scaling x t) v a))))

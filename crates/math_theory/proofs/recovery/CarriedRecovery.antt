@@ -28,13 +28,15 @@ module _ {A : Type 0} {same : A → A → Type 0} {zero : A} {sum : A → A → 
   value-at_power : (w : A) (i : ℕ) (p : List A) → OverRing.value classes.ring (OverRing.power classes.ring (class E w) i) (classes_of p) ≡ class E (value_of (power one product w i) p)
   value-at_power w i p = ap (λ x. OverRing.value classes.ring x (classes_of p)) (power-class E G P R w i) ∙ value-class E G P R (power one product w i) p
 
-  Fits-classes : (w : A) (cells : List A) (filled : List Bool) (q : List A) → Fits same zero sum product one w cells filled q → OverRing.Fits classes.ring (class E w) (classes_of cells) filled (classes_of q)
+  Fits-classes : (w : A) (cells : List A) (filled : List Bool) (q : List A) → Fits same zero sum product one w cells filled q
+      → OverRing.Fits classes.ring (class E w) (classes_of cells) filled (classes_of q)
   Fits-classes w cells filled q h = record {
     agrees = λ j l t. value-at_power w j q ∙ class_same E _ _ (h.agrees j (omega (arith, l, length-classes E cells)) t) ∙ sym (coefficient-class E G P R cells j);
     zero_from = λ i l. coefficient-class E G P R q i ∙ class_same E _ _ (h.zero_from i l);
   }
 
-  Fits-from_classes : (w : A) (cells : List A) (filled : List Bool) (q : List A) → OverRing.Fits classes.ring (class E w) (classes_of cells) filled (classes_of q) → Fits same zero sum product one w cells filled q
+  Fits-from_classes : (w : A) (cells : List A) (filled : List Bool) (q : List A)
+      → OverRing.Fits classes.ring (class E w) (classes_of cells) filled (classes_of q) → Fits same zero sum product one w cells filled q
   Fits-from_classes w cells filled q h = record {
     agrees = λ j l t. same_class E _ _ (sym (value-at_power w j q) ∙ h.agrees j (omega (arith, l, length-classes E cells)) t ∙ coefficient-class E G P R cells j);
     zero_from = λ i l. same_class E _ _ (sym (coefficient-class E G P R q i) ∙ h.zero_from i l);
@@ -48,7 +50,8 @@ module _ {A : Type 0} {same : A → A → Type 0} {zero : A} {sum : A → A → 
       → (p q : List A) → Fits same zero sum product one w cells filled p → Fits same zero sum product one w cells filled q → HaveSameCoefficients same zero p q
   fits_once-same w cells filled e d p q h k =
       HaveSameCoefficients-from_classes E G P R p q
-      (Fits-unique classes (class E w) (length cells) (classes_of cells) filled (length-classes E cells) e (powers-distinct w (length cells) d) (classes_of p) (classes_of q) (Fits-classes w cells filled p h) (Fits-classes w cells filled q k))
+      (Fits-unique classes (class E w) (length cells) (classes_of cells) filled (length-classes E cells) e (powers-distinct w (length cells) d)
+      (classes_of p) (classes_of q) (Fits-classes w cells filled p h) (Fits-classes w cells filled q k))
 
   HasCoset-classes : (w s : A) (n : ℕ) → HasCoset same zero product one w s n → OverRing.HasCoset classes.ring (class E w) (class E s) n
   HasCoset-classes w s n h = record {
@@ -65,7 +68,8 @@ module _ {A : Type 0} {same : A → A → Type 0} {zero : A} {sum : A → A → 
     values = λ i l.
         value-at_power w i v ∙ class_same E _ _ (h.values i l)
         ∙ sym (ap (classes.product (class E u))
-        (ap₂ (OverRing.root_product classes.ring) (power-class E G P R w i) (ap (λ xs. missing_items xs filled) (powers-class E G P R w n) ∙ missing_items-map (class E) (powers one product w n) filled)
+        (ap₂ (OverRing.root_product classes.ring) (power-class E G P R w i)
+        (ap (λ xs. missing_items xs filled) (powers-class E G P R w n) ∙ missing_items-map (class E) (powers one product w n) filled)
         ∙ root_product-class E G P R (power one product w i) (missing_items (powers one product w n) filled)));
   }
 
@@ -76,7 +80,8 @@ module _ {A : Type 0} {same : A → A → Type 0} {zero : A} {sum : A → A → 
     values = λ i l. value-at_power w i g ∙ class_same E _ _ (h.values i l) ∙ sym (ap₂ classes.product (coefficient-class E G P R cells i) (value-at_power w i v));
   }
 
-  value-on_coset : (w s : A) (i : ℕ) (p : List A) → OverRing.value classes.ring (classes.product (class E s) (OverRing.power classes.ring (class E w) i)) (classes_of p) ≡ class E (value_of (product s (power one product w i)) p)
+  value-on_coset : (w s : A) (i : ℕ) (p : List A)
+      → OverRing.value classes.ring (classes.product (class E s) (OverRing.power classes.ring (class E w) i)) (classes_of p) ≡ class E (value_of (product s (power one product w i)) p)
   value-on_coset w s i p = ap (λ x. OverRing.value classes.ring (classes.product (class E s) x) (classes_of p)) (power-class E G P R w i) ∙ value-class E G P R (product s (power one product w i)) p
 
   DividesOnCoset-classes : (w s : A) (n : ℕ) (v g q : List A)
@@ -94,4 +99,5 @@ module _ {A : Type 0} {same : A → A → Type 0} {zero : A} {sum : A → A → 
   division_on_coset-same w s u cells filled v g q e some coset V H Q =
       Fits-from_classes w cells filled q
       (Fits-from_division classes (class E w) (class E s) (class E u) (length cells) (classes_of cells) filled (classes_of v) (classes_of g) (classes_of q) (length-classes E cells) e some
-      (HasCoset-classes w s (length cells) coset) (VanishesAtMissing-classes w (length cells) filled u v V) (HasProductValues-classes w (length cells) cells v g H) (DividesOnCoset-classes w s (length cells) v g q Q))
+      (HasCoset-classes w s (length cells) coset) (VanishesAtMissing-classes w (length cells) filled u v V)
+      (HasProductValues-classes w (length cells) cells v g H) (DividesOnCoset-classes w s (length cells) v g q Q))

@@ -41,7 +41,8 @@ module _ {A : Type 0} where
   All-missing_items P (x ∷ xs) (true ∷ filled) h = All-missing_items P xs filled (All-tail P x xs h)
   All-missing_items P (x ∷ xs) (false ∷ filled) h = All-cons P x (missing_items xs filled) (All-head P x xs h) (All-missing_items P xs filled (All-tail P x xs h))
 
-  pub missing_item-at : (P : A → Type 0) (d : A) (xs : List A) (filled : List Bool) → All P (missing_items xs filled) → (j : ℕ) → j < length xs → j < length filled → get_or filled j false ≡ false → P (get_or xs j d)
+  pub missing_item-at : (P : A → Type 0) (d : A) (xs : List A) (filled : List Bool) → All P (missing_items xs filled)
+      → (j : ℕ) → j < length xs → j < length filled → get_or filled j false ≡ false → P (get_or xs j d)
   missing_item-at P d [] filled h j l m f = absurd (omega arith)
   missing_item-at P d (x ∷ xs) [] h j l m f = absurd (omega arith)
   missing_item-at P d (x ∷ xs) (true ∷ filled) h zero l m f = absurd (true≢false f)

@@ -14,8 +14,9 @@ module _ {A : Type 0} (R : CommutativeRing A) where
   abbrev pub AgreesAtFilled : List A → List A → List Bool → List A → Type 0
   AgreesAtFilled points cells filled q = (j : ℕ) → j < length cells → get_or filled j false ≡ true → value R (get_or points j R.zero) q ≡ get_or cells j R.zero
 
-  AgreesAtFilled-from_items : (q points cells : List A) (filled : List Bool) → length points ≡ length cells
-      → values_at R (filled_items points filled) q ≡ filled_items cells filled → AgreesAtFilled points cells filled q
+  -- the values at the filled points are the filled cells exactly where q agrees with these
+  AgreesAtFilled-from_items : (q points cells : List A) (filled : List Bool)
+      → length points ≡ length cells → values_at R (filled_items points filled) q ≡ filled_items cells filled → AgreesAtFilled points cells filled q
   AgreesAtFilled-from_items q points [] filled l e j m t = absurd (omega arith)
   AgreesAtFilled-from_items q [] (c ∷ cells) filled l e j m t = absurd (omega (arith, l))
   AgreesAtFilled-from_items q (x ∷ points) (c ∷ cells) [] l e j m t = absurd (true≢false (sym t))
@@ -24,8 +25,8 @@ module _ {A : Type 0} (R : CommutativeRing A) where
   AgreesAtFilled-from_items q (x ∷ points) (c ∷ cells) (false ∷ filled) l e zero m t = absurd (true≢false (sym t))
   AgreesAtFilled-from_items q (x ∷ points) (c ∷ cells) (false ∷ filled) l e (suc j) m t = AgreesAtFilled-from_items q points cells filled (omega (arith, l)) e j (omega arith) t
 
-  items-from_AgreesAtFilled : (q points cells : List A) (filled : List Bool) → length points ≡ length cells
-      → AgreesAtFilled points cells filled q → values_at R (filled_items points filled) q ≡ filled_items cells filled
+  items-from_AgreesAtFilled : (q points cells : List A) (filled : List Bool)
+      → length points ≡ length cells → AgreesAtFilled points cells filled q → values_at R (filled_items points filled) q ≡ filled_items cells filled
   items-from_AgreesAtFilled q [] [] filled l h = refl
   items-from_AgreesAtFilled q [] (c ∷ cells) filled l h = absurd (omega (arith, l))
   items-from_AgreesAtFilled q (x ∷ points) [] filled l h = absurd (omega (arith, l))
@@ -43,7 +44,8 @@ module _ {A : Type 0} (R : CommutativeRing A) where
   values_at-HaveSameCoefficients [] p q h = refl
   values_at-HaveSameCoefficients (x ∷ points) p q h = ap₂ (λ v vs. v ∷ vs) (value-HaveSameCoefficients R x p q h) (values_at-HaveSameCoefficients points p q h)
 
-module _ {A : Type 0} (F : Field A) (points cells : List A) (filled : List Bool) (distinct : AreDistinct points) (as_long : length points ≡ length cells) (filled_long : length filled ≡ length cells) where
+module _ {A : Type 0} (F : Field A) (points cells : List A) (filled : List Bool) (distinct : AreDistinct points)
+    (as_long : length points ≡ length cells) (filled_long : length filled ≡ length cells) where
   open F use {ring as R}
 
   -- the polynomial through the filled cells
@@ -66,9 +68,12 @@ module _ {A : Type 0} (F : Field A) (points cells : List A) (filled : List Bool)
       → AgreesAtFilled R points cells filled q → ((i : ℕ) → count_true filled ≤ i → coefficient R q i ≡ F.zero) → HaveSameCoefficients R p q
   fitting-unique p q hp zp hq zq i =
       let m = count_true filled in
-      let short : (a : List A) → length (take m a) ≤ length (filled_items points filled) = λ a. omega (arith, length-take m a, length-filled_items points filled (omega (arith, filled_long, as_long))) in
-      let at_filled : (a : List A) → AgreesAtFilled R points cells filled a → ((i : ℕ) → m ≤ i → coefficient R a i ≡ F.zero) → values_at R (filled_items points filled) (take m a) ≡ filled_items cells filled =
+      let short : (a : List A) → length (take m a) ≤ length (filled_items points filled)
+      = λ a. omega (arith, length-take m a, length-filled_items points filled (omega (arith, filled_long, as_long))) in
+      let at_filled : (a : List A) → AgreesAtFilled R points cells filled a → ((i : ℕ) → m ≤ i → coefficient R a i ≡ F.zero)
+      → values_at R (filled_items points filled) (take m a) ≡ filled_items cells filled =
       λ a ha za. values_at-HaveSameCoefficients R (filled_items points filled) (take m a) a (take-HaveSameCoefficients R m a za) ∙ items-from_AgreesAtFilled R a points cells filled as_long ha in
       sym (take-HaveSameCoefficients R m p zp i)
-      ∙ values_at-agreement F (filled_items points filled) (take m p) (take m q) (AreApart-filled_items (λ (x y : A). x ≡ y) points filled distinct) (short p) (short q) (at_filled p hp zp ∙ sym (at_filled q hq zq)) i
+      ∙ values_at-agreement F (filled_items points filled) (take m p) (take m q) (AreApart-filled_items (λ (x y : A). x ≡ y) points filled distinct)
+      (short p) (short q) (at_filled p hp zp ∙ sym (at_filled q hq zq)) i
       ∙ take-HaveSameCoefficients R m q zq i

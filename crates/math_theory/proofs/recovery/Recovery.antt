@@ -48,7 +48,14 @@ module _ {A : Type 0} (F : Field A) (w : A) (n : ℕ) (cells : List A) (filled :
     pub length-padded_fitting : length padded_fitting ≡ n
     unfolding padded_fitting
     length-padded_fitting =
-        omega (arith, length-append through (replicate (n - count_true filled) F.zero), length-replicate (n - count_true filled) F.zero, length-through, count_by-le-length (λ b. b) filled, filled_long)
+        omega (
+          arith,
+          length-append through (replicate (n - count_true filled) F.zero),
+          length-replicate (n - count_true filled) F.zero,
+          length-through,
+          count_by-le-length (λ b. b) filled,
+          filled_long,
+        )
 
     pub Fits-padded_fitting : Fits R w cells filled padded_fitting
     unfolding padded_fitting
@@ -72,7 +79,8 @@ module _ {A : Type 0} (F : Field A) (w : A) (n : ℕ) (cells : List A) (filled :
       value-product R (power R w j) f v
       ∙ elim (cases_Bool (get_or filled j false)) [
         | inl t ↦ ap (λ y. product y (value R (power R w j) v)) (sym (ap (λ x. value R x f) (get_or-powers R w n j F.zero l)) ∙ h j (omega (arith, l, cells_long)) t)
-        | inr t ↦ ap (product (value R (power R w j) f)) (k j l t) ∙ product-zero R (value R (power R w j) f) ∙ sym (ap (product (get_or cells j F.zero)) (k j l t) ∙ product-zero R (get_or cells j F.zero))
+        | inr t ↦ ap (product (value R (power R w j) f)) (k j l t) ∙ product-zero R (value R (power R w j) f)
+            ∙ sym (ap (product (get_or cells j F.zero)) (k j l t) ∙ product-zero R (get_or cells j F.zero))
       ]
 
 -- where v is zero at none of some distinct points, a polynomial is determined by the products of its values there with those of v
@@ -106,7 +114,8 @@ module _ {A : Type 0} (F : Field A) (w s : A) (n : ℕ) (coset : HasCoset F.ring
       ∙ sym (get_or-powers R w n j F.zero below))
 
 module _ {A : Type 0} (F : Field A) (w s u : A) (n : ℕ) (cells : List A) (filled : List Bool) (v g q : List A) (cells_long : length cells ≡ n) (filled_long : length filled ≡ n)
-    (some_filled : 1 ≤ count_true filled) (coset : HasCoset F.ring w s n) (V : VanishesAtMissing F.ring w n filled u v) (G : HasProductValues F.ring w n cells v g) (Q : DividesOnCoset F.ring w s n v g q) where
+    (some_filled : 1 ≤ count_true filled) (coset : HasCoset F.ring w s n) (V : VanishesAtMissing F.ring w n filled u v)
+    (G : HasProductValues F.ring w n cells v g) (Q : DividesOnCoset F.ring w s n v g q) where
   open F use {sum, negative, product, ring as R}
 
   abbrev missing : List A
@@ -135,13 +144,15 @@ module _ {A : Type 0} (F : Field A) (w s u : A) (n : ℕ) (cells : List A) (fill
   vanishing-at_missing j l t =
       value-vanishing (power R w j)
       ∙ ap (product u) (subst (λ x. root_product R x missing ≡ F.zero) (get_or-powers R w n j F.zero l)
-      (missing_item-at (λ x. root_product R x missing ≡ F.zero) F.zero (powers R w n) filled (λ k d m. root_product-at_root R missing k d m) j (omega (arith, l, length-powers R w n)) (omega (arith, l, filled_long)) t))
+      (missing_item-at (λ x. root_product R x missing ≡ F.zero) F.zero (powers R w n) filled (λ k d m. root_product-at_root R missing k d m) j
+      (omega (arith, l, length-powers R w n)) (omega (arith, l, filled_long)) t))
       ∙ product-zero R u
 
   v-on_coset : (i : ℕ) → i < n → value R (product s (power R w i)) v ≢ F.zero
   v-on_coset i l e =
       product-nonzero F u (root_product R (product s (power R w i)) missing) V.factor_nonzero
-      (root_product-nonzero F (product s (power R w i)) missing (All-missing_items (λ x. product s (power R w i) ≢ x) (powers R w n) filled (All-powers R w n (λ x. product s (power R w i) ≢ x) (λ j m. coset.apart i j l m))))
+      (root_product-nonzero F (product s (power R w i)) missing
+      (All-missing_items (λ x. product s (power R w i) ≢ x) (powers R w n) filled (All-powers R w n (λ x. product s (power R w i) ≢ x) (λ j m. coset.apart i j l m))))
       (sym (value-vanishing (product s (power R w i))) ∙ vanishing-v (product s (power R w i)) ∙ e)
 
   -- the polynomial through the filled cells
@@ -161,14 +172,17 @@ module _ {A : Type 0} (F : Field A) (w s u : A) (n : ℕ) (cells : List A) (fill
       (omega (arith, length-powers R w n, length-product-le sum F.zero product f vanishing n (omega (arith, length-f, count_missing)) (omega (arith, length-f, length-vanishing, count_missing))))
       (omega (arith, G.short, length-powers R w n)) coset.distinct
       (All-powers R w n (λ x. value R x (polynomial_product R f vanishing) ≡ value R x g)
-      (λ i l. product-values F w n cells filled cells_long filled_long f vanishing f-agrees vanishing-at_missing i l ∙ ap (product (get_or cells i F.zero)) (vanishing-v (power R w i)) ∙ sym (G.values i l)))
+      (λ i l. product-values F w n cells filled cells_long filled_long f vanishing f-agrees vanishing-at_missing i l
+      ∙ ap (product (get_or cells i F.zero)) (vanishing-v (power R w i)) ∙ sym (G.values i l)))
 
   q-f : HaveSameCoefficients R q f
   q-f =
-      division F (coset_points F w s n coset) q f v (coset_points-distinct F w s n coset) (omega (arith, Q.short, length-coset_points F w s n coset)) (omega (arith, length-f, count_missing, length-coset_points F w s n coset))
+      division F (coset_points F w s n coset) q f v (coset_points-distinct F w s n coset) (omega (arith, Q.short, length-coset_points F w s n coset))
+      (omega (arith, length-f, count_missing, length-coset_points F w s n coset))
       (All-coset_points F w s n coset (λ x. value R x v ≢ F.zero) v-on_coset)
       (All-coset_points F w s n coset (λ x. product (value R x q) (value R x v) ≡ product (value R x f) (value R x v))
-      (λ i l. Q.values i l ∙ sym (product-g (product s (power R w i))) ∙ value-product R (product s (power R w i)) f vanishing ∙ ap (product (value R (product s (power R w i)) f)) (vanishing-v (product s (power R w i)))))
+      (λ i l. Q.values i l ∙ sym (product-g (product s (power R w i))) ∙ value-product R (product s (power R w i)) f vanishing
+      ∙ ap (product (value R (product s (power R w i)) f)) (vanishing-v (product s (power R w i)))))
 
   -- what division on the coset gives fits
   pub Fits-from_division : Fits R w cells filled q

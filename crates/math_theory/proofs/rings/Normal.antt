@@ -146,7 +146,8 @@ module _ {Carrier : Type 0} (R : CommutativeRing Carrier) (v : List Carrier) whe
   add_monomial-value m empty = refl
   add_monomial-value m (added n p) = either (precedes n m) _ _ (ap (sum (monomial_value n)) (add_monomial-value m p) ∙ sum-left_comm R (monomial_value n) (monomial_value m) (form_value p)) refl
   add_monomial-value m (subtracted n p) =
-      either_if (is_equal m n) _ _ (λ e. sym (ap (λ k. sum (monomial_value k) (sum (negative (monomial_value n)) (form_value p))) (is_equal-holds m n e) ∙ sum-negative_front R (monomial_value n) (form_value p)))
+      either_if (is_equal m n) _ _ (λ e. sym (ap (λ k. sum (monomial_value k) (sum (negative (monomial_value n)) (form_value p))) (is_equal-holds m n e)
+      ∙ sum-negative_front R (monomial_value n) (form_value p)))
       (either (precedes n m) _ _ (ap (sum (negative (monomial_value n))) (add_monomial-value m p) ∙ sum-left_comm R (negative (monomial_value n)) (monomial_value m) (form_value p)) refl)
 
   subtract_monomial-value : (m : List ℕ) (p : NormalForm) → form_value (subtract_monomial m p) ≡ sum (negative (monomial_value m)) (form_value p)
@@ -154,7 +155,8 @@ module _ {Carrier : Type 0} (R : CommutativeRing Carrier) (v : List Carrier) whe
   subtract_monomial-value m (subtracted n p) =
       either (precedes n m) _ _ (ap (sum (negative (monomial_value n))) (subtract_monomial-value m p) ∙ sum-left_comm R (negative (monomial_value n)) (negative (monomial_value m)) (form_value p)) refl
   subtract_monomial-value m (added n p) =
-      either_if (is_equal m n) _ _ (λ e. sym (ap (λ k. sum (negative (monomial_value k)) (sum (monomial_value n) (form_value p))) (is_equal-holds m n e) ∙ negative-sum_front R (monomial_value n) (form_value p)))
+      either_if (is_equal m n) _ _ (λ e. sym (ap (λ k. sum (negative (monomial_value k)) (sum (monomial_value n) (form_value p))) (is_equal-holds m n e)
+      ∙ negative-sum_front R (monomial_value n) (form_value p)))
       (either (precedes n m) _ _ (ap (sum (monomial_value n)) (subtract_monomial-value m p) ∙ sum-left_comm R (monomial_value n) (negative (monomial_value m)) (form_value p)) refl)
 
   insert_variable-value : (i : ℕ) (m : List ℕ) → monomial_value (insert_variable i m) ≡ product (variable_value i) (monomial_value m)
@@ -194,7 +196,8 @@ module _ {Carrier : Type 0} (R : CommutativeRing Carrier) (v : List Carrier) whe
       add_multiple-value m q (multiply p q) ∙ ap (sum (product (monomial_value m) (form_value q))) (multiply-value p q) ∙ sym (R.distributive (monomial_value m) (form_value p) (form_value q))
   multiply-value (subtracted m p) q =
       add_multiple-value m (negated q) (multiply p q)
-      ∙ ap₂ sum (ap (product (monomial_value m)) (negated-value q) ∙ product-negative R (monomial_value m) (form_value q) ∙ sym (negative-product R (monomial_value m) (form_value q))) (multiply-value p q)
+      ∙ ap₂ sum (ap (product (monomial_value m)) (negated-value q) ∙ product-negative R (monomial_value m) (form_value q)
+      ∙ sym (negative-product R (monomial_value m) (form_value q))) (multiply-value p q)
       ∙ sym (R.distributive (negative (monomial_value m)) (form_value p) (form_value q))
 
   normal-value : (e : Expression) → value_of e ≡ form_value (normal e)

@@ -41,7 +41,8 @@ module _ {A : Type 0} (n : ℕ) (value : A → ℕ) (residue : ℕ → A) (reads
   residues_product = record {
     respects = λ a b c d e f. ap (λ t. value (residue (t * value c))) e ∙ ap (λ t. value (residue (value b * t))) f;
     commutative = λ a b. ap (λ t. value (residue t)) (mul_comm (value a) (value b));
-    associative = λ a b c. simp reads (mul-mod_first (value a * value b) (value c) n ∙ ap (λ t. t % n) (mul_assoc (value a) (value b) (value c)) ∙ sym (mul-mod_second (value a) (value b * value c) n));
+    associative = λ a b c.
+        simp reads (mul-mod_first (value a * value b) (value c) n ∙ ap (λ t. t % n) (mul_assoc (value a) (value b) (value c)) ∙ sym (mul-mod_second (value a) (value b * value c) n));
   }
 
   pub residues_ring : IsRing (same value) (sum value residue) (product value residue) (residue 1)

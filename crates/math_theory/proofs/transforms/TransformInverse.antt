@@ -76,42 +76,45 @@ module _ {A : Type 0} (R : CommutativeRing A) where
   sum_back s (a ∷ e) (b ∷ x) h =
       ap₂ (λ c rest. c ∷ rest) (ring R (a ∷ b ∷ s ∷ []) (((v0 ⊕ v1) ⊗ v2) ⊕ ((v0 ⊖ v1) ⊗ v2)) (v0 ⊗ (v2 ⊗ (𝟙 ⊕ 𝟙))) refl) (sum_back s e x (omega (arith, h)))
 
-  difference_back : (w w' s : A) (i : ℕ) (e o : List A) → product w w' ≡ R.one → length e ≡ length o
-      → dilation_from product R.one product w' i (polynomial_difference R (polynomial_multiple R (polynomial_sum R e (dilation_from product R.one product w i o)) s)
-      (polynomial_multiple R (polynomial_difference R e (dilation_from product R.one product w i o)) s)) ≡ polynomial_multiple R o (product s two)
-  difference_back w w' s i [] [] u h = refl
-  difference_back w w' s i [] (b ∷ o) u h = absurd (omega (arith, h))
-  difference_back w w' s i (a ∷ e) [] u h = absurd (omega (arith, h))
-  difference_back w w' s i (a ∷ e) (b ∷ o) u h =
-      ap₂ (λ c rest. c ∷ rest)
-      (combine R (a ∷ b ∷ s ∷ power R w i ∷ power R w' i ∷ []) ((((v0 ⊕ (v1 ⊗ v3)) ⊗ v2) ⊖ ((v0 ⊖ (v1 ⊗ v3)) ⊗ v2)) ⊗ v4) (v1 ⊗ (v2 ⊗ (𝟙 ⊕ 𝟙)))
-      (v1 ⊗ (v2 ⊗ (𝟙 ⊕ 𝟙))) (v3 ⊗ v4) 𝟙 (power-at_inverse w w' u i) refl)
-      (difference_back w w' s (suc i) e o u (omega (arith, h)))
+  module _ (w w' : A) (u : product w w' ≡ R.one) where
+    difference_back : (s : A) (i : ℕ) (e o : List A) → length e ≡ length o
+        → dilation_from product R.one product w' i (polynomial_difference R (polynomial_multiple R (polynomial_sum R e (dilation_from product R.one product w i o)) s)
+        (polynomial_multiple R (polynomial_difference R e (dilation_from product R.one product w i o)) s)) ≡ polynomial_multiple R o (product s two)
+    difference_back s i [] [] h = refl
+    difference_back s i [] (b ∷ o) h = absurd (omega (arith, h))
+    difference_back s i (a ∷ e) [] h = absurd (omega (arith, h))
+    difference_back s i (a ∷ e) (b ∷ o) h =
+        ap₂ (λ c rest. c ∷ rest)
+        (combine R (a ∷ b ∷ s ∷ power R w i ∷ power R w' i ∷ []) ((((v0 ⊕ (v1 ⊗ v3)) ⊗ v2) ⊖ ((v0 ⊖ (v1 ⊗ v3)) ⊗ v2)) ⊗ v4) (v1 ⊗ (v2 ⊗ (𝟙 ⊕ 𝟙)))
+        (v1 ⊗ (v2 ⊗ (𝟙 ⊕ 𝟙))) (v3 ⊗ v4) 𝟙 (power-at_inverse w w' u i) refl)
+        (difference_back s (suc i) e o (omega (arith, h)))
 
-  -- a sum and a difference of what was added and subtracted, times s
-  first_back : (w w' s : A) (i : ℕ) (l r : List A) → product w w' ≡ R.one → length l ≡ length r
-      → polynomial_sum R (polynomial_multiple R (polynomial_sum R l r) s) (dilation_from product R.one product w i (polynomial_multiple R (dilation_from product R.one product w' i (polynomial_difference R l r)) s))
-      ≡ polynomial_multiple R l (product s two)
-  first_back w w' s i [] [] u h = refl
-  first_back w w' s i [] (b ∷ r) u h = absurd (omega (arith, h))
-  first_back w w' s i (a ∷ l) [] u h = absurd (omega (arith, h))
-  first_back w w' s i (a ∷ l) (b ∷ r) u h =
-      ap₂ (λ c rest. c ∷ rest)
-      (combine R (a ∷ b ∷ s ∷ power R w i ∷ power R w' i ∷ []) (((v0 ⊕ v1) ⊗ v2) ⊕ ((((v0 ⊖ v1) ⊗ v4) ⊗ v2) ⊗ v3)) (v0 ⊗ (v2 ⊗ (𝟙 ⊕ 𝟙)))
-      ((v0 ⊖ v1) ⊗ v2) (v3 ⊗ v4) 𝟙 (power-at_inverse w w' u i) refl)
-      (first_back w w' s (suc i) l r u (omega (arith, h)))
+    -- the differences, item i times the power i of w', then times s, and item i times the power i of w
+    abbrev scaled_differences : A → ℕ → List A → List A → List A
+    scaled_differences s i l r = dilation_from product R.one product w i (polynomial_multiple R (dilation_from product R.one product w' i (polynomial_difference R l r)) s)
 
-  second_back : (w w' s : A) (i : ℕ) (l r : List A) → product w w' ≡ R.one → length l ≡ length r
-      → polynomial_difference R (polynomial_multiple R (polynomial_sum R l r) s) (dilation_from product R.one product w i (polynomial_multiple R (dilation_from product R.one product w' i (polynomial_difference R l r)) s))
-      ≡ polynomial_multiple R r (product s two)
-  second_back w w' s i [] [] u h = refl
-  second_back w w' s i [] (b ∷ r) u h = absurd (omega (arith, h))
-  second_back w w' s i (a ∷ l) [] u h = absurd (omega (arith, h))
-  second_back w w' s i (a ∷ l) (b ∷ r) u h =
-      ap₂ (λ c rest. c ∷ rest)
-      (combine R (a ∷ b ∷ s ∷ power R w i ∷ power R w' i ∷ []) (((v0 ⊕ v1) ⊗ v2) ⊖ ((((v0 ⊖ v1) ⊗ v4) ⊗ v2) ⊗ v3)) (v1 ⊗ (v2 ⊗ (𝟙 ⊕ 𝟙)))
-      (minus ((v0 ⊖ v1) ⊗ v2)) (v3 ⊗ v4) 𝟙 (power-at_inverse w w' u i) refl)
-      (second_back w w' s (suc i) l r u (omega (arith, h)))
+    -- a sum and a difference of what was added and subtracted, times s
+    first_back : (s : A) (i : ℕ) (l r : List A) → length l ≡ length r
+        → polynomial_sum R (polynomial_multiple R (polynomial_sum R l r) s) (scaled_differences s i l r) ≡ polynomial_multiple R l (product s two)
+    first_back s i [] [] h = refl
+    first_back s i [] (b ∷ r) h = absurd (omega (arith, h))
+    first_back s i (a ∷ l) [] h = absurd (omega (arith, h))
+    first_back s i (a ∷ l) (b ∷ r) h =
+        ap₂ (λ c rest. c ∷ rest)
+        (combine R (a ∷ b ∷ s ∷ power R w i ∷ power R w' i ∷ []) (((v0 ⊕ v1) ⊗ v2) ⊕ ((((v0 ⊖ v1) ⊗ v4) ⊗ v2) ⊗ v3)) (v0 ⊗ (v2 ⊗ (𝟙 ⊕ 𝟙)))
+        ((v0 ⊖ v1) ⊗ v2) (v3 ⊗ v4) 𝟙 (power-at_inverse w w' u i) refl)
+        (first_back s (suc i) l r (omega (arith, h)))
+
+    second_back : (s : A) (i : ℕ) (l r : List A) → length l ≡ length r
+        → polynomial_difference R (polynomial_multiple R (polynomial_sum R l r) s) (scaled_differences s i l r) ≡ polynomial_multiple R r (product s two)
+    second_back s i [] [] h = refl
+    second_back s i [] (b ∷ r) h = absurd (omega (arith, h))
+    second_back s i (a ∷ l) [] h = absurd (omega (arith, h))
+    second_back s i (a ∷ l) (b ∷ r) h =
+        ap₂ (λ c rest. c ∷ rest)
+        (combine R (a ∷ b ∷ s ∷ power R w i ∷ power R w' i ∷ []) (((v0 ⊕ v1) ⊗ v2) ⊖ ((((v0 ⊖ v1) ⊗ v4) ⊗ v2) ⊗ v3)) (v1 ⊗ (v2 ⊗ (𝟙 ⊕ 𝟙)))
+        (minus ((v0 ⊖ v1) ⊗ v2)) (v3 ⊗ v4) 𝟙 (power-at_inverse w w' u i) refl)
+        (second_back s (suc i) l r (omega (arith, h)))
 
   multiple-one : (p : List A) → polynomial_multiple R p R.one ≡ p
   multiple-one [] = refl
@@ -134,8 +137,9 @@ module _ {A : Type 0} (R : CommutativeRing A) where
     drop-multiple : drop n (polynomial_multiple R (x ++ y) s) ≡ polynomial_multiple R y s
     drop-multiple = drop-map (λ c. product c s) n (x ++ y) ∙ ap (λ l. polynomial_multiple R l s) (drop_at x y n h)
 
-  inverse-of_multiple : (lg : ℕ) (w w' s : A) (cells : List A) → product w w' ≡ R.one → length cells ≡ 2 ^ lg
-      → inverse_transform R lg w' (polynomial_multiple R (transform R lg w cells) s) ≡ polynomial_multiple R cells (product s (power R two lg))
+  -- the transform, times s, taken back
+  inverse-of_multiple : (lg : ℕ) (w w' s : A) (cells : List A)
+      → product w w' ≡ R.one → length cells ≡ 2 ^ lg → inverse_transform R lg w' (polynomial_multiple R (transform R lg w cells) s) ≡ polynomial_multiple R cells (product s (power R two lg))
   inverse-of_multiple zero w w' s cells u h = ap (polynomial_multiple R cells) (factor-zero s)
   inverse-of_multiple (suc lg) w w' s cells u h =
       let e = transform R lg (product w w) (take (2 ^ lg) cells) in
@@ -148,15 +152,16 @@ module _ {A : Type 0} (R : CommutativeRing A) where
       ap₂ (λ a b. inverse_transform R lg (product w' w') (polynomial_sum R a b) ++ inverse_transform R lg (product w' w') (polynomial_dilation R w' (polynomial_difference R a b)))
       (take-multiple s (2 ^ lg) (polynomial_sum R e x) (polynomial_difference R e x) ls) (drop-multiple s (2 ^ lg) (polynomial_sum R e x) (polynomial_difference R e x) ls)
       ∙ ap₂ (λ a b. inverse_transform R lg (product w' w') a ++ inverse_transform R lg (product w' w') b)
-      (sum_back s e x (le ∙ sym lx)) (difference_back w w' s 0 e o u (le ∙ sym lo))
+      (sum_back s e x (le ∙ sym lx)) (difference_back w w' u s 0 e o (le ∙ sym lo))
       ∙ ap₂ (λ a b. a ++ b)
       (inverse-of_multiple lg (product w w) (product w' w') (product s two) (take (2 ^ lg) cells) (squares-inverse w w' u) (length-low lg cells h))
       (inverse-of_multiple lg (product w w) (product w' w') (product s two) (drop (2 ^ lg) cells) (squares-inverse w w' u) (length-high lg cells h))
       ∙ multiple-of_halves lg cells (product (product s two) (power R two lg))
       ∙ ap (polynomial_multiple R cells) (factor-suc s lg)
 
-  transform-of_multiple : (lg : ℕ) (w w' s : A) (cells : List A) → product w w' ≡ R.one → length cells ≡ 2 ^ lg
-      → transform R lg w (polynomial_multiple R (inverse_transform R lg w' cells) s) ≡ polynomial_multiple R cells (product s (power R two lg))
+  -- what the way back gives, times s, transformed
+  transform-of_multiple : (lg : ℕ) (w w' s : A) (cells : List A)
+      → product w w' ≡ R.one → length cells ≡ 2 ^ lg → transform R lg w (polynomial_multiple R (inverse_transform R lg w' cells) s) ≡ polynomial_multiple R cells (product s (power R two lg))
   transform-of_multiple zero w w' s cells u h = ap (polynomial_multiple R cells) (factor-zero s)
   transform-of_multiple (suc lg) w w' s cells u h =
       let l = take (2 ^ lg) cells in
@@ -176,20 +181,20 @@ module _ {A : Type 0} (R : CommutativeRing A) where
       ∙ ap₂ both
       (transform-of_multiple lg (product w w) (product w' w') s p (squares-inverse w w' u) lp)
       (transform-of_multiple lg (product w w) (product w' w') s q (squares-inverse w w' u) lq)
-      ∙ ap₂ (λ a b. a ++ b) (first_back w w' t 0 l r u (ll ∙ sym lr)) (second_back w w' t 0 l r u (ll ∙ sym lr))
+      ∙ ap₂ (λ a b. a ++ b) (first_back w w' u t 0 l r (ll ∙ sym lr)) (second_back w w' u t 0 l r (ll ∙ sym lr))
       ∙ multiple-of_halves lg cells (product t two)
       ∙ ap (polynomial_multiple R cells) (R.product_assoc s (power R two lg) two ∙ ap (product s) (sym (power-suc R.one product two lg)))
 
-  -- the way back undoes the transform, up to the factor 2 ^ lg
-  pub inverse_transform-transform : (lg : ℕ) (w w' : A) (cells : List A) → product w w' ≡ R.one → length cells ≡ 2 ^ lg
-      → inverse_transform R lg w' (transform R lg w cells) ≡ polynomial_multiple R cells (power R (sum R.one R.one) lg)
-  inverse_transform-transform lg w w' cells u h =
-      ap (inverse_transform R lg w') (sym (multiple-one (transform R lg w cells))) ∙ inverse-of_multiple lg w w' R.one cells u h ∙ ap (polynomial_multiple R cells) (R.product_one (power R two lg))
+  module _ (lg : ℕ) (w w' : A) (cells : List A) (u : product w w' ≡ R.one) (h : length cells ≡ 2 ^ lg) where
+    -- the way back undoes the transform, up to the factor 2 ^ lg
+    pub inverse_transform-transform : inverse_transform R lg w' (transform R lg w cells) ≡ polynomial_multiple R cells (power R (sum R.one R.one) lg)
+    inverse_transform-transform =
+        ap (inverse_transform R lg w') (sym (multiple-one (transform R lg w cells))) ∙ inverse-of_multiple lg w w' R.one cells u h ∙ ap (polynomial_multiple R cells) (R.product_one (power R two lg))
 
-  pub transform-inverse_transform : (lg : ℕ) (w w' : A) (cells : List A) → product w w' ≡ R.one → length cells ≡ 2 ^ lg
-      → transform R lg w (inverse_transform R lg w' cells) ≡ polynomial_multiple R cells (power R (sum R.one R.one) lg)
-  transform-inverse_transform lg w w' cells u h =
-      ap (transform R lg w) (sym (multiple-one (inverse_transform R lg w' cells))) ∙ transform-of_multiple lg w w' R.one cells u h ∙ ap (polynomial_multiple R cells) (R.product_one (power R two lg))
+    -- and is undone by it
+    pub transform-inverse_transform : transform R lg w (inverse_transform R lg w' cells) ≡ polynomial_multiple R cells (power R (sum R.one R.one) lg)
+    transform-inverse_transform =
+        ap (transform R lg w) (sym (multiple-one (inverse_transform R lg w' cells))) ∙ transform-of_multiple lg w w' R.one cells u h ∙ ap (polynomial_multiple R cells) (R.product_one (power R two lg))
 
   -- one coset of the squares after the other: at a point x with x ^ m = 1 the value of both halves is that of their sum
   value-at_one : (x : A) (m : ℕ) (l r : List A) → length l ≡ m → power R x m ≡ R.one → value R x (l ++ r) ≡ value R x (polynomial_sum R l r)

@@ -26,7 +26,8 @@ module _ {A : Type 0} (R : CommutativeRing A) where
   difference-of_maps f g xs = ap (polynomial_sum R (map f xs)) (map-map negative g xs) ∙ sum-of_maps f (λ x. negative (g x)) xs
 
   -- the dilation by w of values at the powers of w: the value at p, times p
-  dilation_from-of_map : (w : A) (g : A → A) (i n : ℕ) → dilation_from product R.one product w i (map g (powers_from R.one product w i n)) ≡ map (λ p. product (g p) p) (powers_from R.one product w i n)
+  dilation_from-of_map : (w : A) (g : A → A) (i n : ℕ)
+      → dilation_from product R.one product w i (map g (powers_from R.one product w i n)) ≡ map (λ p. product (g p) p) (powers_from R.one product w i n)
   dilation_from-of_map w g i zero = refl
   dilation_from-of_map w g i (suc n) =
       ap (λ rest. product (g (power R w i)) (power R w i) ∷ rest)
