@@ -1,6 +1,12 @@
--- The operations on a type whose elements are the remainders by n: `value` reads the remainder that an element is, and `residue` gives the element of a number's remainder.
-use Rattle.std.specs.Prelude.{◌≡◌, ℕ, ◌+◌, ◌*◌}
+-- A type whose elements are the remainders by n, and its operations.
+-- `value` reads the remainder that an element is, and `residue` makes the element of a number's remainder.
+use Rattle.std.specs.Prelude.{◌≡◌, ◌<◌, ◌%◌, ℕ, ◌+◌, ◌*◌}
 use Rattle.math_numbers.specs.Congruence.{negative_mod, inverse_mod}
+
+-- each element is a number below n, and the element made of k is the remainder of k by n
+pub record AreResidues {A : Type 0} (n : ℕ) (value : A → ℕ) (residue : ℕ → A) : Type 0 where
+  pub reads : (k : ℕ) → value (residue k) ≡ k % n
+  pub below : (a : A) → value a < n
 
 module _ {A : Type 0} (value : A → ℕ) where
   -- a and b are the same remainder

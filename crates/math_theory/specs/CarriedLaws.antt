@@ -30,7 +30,8 @@ module _ {A B : Type 0} {same : A → A → Type 0} {same_image : B → B → Ty
         (E.transitive _ _ _ (product_is a (product b c)) (P.respects _ _ _ _ (E.reflexive (image a)) (product_is b c)));
   }
 
-  pub group_carried : {zero_of : A} {sum : A → A → A} {negative : A → A} {zero_image : B} {sum_image : B → B → B} {negative_image : B → B} → IsGroup same_image zero_image sum_image negative_image
+  pub group_carried : {zero_of : A} {sum : A → A → A} {negative : A → A} {zero_image : B} {sum_image : B → B → B} {negative_image : B → B}
+      → IsGroup same_image zero_image sum_image negative_image
       → same_image (image zero_of) zero_image → ((a b : A) → same_image (image (sum a b)) (sum_image (image a) (image b)))
       → ((a : A) → same_image (image (negative a)) (negative_image (image a))) → IsGroup same zero_of sum negative
   group_carried {zero_of} {sum} {negative} G zero_is sum_is negative_is =
@@ -40,23 +41,30 @@ module _ {A B : Type 0} {same : A → A → Type 0} {same_image : B → B → Ty
         respects_negative = λ a b h. between _ _ (negative_is a) (G.respects_negative _ _ (to a b h)) (negative_is b);
         commutative = sums.commutative;
         associative = sums.associative;
-        identity = λ a. between _ _ (E.transitive _ _ _ (sum_is zero_of a) (G.respects_sum _ _ _ _ zero_is (E.reflexive (image a)))) (G.identity (image a)) (E.reflexive (image a));
-        inverse = λ a. between _ _ (E.transitive _ _ _ (sum_is a (negative a)) (G.respects_sum _ _ _ _ (E.reflexive (image a)) (negative_is a))) (G.inverse (image a)) zero_is;
+        identity = λ a.
+            between _ _ (E.transitive _ _ _ (sum_is zero_of a) (G.respects_sum _ _ _ _ zero_is (E.reflexive (image a))))
+            (G.identity (image a)) (E.reflexive (image a));
+        inverse = λ a.
+            between _ _ (E.transitive _ _ _ (sum_is a (negative a)) (G.respects_sum _ _ _ _ (E.reflexive (image a)) (negative_is a))) (G.inverse (image a)) zero_is;
       }
 
-  pub ring_carried : {sum product : A → A → A} {one : A} {zero_image : B} {sum_image : B → B → B} {negative_image : B → B} {product_image : B → B → B} {one_image : B}
+  pub ring_carried : {sum product : A → A → A} {one : A} {zero_image : B}
+      {sum_image : B → B → B} {negative_image : B → B} {product_image : B → B → B} {one_image : B}
       → IsGroup same_image zero_image sum_image negative_image → IsProduct same_image product_image → IsRing same_image sum_image product_image one_image
-      → ((a b : A) → same_image (image (sum a b)) (sum_image (image a) (image b))) → ((a b : A) → same_image (image (product a b)) (product_image (image a) (image b)))
+      → ((a b : A) → same_image (image (sum a b)) (sum_image (image a) (image b)))
+      → ((a b : A) → same_image (image (product a b)) (product_image (image a) (image b)))
       → same_image (image one) one_image → IsRing same sum product one
   ring_carried {sum} {product} {one} G P R sum_is product_is one_is = record {
-    identity = λ a. between _ _ (E.transitive _ _ _ (product_is one a) (P.respects _ _ _ _ one_is (E.reflexive (image a)))) (R.identity (image a)) (E.reflexive (image a));
+    identity = λ a.
+        between _ _ (E.transitive _ _ _ (product_is one a) (P.respects _ _ _ _ one_is (E.reflexive (image a)))) (R.identity (image a)) (E.reflexive (image a));
     distributive = λ a b c. between _ _
         (E.transitive _ _ _ (product_is (sum a b) c) (P.respects _ _ _ _ (sum_is a b) (E.reflexive (image c))))
         (R.distributive (image a) (image b) (image c))
         (E.transitive _ _ _ (sum_is (product a c) (product b c)) (G.respects_sum _ _ _ _ (product_is a c) (product_is b c)));
   }
 
-  pub field_carried : {zero_of : A} {product : A → A → A} {one : A} {inverse : A → A} {zero_image : B} {product_image : B → B → B} {one_image : B} {inverse_image : B → B}
+  pub field_carried : {zero_of : A} {product : A → A → A} {one : A} {inverse : A → A}
+      {zero_image : B} {product_image : B → B → B} {one_image : B} {inverse_image : B → B}
       → IsProduct same_image product_image → IsField same_image zero_image product_image one_image inverse_image
       → same_image (image zero_of) zero_image → ((a b : A) → same_image (image (product a b)) (product_image (image a) (image b)))
       → same_image (image one) one_image → ((a : A) → same_image (image (inverse a)) (inverse_image (image a))) → IsField same zero_of product one inverse
@@ -86,7 +94,8 @@ module _ {A B : Type 0} {same : A → A → Type 0} {same_image : B → B → Ty
       least = λ m positive small e. o.least m positive small (E.transitive _ _ _ (E.symmetric _ _ (power_carried a x h m)) (E.transitive _ _ _ (to _ _ e) one_is));
     }
 
-    pub no_power_carried : (a s : A) (x y : B) → same_image (image a) x → same_image (image s) y → IsNoPower same_image one_image product_image x y → IsNoPower same one product a s
+    pub no_power_carried : (a s : A) (x y : B) → same_image (image a) x → same_image (image s) y
+        → IsNoPower same_image one_image product_image x y → IsNoPower same one product a s
     no_power_carried a s x y h k outside m e = outside m (E.transitive _ _ _ (E.symmetric _ _ k) (E.transitive _ _ _ (to _ _ e) (power_carried a x h m)))
 
     pub roots_carried : {zero_of : A} {sum : A → A → A} {root : ℕ → A} {shift : A} {half : A → A}
@@ -106,7 +115,8 @@ module _ {A B : Type 0} {same : A → A → Type 0} {same_image : B → B → Ty
       shift_is_no_power = λ lg h. no_power_carried (root lg) shift _ _ (root_is lg) shift_is (roots.shift_is_no_power lg h);
       respects_half = λ a b h. between _ _ (half_is a) (roots.respects_half _ _ (to a b h)) (half_is b);
       half_twice = λ a. between _ _
-          (E.transitive _ _ _ (product_is (half a) (sum one one)) (P.respects _ _ _ _ (half_is a) (E.transitive _ _ _ (sum_is one one) (G.respects_sum _ _ _ _ one_is one_is))))
+          (E.transitive _ _ _ (product_is (half a) (sum one one))
+          (P.respects _ _ _ _ (half_is a) (E.transitive _ _ _ (sum_is one one) (G.respects_sum _ _ _ _ one_is one_is))))
           (roots.half_twice (image a))
           (E.reflexive (image a));
     }

@@ -2,6 +2,7 @@
 use Rattle.std.specs.Prelude.{◌≡◌, ℕ, List, Bool}
 use Rattle.math_theory.specs.Rings.{CommutativeRing}
 use Rattle.math_theory.specs.Domains as Domains
+use Rattle.math_theory.specs.Powers as Powers
 use Rattle.math_theory.specs.Transforms as Transforms
 use Rattle.math_theory.specs.Vanishing as Vanishing
 
@@ -14,6 +15,10 @@ module _ {A : Type 0} (R : CommutativeRing A) where
 
   abbrev pub IsNoPower : A → A → Type 0
   IsNoPower w s = Domains.IsNoPower (λ (x y : A). x ≡ y) R.one R.product w s
+
+  -- the power lg of one plus one
+  abbrev pub power_of_two : ℕ → A
+  power_of_two lg = Powers.power R.one R.product (R.sum R.one R.one) lg
 
   abbrev pub coset : A → A → ℕ → List A
   coset s w n = Domains.coset R.one R.product s w n

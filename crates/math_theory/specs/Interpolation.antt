@@ -26,9 +26,11 @@ abbrev pub values_at : {A : Type 0} → A → (A → A → A) → (A → A → A
 values_at zero sum product one points a = map (λ p. value zero sum product one p a) points
 
 -- for every list of at most as many coefficients as points, the sum of its values at the points, each times its weight, is same as its value at x
-pub record AreWeightsAt {A : Type 0} (same : A → A → Type 0) (zero : A) (sum : A → A → A) (product : A → A → A) (one : A) (x : A) (points weights : List A) : Type 0 where
+pub record AreWeightsAt {A : Type 0} (same : A → A → Type 0) (zero : A) (sum : A → A → A) (product : A → A → A) (one : A)
+    (x : A) (points weights : List A) : Type 0 where
   pub lengths : length points ≡ length weights
-  pub give : (a : List A) → length a ≤ length points → same (weighted_sum zero sum product (values_at zero sum product one points a) weights) (value zero sum product one x a)
+  pub give : (a : List A) → length a ≤ length points
+      → same (weighted_sum zero sum product (values_at zero sum product one points a) weights) (value zero sum product one x a)
 
 -- the product of (x - y) / (p - y) over the other points y
 abbrev pub lagrange_weight : {A : Type 0} → (A → A → A) → (A → A) → (A → A → A) → A → (A → A) → A → A → List A → A

@@ -23,6 +23,8 @@ missing_items (x ∷ xs) (true ∷ filled) = missing_items xs filled
 missing_items (x ∷ xs) (false ∷ filled) = x ∷ missing_items xs filled
 
 -- q has cell j as its value at the power j of w for each filled j, and its coefficients from the number of filled places on are zero
-pub record Fits {A : Type 0} (same : A → A → Type 0) (zero : A) (sum : A → A → A) (product : A → A → A) (one : A) (w : A) (cells : List A) (filled : List Bool) (q : List A) : Type 0 where
-  pub agrees : (j : ℕ) → j < length cells → slice_index_or filled j false ≡ true → same (value zero sum product one (power one product w j) q) (slice_index_or cells j zero)
+pub record Fits {A : Type 0} (same : A → A → Type 0) (zero : A) (sum : A → A → A) (product : A → A → A) (one : A)
+    (w : A) (cells : List A) (filled : List Bool) (q : List A) : Type 0 where
+  pub agrees : (j : ℕ) → j < length cells → slice_index_or filled j false ≡ true
+      → same (value zero sum product one (power one product w j) q) (slice_index_or cells j zero)
   pub zero_from : (i : ℕ) → count_true filled ≤ i → same (coefficient zero q i) zero

@@ -18,18 +18,21 @@ pub record VanishesAtMissing {A : Type 0} (same : A → A → Type 0) (zero : A)
   pub short : length v ≤ n
   pub factor_nonzero : ¬ (same u zero)
   pub values : (i : ℕ) → i < n
-      → same (value zero sum product one (power one product w i) v) (product u (root_product sum negative product one (power one product w i) (missing_items (powers one product w n) filled)))
+      → let x = power one product w i in
+      same (value zero sum product one x v) (product u (root_product sum negative product one x (missing_items (powers one product w n) filled)))
 
 -- g has at most n coefficients, and its values on the domain are the cells times those of v
 pub record HasProductValues {A : Type 0} (same : A → A → Type 0) (zero : A) (sum : A → A → A) (product : A → A → A) (one : A)
     (w : A) (n : ℕ) (cells v g : List A) : Type 0 where
   pub short : length g ≤ n
   pub values : (i : ℕ) → i < n
-      → same (value zero sum product one (power one product w i) g) (product (slice_index_or cells i zero) (value zero sum product one (power one product w i) v))
+      → let x = power one product w i in
+      same (value zero sum product one x g) (product (slice_index_or cells i zero) (value zero sum product one x v))
 
 -- q has at most n coefficients, and its values on the coset times those of v are those of g
 pub record DividesOnCoset {A : Type 0} (same : A → A → Type 0) (zero : A) (sum : A → A → A) (product : A → A → A) (one : A)
     (w s : A) (n : ℕ) (v g q : List A) : Type 0 where
   pub short : length q ≤ n
   pub values : (i : ℕ) → i < n
-      → same (product (value zero sum product one (product s (power one product w i)) q) (value zero sum product one (product s (power one product w i)) v)) (value zero sum product one (product s (power one product w i)) g)
+      → let x = product s (power one product w i) in
+      same (product (value zero sum product one x q) (value zero sum product one x v)) (value zero sum product one x g)

@@ -19,4 +19,5 @@ abbrev pub inverse_transform : {A : Type 0} → (A → A → A) → (A → A) �
 inverse_transform sum negative product one zero w cells = cells
 inverse_transform sum negative product one (suc lg) w cells =
     inverse_transform sum negative product one lg (product w w) (polynomial_sum sum (take (2 ^ lg) cells) (drop (2 ^ lg) cells))
-    ++ inverse_transform sum negative product one lg (product w w) (polynomial_dilation product one product w (polynomial_difference sum negative (take (2 ^ lg) cells) (drop (2 ^ lg) cells)))
+    ++ inverse_transform sum negative product one lg (product w w)
+    (polynomial_dilation product one product w (polynomial_difference sum negative (take (2 ^ lg) cells) (drop (2 ^ lg) cells)))

@@ -13,15 +13,18 @@ abbrev pub missing_product : {A : Type 0} → (A → A → A) → (A → A) → 
 missing_product sum negative product one r w filled = root_product sum negative product one r (missing_points one product w filled)
 
 -- up to one factor that is not zero, v gives at each r the product of r - x over the roots x
-pub record VanishesAt {A : Type 0} (same : A → A → Type 0) (zero : A) (sum : A → A → A) (negative : A → A) (product : A → A → A) (one : A) (roots : List A) (v : A → A) : Type 0 where
+pub record VanishesAt {A : Type 0} (same : A → A → Type 0) (zero : A) (sum : A → A → A) (negative : A → A) (product : A → A → A) (one : A)
+    (roots : List A) (v : A → A) : Type 0 where
   pub factor : A
   pub factor_is_not_zero : same factor zero → ⊥
   pub gives : (r : A) → same (v r) (product factor (root_product sum negative product one r roots))
 
--- a value at zero, and the values at the powers of w, of a polynomial that vanishes at the missing points: up to one factor that is not zero they are the product of r - w ^ j over the places j that are false
-pub record IsVanishing {A : Type 0} (same : A → A → Type 0) (zero : A) (sum : A → A → A) (negative : A → A) (product : A → A → A) (one : A) (w : A) (filled : List Bool) (at_zero : A) (values : List A) : Type 0 where
+-- at zero and at the powers of w these are, up to one factor that is not zero, the values of the product of r - w ^ j over the places j that are false
+pub record IsVanishing {A : Type 0} (same : A → A → Type 0) (zero : A) (sum : A → A → A) (negative : A → A) (product : A → A → A) (one : A)
+    (w : A) (filled : List Bool) (at_zero : A) (values : List A) : Type 0 where
   pub factor : A
   pub factor_is_not_zero : same factor zero → ⊥
   pub lengths : length values ≡ length filled
   pub value_at_zero : same at_zero (product factor (missing_product sum negative product one zero w filled))
-  pub value_at_power : (i : ℕ) → i < length filled → same (slice_index_or values i zero) (product factor (missing_product sum negative product one (power one product w i) w filled))
+  pub value_at_power : (i : ℕ) → i < length filled
+      → same (slice_index_or values i zero) (product factor (missing_product sum negative product one (power one product w i) w filled))

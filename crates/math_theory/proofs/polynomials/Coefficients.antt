@@ -1,10 +1,10 @@
 -- How many coefficients sums, products and multiples of polynomials have, which these are, degrees, and polynomials with the same coefficients.
-use Rattle.std.proofs.Common.{◌≡◌, ℕ, zero, suc, ◌+◌, ◌<◌, ◌≤◌, max, List, [], ◌∷◌, ◌++◌, replicate, length, get_or, inl, inr, refl, sym, ◌∙◌, ap, ap₂, subst, arith}
+use Rattle.std.proofs.Common.{◌≡◌, ℕ, zero, suc, ◌+◌, ◌≤◌, max, List, [], ◌∷◌, ◌++◌, replicate, length, get_or, inl, inr, refl, sym, ◌∙◌, ap, ap₂, arith}
 use Rattle.std.proofs.Math.ListN.{get_or-map}
 use Rattle.std.proofs.lemmas.Bool.{cases_lt}
 use Rattle.std.proofs.lemmas.List.{length-map, length-replicate, get_or-replicate, get_or_past, get_or_default}
 use Rattle.std.proofs.lemmas.List.Elements.{All-head, All-tail}
-use Rattle.math_theory.specs.Coefficients.{coefficient, HasDegree, polynomial_sum, polynomial_negative, polynomial_difference, polynomial_multiple, polynomial_product, dilation_from, polynomial_dilation}
+use Rattle.math_theory.specs.Coefficients.{coefficient, polynomial_sum, polynomial_negative, polynomial_difference, polynomial_multiple, polynomial_product, dilation_from, polynomial_dilation}
 use Rattle.math_theory.specs.OverRing as OverRing
 use Rattle.math_theory.specs.Rings.{CommutativeRing}
 use Rattle.math_theory.proofs.rings.RingLaws.{sum-zero_right, negative-zero, zero-product, product-zero, difference-zero}

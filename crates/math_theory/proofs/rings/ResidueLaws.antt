@@ -4,8 +4,7 @@ use Rattle.std.proofs.Math.Nat.{mod-eq_of_lt, add-mod, mod-add-mod, add-mod-mod,
 use Rattle.std.proofs.lemmas.Nat.{mul-mod_first, mul-mod_second}
 use Rattle.math_theory.specs.Laws.{IsEquality, IsGroup, IsProduct, IsRing, IsField}
 use Rattle.math_theory.specs.Powers.{power, power-zero, power-suc}
-use Rattle.math_numbers.specs.PowersModulo.{power_mod, power_mod-zero, power_mod-suc, HasOrder}
-use Rattle.math_theory.specs.Domains.{HasExactOrder}
+use Rattle.math_numbers.specs.PowersModulo.{power_mod, power_mod-zero, power_mod-suc}
 use Rattle.math_numbers.specs.Primes.{IsPrime}
 use Rattle.math_numbers.specs.Congruence.{negative_mod, inverse_mod}
 use Rattle.math_numbers.specs.Residues.{same, sum, negative, product, inverse}

@@ -1,9 +1,9 @@
 //! Domains: the powers of a root of unity, and their cosets.
 //!
-//! A domain of N = 2^lg points is the list of the first N powers of w, where N is the least positive exponent at which the
-//! power of w is one. Then no two of these powers are equal, since the quotient of two of them is a power between. In a
-//! field the power at half of N, whose square is one, is minus one; and from minus one at half, in turn, the exact order
-//! follows: an odd power of w can't be one, and an even power is one of the square of w, by induction.
+//! A domain of N = 2^lg points is the list of the first N powers of w, where N is the least positive exponent at which
+//! the power of w is one. Then no two of these powers are equal, since the quotient of two of them is a power between.
+//! In a field the power at half of N, whose square is one, is minus one; and from minus one at half, in turn, the exact
+//! order follows: an odd power of w can't be one, and an even power is one of the square of w, by induction.
 
 ghost use Rattle.std.specs.Prelude.{◌≡◌, ◌≢◌, ◌<◌, ◌≤◌, ◌^◌, ℕ, suc};
 ghost use Rattle.math_theory.specs.DomainsOverRing.{coset, HasExactOrder, IsNoPower, IsPrincipalRoot};
@@ -20,7 +20,8 @@ pub fn points_of_domain<T>()
 pub fn orders_of_roots<T>()
     ensures exact { (R : CommutativeRing T) → R.one ≢ R.negative R.one → (lg : ℕ) → (w : T)
         → IsPrincipalRoot R lg w → HasExactOrder R w (2 ^ lg) }
-    ensures principal { (F : Field T) → (lg : ℕ) → (w : T) → HasExactOrder F.ring w (2 ^ lg) → IsPrincipalRoot F.ring lg w }
+    ensures principal { (F : Field T) → (lg : ℕ) → (w : T) → HasExactOrder F.ring w (2 ^ lg)
+        → IsPrincipalRoot F.ring lg w }
     ensures squares { (R : CommutativeRing T) → (root : ℕ → T) → (greatest lg : ℕ)
         → root 0 ≡ R.one → (0 < greatest → root 1 ≡ R.negative R.one)
         → ((k : ℕ) → k < greatest → R.product (root (suc k)) (root (suc k)) ≡ root k)
@@ -33,8 +34,8 @@ pub fn points_of_coset<T>()
         → (i j : ℕ) → R.product s (power R w i) ≢ power R w j }
     ensures distinct { (R : CommutativeRing T) → (w s s_inverse : T) → (n : ℕ) → R.product s_inverse s ≡ R.one
         → HasExactOrder R w n → AreDistinct (coset R s w n) }
-    ensures recovery { (R : CommutativeRing T) → (w s : T) → (n : ℕ) → HasExactOrder R w n → s ≢ R.zero → IsNoPower R w s
-        → HasCoset R w s n }
+    ensures recovery { (R : CommutativeRing T) → (w s : T) → (n : ℕ) → HasExactOrder R w n
+        → s ≢ R.zero → IsNoPower R w s → HasCoset R w s n }
 {}
 
 /// The product of r - x over all points x of a domain of N points is r^N - 1.

@@ -1,9 +1,10 @@
 //! Interpolation over a field, and weights by which values at given points give the value elsewhere.
 //!
-//! For distinct points, Lagrange's polynomial for point p is the product of (X - y) / (p - y) over the other points y: it
-//! is one at p and zero at the others. The sum of value i times polynomial i goes through the values, and by agreement at
-//! the points it is the only polynomial of so few coefficients that does. So the values of Lagrange's polynomials at x are
-//! weights for the value at x, and each list of weights, tried at Lagrange's polynomials, is seen to be theirs.
+//! For distinct points, Lagrange's polynomial for point p is the product of (X - y) / (p - y) over the other points y:
+//! it is one at p and zero at the others. The sum of value i times polynomial i goes through the values, and by
+//! agreement at the points it is the only polynomial of so few coefficients that does. So the values of Lagrange's
+//! polynomials at x are weights for the value at x, and each list of weights, tried at Lagrange's polynomials, is seen
+//! to be theirs.
 
 ghost use Rattle.std.specs.Prelude.{◌≡◌, ◌≢◌, ◌≤◌, ◌<◌, ℕ, List, length, map, slice_index_or};
 ghost use Rattle.math_theory.specs.OverRing.{AreDistinct, coefficient, HaveSameCoefficients, weighted_sum, values_at, AreWeightsAt, lagrange_weights};

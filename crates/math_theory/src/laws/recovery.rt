@@ -1,10 +1,10 @@
 //! Recovery of a polynomial from some of its values on a domain.
 //!
-//! The domain is that of the first n powers of w. Let f be the polynomial of as few coefficients as there are filled cells
-//! that agrees with these, and v one that is zero at the missing points and at no others. On the domain the values of f v
-//! are the cells times those of v, whatever stands in the missing cells, and f v has at most n coefficients: so it can be
-//! interpolated. It can't be divided by v on the domain, where both are zero at the missing points, but on a coset of the
-//! domain v is nowhere zero, and the quotients are the values of f.
+//! The domain is that of the first n powers of w. Let f be the polynomial of as few coefficients as there are filled
+//! cells that agrees with these, and v one that is zero at the missing points and at no others. On the domain the
+//! values of f v are the cells times those of v, whatever stands in the missing cells, and f v has at most n
+//! coefficients: so it can be interpolated. It can't be divided by v on the domain, where both are zero at the missing
+//! points, but on a coset of the domain v is nowhere zero, and the quotients are the values of f.
 
 ghost use Rattle.std.specs.Prelude.{◌≡◌, ◌≢◌, ◌≤◌, ◌<◌, ◌+◌, ℕ, List, Bool, false, length, All, slice_index_or};
 ghost use Rattle.math_theory.specs.OverRing.{AreDistinct, power, powers, value, HaveSameCoefficients, polynomial_product, Fits, HasCoset, VanishesAtMissing, HasProductValues, DividesOnCoset};
@@ -23,8 +23,8 @@ pub fn fits<T>()
 {}
 
 /// Let f fit with as many coefficients as there are filled cells, and let v, with one coefficient more than there are
-/// missing points, be zero at these. Then f v has as many coefficients as there are cells, and its values on the domain are
-/// the cells times those of v.
+/// missing points, be zero at these. Then f v has as many coefficients as there are cells, and its values on the domain
+/// are the cells times those of v.
 pub fn product_of_fit<T>()
     ensures short { (F : Field T) → (filled : List Bool) → (f v : List T)
         → length f ≤ count_true filled → length v + count_true filled ≤ length filled + 1
@@ -38,8 +38,8 @@ pub fn product_of_fit<T>()
         ≡ F.product (slice_index_or cells j F.zero) (value F.ring (power F.ring w j) v) }
 {}
 
-/// Where v is nowhere zero on n distinct points, a polynomial of at most n coefficients is determined by its products with
-/// v there.
+/// Where v is nowhere zero on n distinct points, a polynomial of at most n coefficients is determined by its products
+/// with v there.
 pub fn division<T>()
     ensures { (F : Field T) → (points p q v : List T) → AreDistinct points
         → length p ≤ length points → length q ≤ length points

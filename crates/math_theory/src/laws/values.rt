@@ -1,7 +1,7 @@
 //! Values of polynomials over a commutative ring.
 //!
-//! A polynomial is the list of its coefficients from the constant upwards, and its value at r is the sum of coefficient i
-//! times the i-th power of r. Values go over sums, products and multiples of polynomials.
+//! A polynomial is the list of its coefficients from the constant upwards, and its value at r is the sum of coefficient
+//! i times the i-th power of r. Values go over sums, products and multiples of polynomials.
 
 ghost use Rattle.std.specs.Prelude.{◌≡◌, List, ◌∷◌};
 ghost use Rattle.math_theory.specs.OverRing.{value, polynomial_sum, polynomial_negative, polynomial_difference, polynomial_product, polynomial_multiple, polynomial_dilation};

@@ -2,16 +2,16 @@ use Rattle.math_theory.proofs.rings.ResidueLaws.{residues, residues_group, resid
 use Rattle.math_theory.proofs.laws.residues.residue_types_are_rings.Goals as goal
 
 pub returns-clause-equality : goal.returns-clause-equality
-returns-clause-equality c st = residues
+returns-clause-equality c st n value residue h = residues n value residue h.reads h.below
 
 pub returns-clause-group : goal.returns-clause-group
-returns-clause-group c st = residues_group
+returns-clause-group c st n value residue h = residues_group n value residue h.reads h.below
 
 pub returns-clause-commutes : goal.returns-clause-commutes
-returns-clause-commutes c st = residues_product
+returns-clause-commutes c st n value residue h = residues_product n value residue h.reads h.below
 
 pub returns-clause-ring : goal.returns-clause-ring
-returns-clause-ring c st = residues_ring
+returns-clause-ring c st n value residue h = residues_ring n value residue h.reads h.below
 
 pub returns-clause-field : goal.returns-clause-field
-returns-clause-field c st = residues_field
+returns-clause-field c st n value residue h = residues_field n value residue h.reads h.below
