@@ -33,9 +33,6 @@ module _ {A : Type 0} (R : CommutativeRing A) where
   abbrev pub IsZeroPolynomial : List A → Type 0
   IsZeroPolynomial a = Coefficients.IsZeroPolynomial (λ (x y : A). x ≡ y) R.zero a
 
-  abbrev pub HasDegree : List A → ℕ → Type 0
-  HasDegree a n = Coefficients.HasDegree (λ (x y : A). x ≡ y) R.zero a n
-
   abbrev pub polynomial_sum : List A → List A → List A
   polynomial_sum a b = Coefficients.polynomial_sum R.sum a b
 
