@@ -1,4 +1,4 @@
--- How many coefficients sums, products and multiples of polynomials have, which these are, degrees, and polynomials with the same coefficients.
+-- How many coefficients sums, products and multiples of polynomials have, which these are, and polynomials with the same coefficients.
 use Rattle.std.proofs.Common.{◌≡◌, ℕ, zero, suc, ◌+◌, ◌≤◌, max, List, [], ◌∷◌, ◌++◌, replicate, length, get_or, inl, inr, refl, sym, ◌∙◌, ap, ap₂, arith}
 use Rattle.std.proofs.Math.ListN.{get_or-map}
 use Rattle.std.proofs.lemmas.Bool.{cases_lt}
