@@ -11,8 +11,8 @@ use Rattle.math_theory.specs.Laws.{IsEquality, IsGroup, IsProduct, IsRing, IsMod
 use Rattle.math_theory.specs.ModuleLaws.{ring_is_module}
 use Rattle.math_theory.specs.Sums.{weighted_sum}
 use Rattle.math_theory.specs.Values.{value_over}
-use Rattle.math_theory.proofs.ValuesRespect.{value_over-respects}
-use Rattle.math_theory.proofs.WeightsInSpaces.{weights-value_over}
+use Rattle.math_theory.proofs.polynomials.ValuesRespect.{value_over-respects}
+use Rattle.math_theory.proofs.interpolation.WeightsInSpaces.{weights-value_over}
 use Rattle.math_codec.specs.OrderedMaps.{HasFirstOfEachKey}
 use Rattle.math_base.specs.Members.{RingOf}
 use Rattle.commonware_math.specs.Interpolators.{AreWeightsOfPoints, InterpolatesAt}

@@ -9,8 +9,8 @@ use Rattle.math_theory.specs.Interpolation.{AreApart, SomeAreSame, IsFirstPlace,
 use Rattle.math_theory.specs.Laws.{IsEquality, IsGroup, IsProduct, IsRing, IsField}
 use Rattle.math_theory.specs.RootProducts.{root_product}
 use Rattle.math_theory.specs.Sums.{total}
-use Rattle.math_theory.proofs.CarriedInterpolation.{weights_at_place, weights_by_quotients, divisors_nonzero, divisor_of_repeated}
-use Rattle.math_theory.proofs.SharedInverse.{product-take_more, product-drop, quotient-times, quotient-of_zero}
+use Rattle.math_theory.proofs.interpolation.CarriedInterpolation.{weights_at_place, weights_by_quotients, divisors_nonzero, divisor_of_repeated}
+use Rattle.math_theory.proofs.interpolation.SharedInverse.{product-take_more, product-drop, quotient-times, quotient-of_zero}
 
 module _ {A : Type 0} {same : A → A → Type 0} {zero_of : A} {sum : A → A → A} {negative : A → A} {product : A → A → A} {one : A}
     (E : IsEquality same) (G : IsGroup same zero_of sum negative) (P : IsProduct same product) (R : IsRing same sum product one) where

@@ -5,10 +5,10 @@ use Rattle.std.proofs.lemmas.List.Concat.{flat_map-cons}
 use Rattle.std.specs.Int.{to_be_bytes, w64}
 use Rattle.std.specs.Fmt.{decimal}
 use Rattle.std.proofs.lemmas.Bool.{le-leb}
-use Rattle.math_theory.specs.Goldilocks.{P}
+use Rattle.math_numbers.specs.Goldilocks.{P}
 use Rattle.math_theory.specs.ModuleLaws.{ring_is_module}
 use Rattle.math_theory.specs.Values.{value_over}
-use Rattle.math_theory.proofs.ValuesRespect.{value_over-respects}
+use Rattle.math_theory.proofs.polynomials.ValuesRespect.{value_over-respects}
 use Rattle.math_codec.specs.declared.codec.range.LengthRange.{LengthRange}
 use Rattle.math_codec.specs.Lengths.{length_at}
 use Rattle.math_codec.specs.LengthLaws.{length_again}

@@ -1,7 +1,7 @@
 -- The numbers that decimal digits write.
 use Rattle.std.specs.Prelude.{◌≡◌, ℕ, ◌+◌, ◌-◌, ◌*◌, ◌^◌, ◌<◌, ◌≤◌, List, [], ◌∷◌, length, All}
 use Rattle.std.specs.Char.{IsAsciiDigit}
-use Rattle.math_theory.specs.Goldilocks.{P}
+use Rattle.math_numbers.specs.Goldilocks.{P}
 
 -- the number that decimal digits write, the most significant first: the sum of each digit times ten to the number of digits after it,
 -- where 48 is the code of the digit 0

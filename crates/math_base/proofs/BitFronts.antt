@@ -6,9 +6,9 @@ use Rattle.std.proofs.lemmas.List.{take_at, drop_at, take_all, drop_all, length-
 use Rattle.std.proofs.lemmas.List.Elements.{All-nil, All-cons, All-head, All-tail, All-take, All-drop}
 use Rattle.std.proofs.lemmas.Bool.{cases_lt}
 use Rattle.std.specs.List.{All}
-use Rattle.math_theory.specs.Bits.{bits, bits-zero, number, IsBit, pieces, pieces-zero, pieces-suc, cut}
-use Rattle.math_theory.proofs.BitLists.{length-bits, bits-add, number-bits}
-use Rattle.math_theory.proofs.BitPieces.{cut-first}
+use Rattle.math_numbers.specs.Bits.{bits, bits-zero, number, IsBit, pieces, pieces-zero, pieces-suc, cut}
+use Rattle.math_numbers.proofs.BitLists.{length-bits, bits-add, number-bits}
+use Rattle.math_numbers.proofs.BitPieces.{cut-first}
 
 -- the first k of the bits of a number below 2 ^ l write its remainder by 2 ^ k
 pub number-take-bits : (k l n : ℕ) → n < 2 ^ l → number (take k (bits l n)) ≡ n % 2 ^ k

@@ -1,7 +1,7 @@
 -- Elements and their numbers.
 use Rattle.std.proofs.Common.{◌≡◌, ℕ, ◌<◌, ap, subst, mod-eq_of_lt}
 use native.Mathlib.Bridge.{le_prop}
-use Rattle.math_theory.specs.Goldilocks.{P}
+use Rattle.math_numbers.specs.Goldilocks.{P}
 use Rattle.math_base.specs.Elements.{number, residue}
 use Rattle.math_base.specs.declared.fields.goldilocks.F.{F}
 

@@ -1,3 +1,9 @@
+pub mod PlaceByPlace
+pub mod TakenItems
+pub mod WholeWrites
+pub mod SquareAndMultiply
+pub mod WeightedSums
+pub mod Halves
 pub mod GeometricRuns
 pub mod PowerSteps
 pub mod ElementNumbers

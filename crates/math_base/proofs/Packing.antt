@@ -3,11 +3,11 @@ use Rattle.std.proofs.Common.{◌≡◌, ℕ, ◌+◌, ◌*◌, ◌%◌, ◌<◌
 use Rattle.std.proofs.lemmas.List.{map-append, length-map}
 use Rattle.std.proofs.lemmas.List.Elements.{All-head, All-tail}
 use Rattle.std.specs.List.{All}
-use Rattle.math_theory.specs.Bits as Bits
-use Rattle.math_theory.specs.Bits.{bits, bits-zero, joined, pieces, piece_count, cut, repacked, zero_word_unless}
-use Rattle.math_theory.specs.Goldilocks.{P}
-use Rattle.math_theory.proofs.BitLists.{joined-append, joined-are_bits}
-use Rattle.math_theory.proofs.BitPieces.{cut-nil, length-repacked, words_come_back}
+use Rattle.math_numbers.specs.Bits as Bits
+use Rattle.math_numbers.specs.Bits.{bits, bits-zero, joined, pieces, piece_count, cut, repacked, zero_word_unless}
+use Rattle.math_numbers.specs.Goldilocks.{P}
+use Rattle.math_numbers.proofs.BitLists.{joined-append, joined-are_bits}
+use Rattle.math_numbers.proofs.BitPieces.{cut-nil, length-repacked, words_come_back}
 use Rattle.math_base.specs.Elements.{number, residue}
 use Rattle.math_base.specs.Repacking.{Advances}
 use Rattle.math_base.specs.Packing.{word_bits, element_bits, elements_of_bits, elements_of, words_of, waiting_bits}

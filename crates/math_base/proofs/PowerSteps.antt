@@ -2,8 +2,8 @@
 use Rattle.std.proofs.Common.{◌≡◌, ℕ, ◌+◌, ◌*◌, ◌/◌, ◌%◌, ◌<◌, sym, ap, ◌∙◌, arith, mul_assoc, one-mul, mul-one}
 use Rattle.std.proofs.Math.Nat.{mod-eq_of_lt}
 use Rattle.std.proofs.lemmas.Nat.{mul-mod_first, mul-mod_second}
-use Rattle.math_theory.specs.PowersModulo.{power_mod, power_mod-zero, power_mod-suc}
-use Rattle.math_theory.proofs.PowersModulo.{power_mod-mod, power_mod-one, power_mod-add, power_mod-mul}
+use Rattle.math_numbers.specs.PowersModulo.{power_mod, power_mod-zero, power_mod-suc}
+use Rattle.math_numbers.proofs.PowersModulo.{power_mod-mod, power_mod-one, power_mod-add, power_mod-mul}
 
 power_mod-two : (n x : ℕ) → power_mod n x 2 ≡ x * x % n
 power_mod-two n x = power_mod-suc n x 1 ∙ ap (λ t. t * x % n) (power_mod-one n x) ∙ mul-mod_first x x n

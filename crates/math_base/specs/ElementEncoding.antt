@@ -1,6 +1,6 @@
 -- An element of the Goldilocks field in bytes: its number as a word.
 use Rattle.std.specs.Prelude.{ℕ, List, Result, Ok, Err, nat_lt, if◌then◌else◌, codes}
-use Rattle.math_theory.specs.Goldilocks.{P}
+use Rattle.math_numbers.specs.Goldilocks.{P}
 use Rattle.math_codec.specs.Faults.{Fault, Invalid, ◌>>=◌}
 use Rattle.math_codec.specs.Words.{scan_word, word_in_front}
 

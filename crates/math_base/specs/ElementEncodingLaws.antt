@@ -2,7 +2,7 @@
 use Rattle.std.proofs.Common.{◌≡◌, ℕ, ◌^◌, ◌<◌, ltb, true, List, ◌++◌, Ok, refl, arith}
 use Rattle.std.specs.Int.{w64, to_be_bytes}
 use Rattle.std.proofs.lemmas.Bool.{lt-ltb}
-use Rattle.math_theory.specs.Goldilocks.{P}
+use Rattle.math_numbers.specs.Goldilocks.{P}
 use Rattle.math_codec.specs.WordLaws.{word_again, word_in_front-spelled, word_apart}
 use Rattle.math_base.specs.ElementEncoding.{scan_element}
 

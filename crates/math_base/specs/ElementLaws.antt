@@ -1,8 +1,8 @@
 -- The elements of the Goldilocks field are a commutative ring.
 use Rattle.std.proofs.Common.{refl}
 use Rattle.math_theory.specs.Laws.{IsEquality, IsGroup, IsProduct, IsRing}
-use Rattle.math_theory.specs.Goldilocks.{P}
-use Rattle.math_theory.proofs.ResidueLaws.{residues, residues_group, residues_product, residues_ring}
+use Rattle.math_numbers.specs.Goldilocks.{P}
+use Rattle.math_theory.proofs.rings.ResidueLaws.{residues, residues_group, residues_product, residues_ring}
 use Rattle.math_base.specs.Elements.{number, residue, same, sum, negative, product}
 
 pub equality : IsEquality same

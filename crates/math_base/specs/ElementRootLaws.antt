@@ -3,15 +3,15 @@ use Rattle.std.proofs.Common.{◌≡◌, ◌≢◌, ℕ, zero, suc, ◌+◌, ◌
 use Rattle.std.proofs.Math.Nat.{mod-mod}
 use Rattle.std.proofs.lemmas.Nat.{mul-mod_first, mul-mod_second}
 use Rattle.math_theory.specs.Domains.{HasExactOrder}
-use Rattle.math_theory.specs.Goldilocks.{P}
+use Rattle.math_numbers.specs.Goldilocks.{P}
 use Rattle.math_theory.specs.Laws.{IsField}
 use Rattle.math_theory.specs.Powers.{power}
-use Rattle.math_theory.specs.PowersModulo.{power_mod, HasOrder}
+use Rattle.math_numbers.specs.PowersModulo.{power_mod, HasOrder}
 use Rattle.math_theory.specs.RootLaws.{HasRootsOfUnity}
-use Rattle.math_theory.proofs.GoldilocksPrime.{goldilocks_prime}
-use Rattle.math_theory.proofs.Orders.{two_power_order, power_mod-multiple_one}
-use Rattle.math_theory.proofs.PowersModulo.{power_mod-of_mod, power_mod-one, power_mod-mul, power_mod-add, power_by_squaring, power_mod-by_squaring}
-use Rattle.math_theory.proofs.ResidueLaws.{residues_field, residues_power}
+use Rattle.math_numbers.proofs.GoldilocksPrime.{goldilocks_prime}
+use Rattle.math_numbers.proofs.Orders.{two_power_order, power_mod-multiple_one}
+use Rattle.math_numbers.proofs.PowersModulo.{power_mod-of_mod, power_mod-one, power_mod-mul, power_mod-add, power_by_squaring, power_mod-by_squaring}
+use Rattle.math_theory.proofs.rings.ResidueLaws.{residues_field, residues_power}
 use Rattle.math_base.specs.Elements.{number, residue, same, sum, product, inverse, root_of, shift_of, half_of}
 use Rattle.math_base.specs.Roots.{squared, greatest_root, root, shift}
 

@@ -3,8 +3,8 @@ use Rattle.std.specs.Prelude.{◌≡◌, ℕ, ◌+◌, ◌*◌, ◌%◌, ◌<◌
 use Rattle.std.specs.Option.{option_map}
 use Rattle.std.proofs.Common.{lit<}
 use Rattle.std.proofs.Math.Nat.{mod-lt}
-use Rattle.math_theory.specs.Goldilocks.{P}
-use Rattle.math_theory.specs.Residues as Residues
+use Rattle.math_numbers.specs.Goldilocks.{P}
+use Rattle.math_numbers.specs.Residues as Residues
 use Rattle.rand_core.specs.Stream.{Stream}
 use Rattle.math_base.specs.Roots.{root, shift}
 use Rattle.math_base.specs.Samples.{first_below}

@@ -2,7 +2,7 @@
 use Rattle.std.specs.Prelude.{ℕ, ◌+◌, ◌*◌, List, ◌++◌, Option, map}
 use Rattle.std.specs.Iterator.{Count, count_map}
 use Rattle.std.specs.declared.iter.Fuse.{Fuse}
-use Rattle.math_theory.specs.Bits.{bits, joined, cut}
+use Rattle.math_numbers.specs.Bits.{bits, joined, cut}
 use Rattle.math_base.specs.Elements.{number, residue}
 use Rattle.math_base.specs.Repacking.{running, Refills, Repacks}
 use Rattle.math_base.specs.declared.fields.goldilocks.F.{F}

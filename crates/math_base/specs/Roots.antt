@@ -1,6 +1,6 @@
 -- The roots of unity of the Goldilocks field, as numbers.
 use Rattle.std.specs.Prelude.{ℕ, zero, suc, ◌-◌, ◌*◌, ◌%◌}
-use Rattle.math_theory.specs.Goldilocks.{P}
+use Rattle.math_numbers.specs.Goldilocks.{P}
 
 -- x squared k times, modulo P
 abbrev pub squared : ℕ → ℕ → ℕ

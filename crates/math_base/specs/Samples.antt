@@ -1,7 +1,7 @@
 -- Values drawn from a source of random words.
 use Rattle.std.specs.Prelude.{ℕ, zero, suc, List, [], ◌∷◌, Option, Some, None, nat_lt, if◌then◌else◌}
 use Rattle.std.specs.Option.{option_map}
-use Rattle.math_theory.specs.Goldilocks.{P}
+use Rattle.math_numbers.specs.Goldilocks.{P}
 use Rattle.rand_core.specs.Stream.{Stream, next_u64}
 
 -- the first of the next n words that is below P, where there is one, and the stream after the words that were looked at

@@ -16,10 +16,10 @@ use Rattle.std.specs.Cmp.{booleans_Decides}
 use Rattle.std.specs.Cmp.Lexicographic.{pointwise}
 use mathlib.Core.Bool.{beq}
 use Rattle.std.proofs.lemmas.Option.{slice_get-get_or}
-use Rattle.math_theory.specs.Bits.{bits, bits-zero, bits-suc, cut, joined, IsBit}
+use Rattle.math_numbers.specs.Bits.{bits, bits-zero, bits-suc, cut, joined, IsBit}
 use Rattle.math_theory.specs.Recovery.{count_true}
-use Rattle.math_theory.proofs.BitLists.{bits-of_zero, length-joined, joined-are_bits}
-use Rattle.math_theory.proofs.BitPieces.{cut-of_joined}
+use Rattle.math_numbers.proofs.BitLists.{bits-of_zero, length-joined, joined-are_bits}
+use Rattle.math_numbers.proofs.BitPieces.{cut-of_joined}
 use Rattle.math_ntt.specs.Bitmaps.{points_a_word, truth_values, word_count, IsBitmap}
 use Rattle.math_ntt.proofs.WordBits.{bits-ones, bits-with_bit, get_or-joined, joined-replicate, joined-set}
 

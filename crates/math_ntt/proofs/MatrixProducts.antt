@@ -3,7 +3,7 @@ use Rattle.std.proofs.Common.{◌≡◌, ℕ, ◌+◌, ◌<◌, List, ◌∷◌,
 use Rattle.std.proofs.lemmas.List.{drop_more}
 use Rattle.math_theory.specs.Laws.{IsEquality, IsGroup, IsProduct}
 use Rattle.math_theory.specs.Sums.{weighted_sum}
-use Rattle.math_theory.proofs.WeightedSums.{weighted_sum-start, weighted_sum-step}
+use Rattle.math_base.proofs.WeightedSums.{weighted_sum-start, weighted_sum-step}
 use Rattle.math_ntt.specs.Matrices.{MatrixOf, row_of, column_of}
 use Rattle.math_ntt.proofs.MatrixRows.{length-column, column-at}
 

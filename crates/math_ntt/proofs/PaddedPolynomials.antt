@@ -6,7 +6,7 @@ use Rattle.std.proofs.lemmas.Bool.{cases_lt}
 use Rattle.std.proofs.lemmas.List.{get_or-take, get_or-drop, get_or_past, get_or_append_left, get_or-append-add}
 use Rattle.std.proofs.lemmas.List.Elements.{AllZip-get_or, length_all_zip}
 use Rattle.std.proofs.lemmas.Nat.{mul-le}
-use Rattle.math_theory.proofs.RootOrders.{power_of_two-suc}
+use Rattle.math_theory.proofs.domains.RootOrders.{power_of_two-suc}
 use Rattle.math_theory.specs.Laws.{IsEquality}
 use Rattle.math_ntt.specs.Matrices.{MatrixOf, column_of, cell_of, AreFilledUp}
 use Rattle.math_ntt.specs.PolynomialRows.{FitsPadded, HaveSamePolynomials}

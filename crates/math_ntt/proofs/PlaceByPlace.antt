@@ -2,7 +2,7 @@
 use Rattle.std.proofs.Common.{◌≡◌, ℕ, ◌+◌, ◌<◌, List, [], ◌∷◌, ◌++◌, length, take, get_or}
 use Rattle.std.specs.List.{AllZip}
 use Rattle.std.proofs.lemmas.List.{take_more}
-use Rattle.math_theory.proofs.PlaceByPlace.{AllZip-append}
+use Rattle.math_base.proofs.PlaceByPlace.{AllZip-append}
 
 module _ {A B : Type 0} (R : A → B → Type 0) where
   -- one more item, beside the next place of a list

@@ -5,8 +5,8 @@ use Rattle.std.specs.Int.RustNames.{bit_or}
 use Rattle.std.proofs.lemmas.Bool.{cases_eq}
 use Rattle.std.proofs.lemmas.List.{ext_get_or, length-set, length-replicate, get_or-set_same, get_or-set_other, get_or-replicate, get_or_append_left, get_or-append-add, set-append_left, set-append_right, replicate-append-replicate}
 use Rattle.std.proofs.lemmas.Nat.Bits.{bit_at_lowest, bit_at-suc, bit_at_set_same, bit_at_set_other, bit_at_ones}
-use Rattle.math_theory.specs.Bits.{bits, bits-suc, joined}
-use Rattle.math_theory.proofs.BitLists.{length-bits}
+use Rattle.math_numbers.specs.Bits.{bits, bits-suc, joined}
+use Rattle.math_numbers.proofs.BitLists.{length-bits}
 
 -- item i of the bits of n is bit i
 pub get_or-bits : (k n i : ℕ) → i < k → get_or (bits k n) i 0 ≡ bit_at n i

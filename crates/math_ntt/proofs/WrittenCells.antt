@@ -1,7 +1,7 @@
 -- Items that are written over some cells of a list.
 use Rattle.std.proofs.Common.{◌≡◌, ◌∙◌, ℕ, ◌+◌, ◌*◌, ◌<◌, ◌≤◌, List, ◌++◌, length, take, drop, ap, arith}
 use Rattle.std.proofs.lemmas.List.{drop-drop, length-append, length-take-le, length-drop}
-use Rattle.math_theory.proofs.WholeWrites.{take-written}
+use Rattle.math_base.proofs.WholeWrites.{take-written}
 
 -- a row lies within the cells
 pub row-within : (i rows cols : ℕ) → i < rows → i * cols + cols ≤ rows * cols

@@ -1,7 +1,7 @@
 -- The truth values of 2^lg points, one bit a point, in words of 64 bits.
 use Rattle.std.specs.Prelude.{◌≡◌, ℕ, ◌-◌, ◌<◌, ◌^◌, ◌==◌, Bool, List, length, map, min}
 use Rattle.std.specs.List.{All}
-use Rattle.math_theory.specs.Bits.{joined}
+use Rattle.math_numbers.specs.Bits.{joined}
 
 -- how many points one word holds: 64, or all of them where they are fewer
 abbrev pub points_a_word : ℕ → ℕ

@@ -9,7 +9,7 @@ use Rattle.std.specs.Iterator.{Yields, YieldsThen}
 use Rattle.math_theory.specs.Laws.{IsEquality, IsGroup}
 use Rattle.math_theory.specs.Powers.{powers_from}
 use Rattle.math_theory.specs.Domains.{coset}
-use Rattle.math_theory.proofs.WeightedPowers.{AreSums}
+use Rattle.math_theory.proofs.polynomials.WeightedPowers.{AreSums}
 use Rattle.math_base.specs.Progressions.{AreGeometric}
 use Rattle.math_poly.proofs.GeometricItems.{items-endless}
 

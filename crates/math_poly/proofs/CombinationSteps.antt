@@ -7,7 +7,7 @@ use Rattle.math_theory.specs.Laws.{IsEquality, IsGroup, IsProduct, IsModule}
 use Rattle.math_theory.specs.Domains.{coset}
 use Rattle.math_theory.specs.Sums.{weighted_sum}
 use Rattle.math_theory.specs.Values.{value_over}
-use Rattle.math_theory.proofs.WeightedPowers.{weighted_sum-coset, weighted_sum-added, AreSums}
+use Rattle.math_theory.proofs.polynomials.WeightedPowers.{weighted_sum-coset, weighted_sum-added, AreSums}
 use Rattle.math_poly.specs.Combinations.{combination_over}
 
 module _ {A B : Type 0} {same : A → A → Type 0} {zero : A} {sum : A → A → A} {negative : A → A} {scaling : A → B → A} {same_scalar : B → B → Type 0}

@@ -8,7 +8,7 @@ use Rattle.std.specs.declared.alloc.AllocError.{AllocError}
 use Rattle.std.specs.declared.iter.Take.{Take}
 use Rattle.math_theory.specs.Powers.{powers_from}
 use Rattle.math_theory.specs.Domains.{coset}
-use Rattle.math_theory.proofs.TakenItems.{take-yields}
+use Rattle.math_base.proofs.TakenItems.{take-yields}
 use Rattle.math_base.specs.Progressions.{GivesPower, AreGeometric}
 use Rattle.math_base.specs.declared.algebra.Powers.{Powers}
 

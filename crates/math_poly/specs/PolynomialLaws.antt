@@ -3,7 +3,7 @@ use Rattle.std.proofs.Common.{ℕ, zero, suc, List, [], ◌∷◌, map}
 use mathlib.Core.HLevel.{Π_prop}
 use Rattle.math_theory.specs.Laws.{IsEquality, IsGroup, IsModule}
 use Rattle.math_theory.specs.Coefficients.{coefficient, HaveSameCoefficients, polynomial_sum, polynomial_negative, polynomial_multiple}
-use Rattle.math_theory.proofs.Horner.{scaling_zero}
+use Rattle.math_theory.proofs.polynomials.Horner.{scaling_zero}
 
 pub coefficients_equality : {A : Type 0} {same : A → A → Type 0} (zero_of : A) → IsEquality same → IsEquality (HaveSameCoefficients same zero_of)
 coefficients_equality zero_of E = record {

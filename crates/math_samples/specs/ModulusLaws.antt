@@ -2,10 +2,10 @@
 use Rattle.std.specs.Prelude.{ℕ, ◌*◌, ◌%◌, ◌<◌}
 use Rattle.std.proofs.Common.{lit<, refl}
 use Rattle.std.proofs.Math.Nat.{mod-lt}
-use Rattle.math_theory.specs.Primes.{IsPrime}
-use Rattle.math_theory.proofs.PowersModulo.{power_mod-by_squaring}
-use Rattle.math_theory.proofs.Primes.{proth}
-use Rattle.math_theory.proofs.InversesModulo.{product_mod-positive}
+use Rattle.math_numbers.specs.Primes.{IsPrime}
+use Rattle.math_numbers.proofs.PowersModulo.{power_mod-by_squaring}
+use Rattle.math_numbers.proofs.Primes.{proth}
+use Rattle.math_numbers.proofs.InversesModulo.{product_mod-positive}
 use Rattle.math_samples.specs.declared.quotients.TheConstants.{MODULUS}
 
 pub remainder_below : (n : ℕ) → n % MODULUS < MODULUS

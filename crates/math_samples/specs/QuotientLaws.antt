@@ -4,12 +4,12 @@ use Rattle.std.proofs.Math.Nat.{mod-eq_of_lt, mod-mod, ℕ_set}
 use Rattle.std.proofs.lemmas.Bool.{cases_lt}
 use Rattle.std.proofs.lemmas.Nat.{mul-mod_first}
 use Rattle.math_theory.specs.CarriedLaws.{equality_carried, group_carried, product_carried, ring_carried, field_carried, roots_carried}
-use Rattle.math_theory.specs.Congruence.{congruent, negative_mod, inverse_mod}
+use Rattle.math_numbers.specs.Congruence.{congruent, negative_mod, inverse_mod}
 use Rattle.math_theory.specs.Laws.{IsEquality, IsGroup, IsProduct, IsRing, IsField}
 use Rattle.math_theory.specs.RootLaws.{HasRootsOfUnity}
-use Rattle.math_theory.proofs.CongruenceLaws.{congruence, congruence_group, congruence_product, congruence_ring, congruence_field}
-use Rattle.math_theory.proofs.FractionLaws.{fraction-value, fraction-sum, fraction-negative, fraction-product, fraction-inverse, cross_products, over_cross_products}
-use Rattle.math_theory.proofs.InversesModulo.{cancel_factor}
+use Rattle.math_theory.proofs.rings.CongruenceLaws.{congruence, congruence_group, congruence_product, congruence_ring, congruence_field}
+use Rattle.math_theory.proofs.classes.FractionLaws.{fraction-value, fraction-sum, fraction-negative, fraction-product, fraction-inverse, cross_products, over_cross_products}
+use Rattle.math_numbers.proofs.InversesModulo.{cancel_factor}
 use Rattle.math_samples.specs.ModulusLaws.{modulus_is_prime, product_above}
 use Rattle.math_samples.specs.Quotients.{numerator_of, denominator_of, same, whole, sum, negative, product, inverse, inverse_by, half, root, root_of, shift}
 use Rattle.math_samples.specs.RootsModulo.{half_of_number, roots_modulo}

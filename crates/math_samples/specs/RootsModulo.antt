@@ -1,11 +1,11 @@
 -- The roots of unity modulo 97, a shift that is no power of any of them, and halves.
 use Rattle.std.proofs.Common.{◌≡◌, ◌≢◌, ℕ, zero, suc, ◌+◌, ◌-◌, ◌*◌, ◌%◌, ◌<◌, ◌≤◌, ◌^◌, sym, ap, ◌∙◌, refl, arith, lit<, pow-add}
-use Rattle.math_theory.specs.Congruence.{congruent}
-use Rattle.math_theory.specs.PowersModulo.{power_mod, HasOrder}
+use Rattle.math_numbers.specs.Congruence.{congruent}
+use Rattle.math_numbers.specs.PowersModulo.{power_mod, HasOrder}
 use Rattle.math_theory.specs.RootLaws.{HasRootsOfUnity}
-use Rattle.math_theory.proofs.CongruenceLaws.{congruence_product, congruence_power, congruence_order}
-use Rattle.math_theory.proofs.Orders.{two_power_order, power_mod-multiple_one, is_no_power}
-use Rattle.math_theory.proofs.PowersModulo.{power_mod-one, power_by_squaring, power_mod-by_squaring}
+use Rattle.math_theory.proofs.rings.CongruenceLaws.{congruence_product, congruence_power, congruence_order}
+use Rattle.math_numbers.proofs.Orders.{two_power_order, power_mod-multiple_one, is_no_power}
+use Rattle.math_numbers.proofs.PowersModulo.{power_mod-one, power_by_squaring, power_mod-by_squaring}
 use Rattle.math_samples.specs.Quotients.{root, shift}
 use Rattle.math_samples.specs.declared.quotients.TheConstants.{MODULUS}
 

@@ -1,6 +1,6 @@
 -- Lists by their items of even and of odd index, and bit-reversed order.
 use Rattle.std.specs.Prelude.{ℕ, zero, suc, ◌^◌, List, [], ◌∷◌, take, drop, reverse}
-use Rattle.math_theory.specs.Bits.{bits, number}
+use Rattle.math_numbers.specs.Bits.{bits, number}
 
 -- the items of even index
 abbrev pub even_items : {A : Type 0} → List A → List A

@@ -11,13 +11,6 @@ pub mod Recovery
 pub mod RecoveryOnCoset
 pub mod Spaces
 pub mod OverRing
-pub mod PowersModulo
-pub mod Pigeonhole
-pub mod Primes
-pub mod Goldilocks
-pub mod Congruence
-pub mod Residues
-pub mod Bits
 pub mod Domains
 pub mod BitReversal
 pub mod Transforms

@@ -1,6 +1,6 @@
 //! Words packed into elements of the Goldilocks field, and back.
 ghost use Rattle.std.specs.Prelude.{◌≡◌, ◌<◌, ◌*◌, ◌%◌, ◌^◌, ◌++◌, ℕ, List, All, length};
-ghost use Rattle.math_theory.specs.Bits.{piece_count, zero_word_unless};
+ghost use Rattle.math_numbers.specs.Bits.{piece_count, zero_word_unless};
 ghost use Rattle.math_base.specs.Packing.{elements_of, words_of};
 
 use crate::fields::goldilocks::F;

@@ -1,6 +1,6 @@
 use Rattle.std.proofs.Common.{refl}
 use Rattle.math_theory.specs.Powers.{power-zero}
-use Rattle.math_theory.proofs.Multiples.{TakenTo-zero, TakenTo-one, TakenTo-limb, one-square}
+use Rattle.math_base.proofs.SquareAndMultiply.{TakenTo-zero, TakenTo-one, TakenTo-limb, one-square}
 use Rattle.math_base.proofs.algebra.power_by_bits.Goals as goal
 
 pub loop-limb-init : goal.loop-limb-init

@@ -2,7 +2,7 @@ use Rattle.std.proofs.Common.{◌≡◌, false, map, reverse, IfOk}
 use Rattle.math_theory.specs.Laws.{IsMonoid}
 use Rattle.math_theory.specs.Powers.{power}
 use Rattle.math_theory.specs.Sums.{number_of_limbs}
-use Rattle.math_theory.proofs.Multiples.{TakenTo}
+use Rattle.math_base.proofs.SquareAndMultiply.{TakenTo}
 use Rattle.math_base.proofs.algebra.power_by_bits.Given as goal
 
 -- the bits of the word from the i-th up are taken, and before the first that is one the value is still one

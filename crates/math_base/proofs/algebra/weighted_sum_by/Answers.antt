@@ -1,5 +1,5 @@
 use Rattle.std.proofs.Common.{◌≡◌, length, ◌⊎◌, inl, inr}
-use Rattle.math_theory.proofs.WeightedSums.{weighted_sum-start, weighted_sum-step, weighted_sum-end}
+use Rattle.math_base.proofs.WeightedSums.{weighted_sum-start, weighted_sum-step, weighted_sum-end}
 use Rattle.math_base.proofs.algebra.weighted_sum_by.Goals as goal
 
 pub loop-s-init : goal.loop-s-init

@@ -9,7 +9,7 @@
 
 ghost use Rattle.std.specs.Prelude.{◌≡◌, ◌<◌, ◌≤◌, ◌+◌, ◌-◌, ◌*◌, ◌^◌, ◌%◌, ◌++◌, [], take, drop, None};
 ghost use Rattle.std.specs.Iterator.{count_map};
-ghost use Rattle.math_theory.specs.Bits.{bits, piece_count};
+ghost use Rattle.math_numbers.specs.Bits.{bits, piece_count};
 ghost use Rattle.math_base.specs.Repacking.{running, NoMoreThan};
 
 use super::F;
@@ -25,7 +25,7 @@ struct WaitingBits {
 }
 
 impl WaitingBits {
-    ghost use Rattle.math_theory.specs.Bits.{number};
+    ghost use Rattle.math_numbers.specs.Bits.{number};
     ghost use Rattle.math_base.specs.Packing.{waiting_bits};
 
     /// No bits.

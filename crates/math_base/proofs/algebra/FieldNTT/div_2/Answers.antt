@@ -1,4 +1,4 @@
-use Rattle.math_theory.proofs.Halves.{half_by_inverse}
+use Rattle.math_base.proofs.Halves.{half_by_inverse}
 use Rattle.math_base.proofs.algebra.FieldNTT.div_2.Goals as goal
 
 pub returns-clause-ok : goal.returns-clause-ok

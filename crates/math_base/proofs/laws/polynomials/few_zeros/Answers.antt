@@ -1,4 +1,4 @@
-use Rattle.math_theory.proofs.CarriedRoots.{few_roots-same}
+use Rattle.math_theory.proofs.polynomials.CarriedRoots.{few_roots-same}
 use Rattle.math_base.proofs.laws.polynomials.few_zeros.Goals as goal
 
 pub returns : goal.returns

@@ -1,4 +1,4 @@
-use Rattle.math_theory.proofs.Horner.{value_over-at_zero}
+use Rattle.math_theory.proofs.polynomials.Horner.{value_over-at_zero}
 use Rattle.math_base.proofs.laws.polynomials.value_at_zero.Goals as goal
 
 pub returns : goal.returns

@@ -2,7 +2,7 @@ mod vectors;
 
 ghost use Rattle.std.specs.Prelude.{◌≡◌, ◌<◌, ◌*◌, ◌^◌, min, length, IfOk};
 ghost use Rattle.std.specs.Iterator.{IsFinite};
-ghost use Rattle.math_theory.specs.Bits.{piece_count};
+ghost use Rattle.math_numbers.specs.Bits.{piece_count};
 ghost use Rattle.math_base.specs.Packing.{elements_of, words_of};
 
 use super::*;

@@ -1,6 +1,6 @@
 use Rattle.std.proofs.Common.{◌≡◌, ◌++◌, [], ◌∷◌, take, arith}
 use Rattle.std.proofs.lemmas.List.{length_push, take_all}
-use Rattle.math_theory.proofs.ScaledPoint.{value_over-scaled_point}
+use Rattle.math_theory.proofs.polynomials.ScaledPoint.{value_over-scaled_point}
 use Rattle.math_poly.proofs.ZippedLists.{AllZip-take_push}
 use Rattle.math_poly.proofs.poly.Poly.commit.Goals as goal
 

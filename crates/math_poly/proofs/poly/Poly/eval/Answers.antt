@@ -1,4 +1,4 @@
-use Rattle.math_theory.proofs.Horner.{horner_step}
+use Rattle.math_theory.proofs.polynomials.Horner.{horner_step}
 use Rattle.math_poly.proofs.poly.Poly.eval.Goals as goal
 
 pub loop-coefficient-preserved : goal.loop-coefficient-preserved

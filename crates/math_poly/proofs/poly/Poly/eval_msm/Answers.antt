@@ -1,7 +1,7 @@
 use Rattle.std.proofs.Common.{◌≡◌, length}
 use Rattle.std.specs.List.{AllZip}
 use Rattle.math_theory.specs.Domains.{coset}
-use Rattle.math_theory.proofs.WeightedPowers.{weighted_sum-powers}
+use Rattle.math_theory.proofs.polynomials.WeightedPowers.{weighted_sum-powers}
 use Rattle.math_poly.proofs.poly.Poly.eval_msm.Goals as goal
 
 pub returns : goal.returns

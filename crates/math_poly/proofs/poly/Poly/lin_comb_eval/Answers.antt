@@ -2,7 +2,7 @@ use Rattle.std.proofs.Common.{◌≡◌, ◌∙◌, ◌++◌, length, take, drop
 use Rattle.std.specs.List.{AllZip}
 use Rattle.math_theory.specs.Domains.{coset}
 use Rattle.math_poly.proofs.CombinationSteps.{combination-first, combination-next, combination-all}
-use Rattle.math_theory.proofs.WholeWrites.{take-written}
+use Rattle.math_base.proofs.WholeWrites.{take-written}
 use Rattle.math_poly.proofs.poly.Poly.lin_comb_eval.Goals as goal
 
 pub loop-pair-init : goal.loop-pair-init

@@ -1,4 +1,4 @@
-use Rattle.math_theory.proofs.RootOrders.{HasExactOrder-of_principal, IsPrincipalRoot-of_order, IsPrincipalRoot-by_squares}
+use Rattle.math_theory.proofs.domains.RootOrders.{HasExactOrder-of_principal, IsPrincipalRoot-of_order, IsPrincipalRoot-by_squares}
 use Rattle.math_theory.proofs.laws.domains.orders_of_roots.Goals as goal
 
 pub returns-clause-exact : goal.returns-clause-exact

@@ -1,4 +1,4 @@
-use Rattle.math_theory.proofs.PowerLists.{coset-apart, coset-distinct, HasCoset-of_order}
+use Rattle.math_theory.proofs.domains.PowerLists.{coset-apart, coset-distinct, HasCoset-of_order}
 use Rattle.math_theory.proofs.laws.domains.points_of_coset.Goals as goal
 
 pub returns-clause-apart : goal.returns-clause-apart

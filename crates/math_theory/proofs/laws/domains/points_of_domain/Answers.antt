@@ -1,4 +1,4 @@
-use Rattle.math_theory.proofs.PowerLists.{powers-distinct}
+use Rattle.math_theory.proofs.domains.PowerLists.{powers-distinct}
 use Rattle.math_theory.proofs.laws.domains.points_of_domain.Goals as goal
 
 pub returns : goal.returns

@@ -1,5 +1,5 @@
-use Rattle.math_theory.proofs.RootProductLists.{root_product-powers}
-use Rattle.math_theory.proofs.RootOrders.{IsPrincipalRoot-of_order}
+use Rattle.math_theory.proofs.domains.RootProductLists.{root_product-powers}
+use Rattle.math_theory.proofs.domains.RootOrders.{IsPrincipalRoot-of_order}
 use Rattle.math_theory.proofs.laws.domains.product_over_domain.Goals as goal
 
 pub returns-clause-principal : goal.returns-clause-principal

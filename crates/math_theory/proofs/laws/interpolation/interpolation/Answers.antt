@@ -1,4 +1,4 @@
-use Rattle.math_theory.proofs.Interpolation.{interpolated, length-interpolated, values_at-interpolated, values_at-agreement}
+use Rattle.math_theory.proofs.interpolation.Interpolation.{interpolated, length-interpolated, values_at-interpolated, values_at-agreement}
 use Rattle.math_theory.proofs.laws.interpolation.interpolation.Goals as goal
 
 pub returns-clause-through : goal.returns-clause-through

@@ -1,4 +1,4 @@
-use Rattle.math_theory.proofs.Interpolation.{lagrange_weights-give, weights-lagrange_weights}
+use Rattle.math_theory.proofs.interpolation.Interpolation.{lagrange_weights-give, weights-lagrange_weights}
 use Rattle.math_theory.proofs.laws.interpolation.weights.Goals as goal
 
 pub returns-clause-given : goal.returns-clause-given

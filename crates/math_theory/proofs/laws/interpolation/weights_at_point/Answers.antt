@@ -1,5 +1,5 @@
 use Rattle.std.proofs.Common.{get_or, ◌∙◌, ap}
-use Rattle.math_theory.proofs.Interpolation.{lagrange_weights-one, lagrange_weights-zero, weights-lagrange_weights}
+use Rattle.math_theory.proofs.interpolation.Interpolation.{lagrange_weights-one, lagrange_weights-zero, weights-lagrange_weights}
 use Rattle.math_theory.proofs.laws.interpolation.weights_at_point.Goals as goal
 
 pub returns-clause-one : goal.returns-clause-one

@@ -1,5 +1,5 @@
 use Rattle.std.proofs.Common.{◌∙◌}
-use Rattle.math_theory.proofs.Values.{value-at_zero}
+use Rattle.math_theory.proofs.polynomials.Values.{value-at_zero}
 use Rattle.math_theory.proofs.laws.interpolation.weights_at_zero.Goals as goal
 
 pub returns : goal.returns

@@ -1,5 +1,5 @@
-use Rattle.math_theory.proofs.PlainEquality.{ring_equality, ring_group, ring_product, ring_laws, space_equality, space_group, space_module}
-use Rattle.math_theory.proofs.WeightsInSpaces.{weights-value_over}
+use Rattle.math_theory.proofs.classes.PlainEquality.{ring_equality, ring_group, ring_product, ring_laws, space_equality, space_group, space_module}
+use Rattle.math_theory.proofs.interpolation.WeightsInSpaces.{weights-value_over}
 use Rattle.math_theory.proofs.laws.interpolation.weights_in_spaces.Goals as goal
 
 pub returns : goal.returns

@@ -1,4 +1,4 @@
-use Rattle.math_theory.proofs.Recovery as Recovery
+use Rattle.math_theory.proofs.recovery.Recovery as Recovery
 use Rattle.math_theory.proofs.laws.recovery.division.Goals as goal
 
 pub returns : goal.returns

@@ -1,5 +1,5 @@
 use Rattle.std.proofs.Common.{length, refl}
-use Rattle.math_theory.proofs.Recovery.{Fits-from_division}
+use Rattle.math_theory.proofs.recovery.Recovery.{Fits-from_division}
 use Rattle.math_theory.proofs.laws.recovery.division_on_coset.Goals as goal
 
 pub returns : goal.returns

@@ -1,5 +1,5 @@
 use Rattle.std.proofs.Common.{length, refl}
-use Rattle.math_theory.proofs.Recovery.{padded_fitting, length-padded_fitting, Fits-padded_fitting, Fits-unique}
+use Rattle.math_theory.proofs.recovery.Recovery.{padded_fitting, length-padded_fitting, Fits-padded_fitting, Fits-unique}
 use Rattle.math_theory.proofs.laws.recovery.fits.Goals as goal
 
 pub returns-clause-some : goal.returns-clause-some

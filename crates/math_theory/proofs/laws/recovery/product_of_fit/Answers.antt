@@ -1,7 +1,7 @@
 use Rattle.std.proofs.Common.{length, refl, arith}
 use Rattle.std.proofs.lemmas.List.Sums.{count_by-le-length}
-use Rattle.math_theory.proofs.Coefficients.{length-product-le}
-use Rattle.math_theory.proofs.Recovery.{AgreesAtFilled-from_Fits, product-values}
+use Rattle.math_theory.proofs.polynomials.Coefficients.{length-product-le}
+use Rattle.math_theory.proofs.recovery.Recovery.{AgreesAtFilled-from_Fits, product-values}
 use Rattle.math_theory.proofs.laws.recovery.product_of_fit.Goals as goal
 
 pub returns-clause-short : goal.returns-clause-short

@@ -1,4 +1,4 @@
-use Rattle.math_theory.proofs.Roots as Roots
+use Rattle.math_theory.proofs.polynomials.Roots as Roots
 use Rattle.math_theory.proofs.laws.roots.few_roots.Goals as goal
 
 pub returns : goal.returns

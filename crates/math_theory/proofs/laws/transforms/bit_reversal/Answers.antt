@@ -1,4 +1,4 @@
-use Rattle.math_theory.proofs.BitOrder.{bit_reversed-below, bit_reversed-twice, get_or-bit_reversed_order, bit_reversed_order-twice}
+use Rattle.math_theory.proofs.transforms.BitOrder.{bit_reversed-below, bit_reversed-twice, get_or-bit_reversed_order, bit_reversed_order-twice}
 use Rattle.math_theory.proofs.laws.transforms.bit_reversal.Goals as goal
 
 pub returns-clause-below : goal.returns-clause-below

@@ -1,4 +1,4 @@
-use Rattle.math_theory.proofs.TransformInverse.{inverse_transform-transform, transform-inverse_transform}
+use Rattle.math_theory.proofs.transforms.TransformInverse.{inverse_transform-transform, transform-inverse_transform}
 use Rattle.math_theory.proofs.laws.transforms.transform_and_back.Goals as goal
 
 pub returns-clause-undone : goal.returns-clause-undone

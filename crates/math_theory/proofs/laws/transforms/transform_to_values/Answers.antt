@@ -1,4 +1,4 @@
-use Rattle.math_theory.proofs.TransformValues.{transform-values}
+use Rattle.math_theory.proofs.transforms.TransformValues.{transform-values}
 use Rattle.math_theory.proofs.laws.transforms.transform_to_values.Goals as goal
 
 pub returns : goal.returns

@@ -1,4 +1,4 @@
-use Rattle.math_theory.proofs.TransformInverse.{values-of_values}
+use Rattle.math_theory.proofs.transforms.TransformInverse.{values-of_values}
 use Rattle.math_theory.proofs.laws.transforms.values_of_values.Goals as goal
 
 pub returns : goal.returns

@@ -1,4 +1,4 @@
-use Rattle.math_theory.proofs.TransformInverse.{values-inverse_transform}
+use Rattle.math_theory.proofs.transforms.TransformInverse.{values-inverse_transform}
 use Rattle.math_theory.proofs.laws.transforms.values_to_coefficients.Goals as goal
 
 pub returns : goal.returns

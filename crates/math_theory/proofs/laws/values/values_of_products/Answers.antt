@@ -1,4 +1,4 @@
-use Rattle.math_theory.proofs.Values.{value-product, value-multiple}
+use Rattle.math_theory.proofs.polynomials.Values.{value-product, value-multiple}
 use Rattle.math_theory.proofs.laws.values.values_of_products.Goals as goal
 
 pub returns-clause-product : goal.returns-clause-product

@@ -1,4 +1,4 @@
-use Rattle.math_theory.proofs.Values.{value-sum, value-negative, value-difference}
+use Rattle.math_theory.proofs.polynomials.Values.{value-sum, value-negative, value-difference}
 use Rattle.math_theory.proofs.laws.values.values_of_sums.Goals as goal
 
 pub returns-clause-sum : goal.returns-clause-sum

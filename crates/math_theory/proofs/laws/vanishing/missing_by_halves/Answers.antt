@@ -1,4 +1,4 @@
-use Rattle.math_theory.proofs.MissingProducts.{missing_product-halves, missing_product-scaled_halves}
+use Rattle.math_theory.proofs.domains.MissingProducts.{missing_product-halves, missing_product-scaled_halves}
 use Rattle.math_theory.proofs.laws.vanishing.missing_by_halves.Goals as goal
 
 pub returns-clause-points : goal.returns-clause-points

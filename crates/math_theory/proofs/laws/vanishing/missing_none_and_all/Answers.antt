@@ -1,4 +1,4 @@
-use Rattle.math_theory.proofs.MissingProducts.{missing_product-none, missing_product-whole}
+use Rattle.math_theory.proofs.domains.MissingProducts.{missing_product-none, missing_product-whole}
 use Rattle.math_theory.proofs.laws.vanishing.missing_none_and_all.Goals as goal
 
 pub returns-clause-none : goal.returns-clause-none

@@ -1,4 +1,4 @@
-use Rattle.math_theory.proofs.RootProductLists.{root_product-scaled}
+use Rattle.math_theory.proofs.domains.RootProductLists.{root_product-scaled}
 use Rattle.math_theory.proofs.laws.vanishing.scaled_roots.Goals as goal
 
 pub returns : goal.returns

@@ -1,4 +1,4 @@
-use Rattle.math_theory.proofs.MissingProducts.{IsVanishing-from_VanishesAt, IsVanishing-zero}
+use Rattle.math_theory.proofs.domains.MissingProducts.{IsVanishing-from_VanishesAt, IsVanishing-zero}
 use Rattle.math_theory.proofs.laws.vanishing.vanishing_values.Goals as goal
 
 pub returns-clause-values : goal.returns-clause-values

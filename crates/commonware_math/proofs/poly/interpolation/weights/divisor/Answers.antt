@@ -1,6 +1,6 @@
 use Rattle.std.proofs.Common.{◌≡◌, add-one, get_or}
 use Rattle.std.proofs.lemmas.List.{get_or_read, take_rest}
-use Rattle.math_theory.proofs.DifferenceProducts.{divisor-joined}
+use Rattle.math_theory.proofs.interpolation.DifferenceProducts.{divisor-joined}
 use Rattle.commonware_math.proofs.poly.interpolation.weights.divisor.Goals as goal
 
 pub returns : goal.returns

@@ -1,6 +1,6 @@
 use Rattle.std.proofs.Common.{◌≡◌, ◌∙◌, ◌++◌, length, take, drop, ap}
 use Rattle.commonware_math.proofs.WeightLoops.{quotients-times, quotients-zero}
-use Rattle.math_theory.proofs.WholeWrites.{take-written}
+use Rattle.math_base.proofs.WholeWrites.{take-written}
 use Rattle.commonware_math.proofs.poly.interpolation.weights.quotients.Goals as goal
 
 pub returns-clause-each : goal.returns-clause-each

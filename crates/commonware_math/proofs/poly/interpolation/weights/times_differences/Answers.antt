@@ -1,4 +1,4 @@
-use Rattle.math_theory.proofs.DifferenceProducts.{differences-step, differences-end}
+use Rattle.math_theory.proofs.interpolation.DifferenceProducts.{differences-step, differences-end}
 use Rattle.commonware_math.proofs.poly.interpolation.weights.times_differences.Goals as goal
 
 pub loop-x-preserved : goal.loop-x-preserved

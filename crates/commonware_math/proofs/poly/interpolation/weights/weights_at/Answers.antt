@@ -1,6 +1,6 @@
 use Rattle.std.proofs.Common.{◌≡◌, ◌∙◌, ◌<◌, ℕ, length, ap, get_or, arith}
 use Rattle.math_theory.specs.Interpolation.{weight_divisor}
-use Rattle.math_theory.proofs.CarriedInterpolation.{weights_same}
+use Rattle.math_theory.proofs.interpolation.CarriedInterpolation.{weights_same}
 use Rattle.commonware_math.proofs.WeightLoops.{place-weights, quotients-weights, quotients-repeated}
 use Rattle.commonware_math.proofs.poly.interpolation.weights.weights_at.Goals as goal
 

@@ -1,9 +1,9 @@
 use Rattle.std.proofs.Common.{◌≢◌, ◌*◌, ◌%◌, ap, ◌∙◌, arith, lit<}
-use Rattle.math_theory.specs.Goldilocks.{P}
-use Rattle.math_theory.specs.PowersModulo.{power_mod}
-use Rattle.math_theory.proofs.Fermat.{inverse_mod-inverts}
-use Rattle.math_theory.proofs.GoldilocksPrime.{goldilocks_prime}
-use Rattle.math_theory.proofs.PowersModulo.{power_mod-by_squaring}
+use Rattle.math_numbers.specs.Goldilocks.{P}
+use Rattle.math_numbers.specs.PowersModulo.{power_mod}
+use Rattle.math_numbers.proofs.Fermat.{inverse_mod-inverts}
+use Rattle.math_numbers.proofs.GoldilocksPrime.{goldilocks_prime}
+use Rattle.math_numbers.proofs.PowersModulo.{power_mod-by_squaring}
 use Rattle.math_base.proofs.fields.goldilocks.F.inv.Goals as goal
 
 pub returns-clause-inverts : goal.returns-clause-inverts

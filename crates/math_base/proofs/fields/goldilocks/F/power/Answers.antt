@@ -1,6 +1,6 @@
 use Rattle.std.proofs.Common.{◌∙◌, ap, ◌*◌, ◌%◌, arith, lit<}
-use Rattle.math_theory.specs.Goldilocks.{P}
-use Rattle.math_theory.specs.PowersModulo.{power_mod}
+use Rattle.math_numbers.specs.Goldilocks.{P}
+use Rattle.math_numbers.specs.PowersModulo.{power_mod}
 use Rattle.math_base.proofs.PowerSteps.{first_step, last_step, even_step, odd_step}
 use Rattle.math_base.proofs.fields.goldilocks.F.power.Goals as goal
 use Rattle.math_base.proofs.fields.goldilocks.F.power.Goals.{then-left-eq1, else-left-eq1}

@@ -1,6 +1,6 @@
 use Rattle.std.proofs.Common.{◌≡◌, ◌*◌, ◌%◌}
-use Rattle.math_theory.specs.Goldilocks.{P}
-use Rattle.math_theory.specs.PowersModulo.{power_mod}
+use Rattle.math_numbers.specs.Goldilocks.{P}
+use Rattle.math_numbers.specs.PowersModulo.{power_mod}
 use Rattle.math_base.proofs.fields.goldilocks.F.power.Given as goal
 
 abbrev pub invariant-loop-left : goal.invariant-loop-left

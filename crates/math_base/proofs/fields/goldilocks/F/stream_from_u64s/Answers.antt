@@ -1,5 +1,5 @@
 use Rattle.std.proofs.Common.{◌++◌, ◌*◌, ap, rules}
-use Rattle.math_theory.specs.Bits.{piece_count}
+use Rattle.math_numbers.specs.Bits.{piece_count}
 use Rattle.math_base.specs.Repacking.{running}
 use Rattle.math_base.specs.Packing.{word_bits, elements_of_bits, elements_of, words_to_elements_gives}
 use Rattle.math_base.proofs.Packing.{length-elements_of}

@@ -1,5 +1,5 @@
 use Rattle.std.proofs.Common.{◌++◌, ◌*◌, ap, rules}
-use Rattle.math_theory.specs.Bits.{piece_count}
+use Rattle.math_numbers.specs.Bits.{piece_count}
 use Rattle.math_base.specs.Repacking.{running}
 use Rattle.math_base.specs.Packing.{element_bits, words_of_bits, words_of, elements_to_words_gives}
 use Rattle.math_base.proofs.Packing.{length-words_of}

@@ -1,6 +1,6 @@
 use Rattle.std.proofs.Common.{ap, sym, ◌%◌, lit<}
-use Rattle.math_theory.specs.Goldilocks.{P}
-use Rattle.math_theory.proofs.PowersModulo.{power_mod-by_squaring}
+use Rattle.math_numbers.specs.Goldilocks.{P}
+use Rattle.math_numbers.proofs.PowersModulo.{power_mod-by_squaring}
 use Rattle.math_base.proofs.fields.goldilocks.FFieldNTT.coset_shift_inv.Goals as goal
 
 pub returns-clause-ok : goal.returns-clause-ok

@@ -1,6 +1,6 @@
 use Rattle.std.proofs.Common.{◌++◌, ap, ◌∙◌, sym, append-nil}
-use Rattle.math_theory.specs.Bits.{bits}
-use Rattle.math_theory.proofs.BitLists.{bits-mod}
+use Rattle.math_numbers.specs.Bits.{bits}
+use Rattle.math_numbers.proofs.BitLists.{bits-mod}
 use Rattle.math_base.specs.Elements.{number}
 use Rattle.math_base.specs.Packing.{waiting_bits}
 use Rattle.math_base.proofs.Repacking.{Refills-call}

@@ -1,6 +1,6 @@
 use Rattle.std.proofs.Common.{drop, ◌++◌, ◌∷◌, ap, ◌∙◌, sym, refl, rules, arith, lit<}
-use Rattle.math_theory.proofs.BitLists.{length-bits}
-use Rattle.math_theory.proofs.BitPieces.{cut-nil}
+use Rattle.math_numbers.proofs.BitLists.{length-bits}
+use Rattle.math_numbers.proofs.BitPieces.{cut-nil}
 use Rattle.math_base.specs.Repacking.{running}
 use Rattle.math_base.specs.Packing.{waiting_bits, words_of_bits}
 use Rattle.math_base.proofs.BitFronts.{cut-waiting}

@@ -1,6 +1,6 @@
 use Rattle.std.proofs.Common.{rules, arith, sym}
 use Rattle.std.proofs.lemmas.Nat.{shl_whole}
-use Rattle.math_theory.proofs.BitLists.{append_below, bits-append}
+use Rattle.math_numbers.proofs.BitLists.{append_below, bits-append}
 use Rattle.math_base.proofs.fields.goldilocks.packing.WaitingBits.followed_by.Goals as goal
 
 pub invariant_of-result : goal.invariant_of-result

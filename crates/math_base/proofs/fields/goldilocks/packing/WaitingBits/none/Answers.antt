@@ -1,4 +1,4 @@
-use Rattle.math_theory.specs.Bits.{bits-zero}
+use Rattle.math_numbers.specs.Bits.{bits-zero}
 use Rattle.math_base.proofs.fields.goldilocks.packing.WaitingBits.none.Goals as goal
 
 pub returns-clause-bits : goal.returns-clause-bits

@@ -1,7 +1,7 @@
 use Rattle.std.proofs.Common.{rules, ◌-◌, ◌/◌, ◌^◌, ap, ◌∙◌, sym, bit_and}
 use Rattle.std.proofs.lemmas.Nat.{one_shl, and_mask}
-use Rattle.math_theory.specs.Bits.{bits}
-use Rattle.math_theory.proofs.BitLists.{above_below}
+use Rattle.math_numbers.specs.Bits.{bits}
+use Rattle.math_numbers.proofs.BitLists.{above_below}
 use Rattle.math_base.proofs.BitFronts.{number-take-bits, drop-bits}
 use Rattle.math_base.proofs.fields.goldilocks.packing.WaitingBits.split.Goals as goal
 

@@ -1,5 +1,5 @@
 use Rattle.std.proofs.Common.{◌++◌, ap, ◌∙◌, sym, append-nil}
-use Rattle.math_theory.specs.Bits.{bits}
+use Rattle.math_numbers.specs.Bits.{bits}
 use Rattle.math_base.specs.Packing.{waiting_bits}
 use Rattle.math_base.proofs.Repacking.{Refills-call}
 use Rattle.math_base.proofs.fields.goldilocks.packing.WordsToElements.refill.Goals as goal

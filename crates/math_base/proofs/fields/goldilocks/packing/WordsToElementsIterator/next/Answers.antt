@@ -1,5 +1,5 @@
 use Rattle.std.proofs.Common.{◌++◌, ◌∷◌, ap, ◌∙◌, sym, refl, rules, arith}
-use Rattle.math_theory.proofs.BitLists.{length-bits, joined-append}
+use Rattle.math_numbers.proofs.BitLists.{length-bits, joined-append}
 use Rattle.math_base.specs.Packing.{waiting_bits, elements_of_bits}
 use Rattle.math_base.proofs.Packing.{elements_of_bits-nil, elements_of_bits-waiting, waiting_bits-none}
 use Rattle.math_base.proofs.Repacking.{Repacks-none, Repacks-some}

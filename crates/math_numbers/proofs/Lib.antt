@@ -1,0 +1,9 @@
+pub mod PowersModulo
+pub mod Pigeonhole
+pub mod Orders
+pub mod Primes
+pub mod InversesModulo
+pub mod Fermat
+pub mod GoldilocksPrime
+pub mod BitLists
+pub mod BitPieces

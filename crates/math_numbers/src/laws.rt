@@ -1,0 +1,4 @@
+//! The main theorems, by subject.
+
+pub mod bits;
+pub mod numbers;

@@ -1,0 +1,6 @@
+pub mod DomainPoints
+pub mod PowerLists
+pub mod RootOrders
+pub mod RootProductLists
+pub mod MissingProducts
+pub mod CarriedDomains

@@ -1,8 +1,0 @@
-use Rattle.math_theory.proofs.BitLists.{length-bits, number-bits}
-use Rattle.math_theory.proofs.laws.bits.bits_of_numbers.Goals as goal
-
-pub returns-clause-length : goal.returns-clause-length
-returns-clause-length c = length-bits
-
-pub returns-clause-number : goal.returns-clause-number
-returns-clause-number c = number-bits

@@ -1,5 +1,0 @@
-use Rattle.math_theory.proofs.BitPieces.{words_come_back}
-use Rattle.math_theory.proofs.laws.bits.words_there_and_back.Goals as goal
-
-pub returns : goal.returns
-returns c = words_come_back

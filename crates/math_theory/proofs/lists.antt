@@ -1,0 +1,2 @@
+pub mod ListMaps
+pub mod Apart

@@ -1,0 +1,9 @@
+pub mod Horner
+pub mod Values
+pub mod ValuesRespect
+pub mod Coefficients
+pub mod ScaledPoint
+pub mod WeightedPowers
+pub mod Roots
+pub mod RootProducts
+pub mod CarriedRoots

@@ -1,0 +1,4 @@
+pub mod FilledItems
+pub mod Fitting
+pub mod Recovery
+pub mod CarriedRecovery

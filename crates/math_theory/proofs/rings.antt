@@ -1,0 +1,9 @@
+pub mod RingLaws
+pub mod Normal
+pub mod Identities
+pub mod PowerLaws
+pub mod Totals
+pub mod WeightedSumLaws
+pub mod CongruenceLaws
+pub mod ResidueLaws
+pub mod Examples

@@ -1,0 +1,4 @@
+pub mod EvenOddItems
+pub mod BitOrder
+pub mod TransformValues
+pub mod TransformInverse
