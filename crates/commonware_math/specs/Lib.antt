@@ -1,5 +1,5 @@
 pub use Rattle.math_base.specs.Members as Members
-pub mod PolynomialCounts
-pub mod PolynomialLaws
-pub mod Combinations
+pub use Rattle.math_poly.specs.PolynomialCounts as PolynomialCounts
+pub use Rattle.math_poly.specs.PolynomialLaws as PolynomialLaws
+pub use Rattle.math_poly.specs.Combinations as Combinations
 pub mod Interpolators

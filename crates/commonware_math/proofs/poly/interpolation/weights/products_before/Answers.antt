@@ -1,7 +1,7 @@
 use Rattle.std.proofs.Common.{◌++◌, [], ◌∷◌, ◌≡◌, take, arith}
 use Rattle.std.proofs.lemmas.List.{length-append}
 use Rattle.math_theory.specs.Sums.{total}
-use Rattle.commonware_math.proofs.PlaceByPlace.{each_place_next}
+use Rattle.math_poly.proofs.PlaceByPlace.{each_place_next}
 use Rattle.commonware_math.proofs.WeightLoops.{before-next}
 use Rattle.commonware_math.proofs.poly.interpolation.weights.products_before.Goals as goal
 

@@ -1,7 +1,0 @@
-use Rattle.std.proofs.Common.{ℕ, ◌≤◌}
-use Rattle.math_theory.specs.Coefficients.{coefficient}
-use Rattle.commonware_math.proofs.poly.Poly.degree_exact.Given as goal
-
--- every coefficient from the i-th on is zero
-abbrev pub invariant-loop-i : goal.invariant-loop-i
-invariant-loop-i g l = (k : ℕ) → l.i ≤ k → g.K.Object.same (coefficient g.K.Additive.zero l.self k) g.K.Additive.zero

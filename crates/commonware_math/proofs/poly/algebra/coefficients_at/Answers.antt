@@ -1,7 +1,0 @@
-use Rattle.std.proofs.Common.{rules}
-use Rattle.math_theory.specs.Coefficients.{coefficient}
-use Rattle.commonware_math.proofs.PlaceByPlace.{AllZip-weaker}
-use Rattle.commonware_math.proofs.poly.algebra.coefficients_at.Goals as goal
-
-pub returns : goal.returns
-returns g c = AllZip-weaker _ (λ p a. g.K.Object.same a (coefficient g.K.Additive.zero p c.args.i)) (λ p a k. search rules) _ _ c.in_ok-column.ensures.each

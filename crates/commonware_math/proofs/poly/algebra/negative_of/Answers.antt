@@ -1,7 +1,0 @@
-use Rattle.std.proofs.Common.{rules}
-use Rattle.commonware_math.proofs.Coefficientwise.{same_as_map}
-use Rattle.commonware_math.proofs.poly.algebra.negative_of.Goals as goal
-
-pub returns-clause-ok : goal.returns-clause-ok
-returns-clause-ok g c =
-    same_as_map g.K.Additive.zero g.met.K.Object.equality g.K.Additive.negative (λ a b k. search rules) _ _ c.in_ok-negative.ensures.each

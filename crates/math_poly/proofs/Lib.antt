@@ -1,0 +1,13 @@
+pub mod PlaceByPlace
+pub mod Coefficientwise
+pub mod PolynomialEquality
+pub mod PolynomialSums
+pub mod PolynomialMultiples
+pub mod WeightedPolynomials
+pub mod Limbs
+pub mod GreatestCount
+pub mod GeometricItems
+pub mod AddedTerms
+pub mod ZippedLists
+pub mod CombinationSteps
+pub mod ListSizes

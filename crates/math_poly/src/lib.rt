@@ -1,0 +1,4 @@
+//! Polynomials over any space, by the lists of their coefficients.
+#![tactic(auto)]
+
+pub mod poly;
