@@ -10,7 +10,8 @@ use math_base::fields::goldilocks::F;
 /// Whether calls on quotients are never refused, which they are not, and the greatest lg of an order of a
 /// root of unity, 5.
 pub fn constants_of_quotients() -> (bool, u8)
-    ensures values { (result.0 ≡ ⟦<Quotient as Object>⟧.NEVER_REFUSES) × (result.1 ≡ ⟦<Quotient as FieldNTT>⟧.MAX_LG_ROOT_ORDER) }
+    ensures values { (result.0 ≡ ⟦<Quotient as Object>⟧.NEVER_REFUSES)
+        × (result.1 ≡ ⟦<Quotient as FieldNTT>⟧.MAX_LG_ROOT_ORDER) }
     ensures never { IsTrue ⟦<Quotient as Object>⟧.NEVER_REFUSES }
     ensures order { ⟦<Quotient as FieldNTT>⟧.MAX_LG_ROOT_ORDER ≡ 5 }
 {
@@ -22,7 +23,8 @@ pub fn constants_of_quotients() -> (bool, u8)
 
 /// The same of boxed elements: calls may be refused, and the greatest lg is that of `F`, 32.
 pub fn constants_of_boxed_elements() -> (bool, u8)
-    ensures values { (result.0 ≡ ⟦<Boxed<F> as Object>⟧.NEVER_REFUSES) × (result.1 ≡ ⟦<Boxed<F> as FieldNTT>⟧.MAX_LG_ROOT_ORDER) }
+    ensures values { (result.0 ≡ ⟦<Boxed<F> as Object>⟧.NEVER_REFUSES)
+        × (result.1 ≡ ⟦<Boxed<F> as FieldNTT>⟧.MAX_LG_ROOT_ORDER) }
     ensures may_refuse { ⟦<Boxed<F> as Object>⟧.NEVER_REFUSES ≡ false }
     ensures order { ⟦<Boxed<F> as FieldNTT>⟧.MAX_LG_ROOT_ORDER ≡ 32 }
 {

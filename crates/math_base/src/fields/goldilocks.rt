@@ -462,7 +462,8 @@ impl Random for F {
     /// The source stands after the words that were looked at.
     fn random<G: Rng + CryptoRng>(_alloc: Global, rng: &mut G) -> Result<F, RandomError>
         ensures sampled { IfOk result (λ a. sample_of (G.stream rng.old) ≡ (Some a, G.stream rng.new)) }
-        ensures refused { IfErr result (λ error. (error ≡ TooManyWords) × (sample_of (G.stream rng.old) ≡ (None, G.stream rng.new))) }
+        ensures refused { IfErr result (λ error.
+            (error ≡ TooManyWords) × (sample_of (G.stream rng.old) ≡ (None, G.stream rng.new))) }
     {
         for _looked_at in 0..64u32 {
             let word = rng.next_u64();

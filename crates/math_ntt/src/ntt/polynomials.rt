@@ -45,7 +45,8 @@ impl<F: Additive> Matrix<F> {
         ensures some { IfOk result (λ answer. IsSome answer ↔ AreEnough self.now min_coefficients) }
         ensures rows { IfOk result (λ answer. IfSome answer (λ v. IsNextPowerOfTwo min_coefficients v.rows)) }
         ensures size { IfOk result (λ answer. IfSome answer (λ v. IsOfSize v v.rows self.now.cols)) }
-        ensures polynomials { IfOk result (λ answer. IfSome answer (λ v. HaveSamePolynomials F.same F.zero v self.now)) }
+        ensures polynomials { IfOk result (λ answer.
+            IfSome answer (λ v. HaveSamePolynomials F.same F.zero v self.now)) }
     {
         if min_coefficients == 0 || min_coefficients < self.rows {
             return Ok(None);
