@@ -97,8 +97,7 @@ impl<F: Object> PolynomialVector<F> {
         ensures ok { IfOk result (λ answer. IsTrue answer ↔ AreSame F.same self.now other.now) }
         ensures never { IsTrue F.NEVER_REFUSES → IsOk result }
     {
-        let out = self.coefficients.equals(alloc, &other.coefficients)?;
-        Ok(out)
+        self.coefficients.equals(alloc, &other.coefficients)
     }
 }
 

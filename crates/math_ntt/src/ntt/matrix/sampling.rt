@@ -11,7 +11,7 @@ use rand_core::{CryptoRng, Rng};
 use std::alloc::Global;
 
 impl<F: Random + Drop> Matrix<F> {
-    /// The matrix whose cells are the next samples of the source, row by row.
+    /// The matrix whose cells are the next samples of the source, row by row. The number of cells is below 2^64.
     ///
     /// It refuses with `TooManyWords` where one of these samples is refused, or with `Memory`.
     pub fn rand<G: Rng + CryptoRng>(
