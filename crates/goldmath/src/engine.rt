@@ -16,16 +16,13 @@ use commonware_math::codec::{self, LengthRange, Mem, decode};
 use commonware_math::fields::goldilocks::F;
 use commonware_math::poly::Poly;
 use std::alloc::Global;
-use thiserror::Error;
 
 /// Why the program gives no answer.
-#[derive(Debug, Drop, Error)]
+#[derive(Debug, Drop)]
 pub enum ToolError {
     /// The words are those of no command.
-    #[error("usage: goldmath eval POINT | goldmath recover LG ROW..")]
     Usage,
     /// The words are a command's, and what it refuses is its input.
-    #[error("refused: {0}")]
     Refused(codec::Error),
 }
 
@@ -77,8 +74,7 @@ fn evaluated(alloc: Global, point: u64, bytes: &[u8]) -> Result<Vec<u8>, codec::
     ensures memory { OnMemory result (ListGrows any_length scan_element (λ _. ⊥) bytes.now) }
 {
     let polynomial = decoded(alloc, bytes)?;
-    let line = value_line(alloc, &polynomial, point)?;
-    Ok(line)
+    Ok(value_line(alloc, &polynomial, point)?)
 }
 
 /// The answer to the command that the words are, given the bytes of standard input.

@@ -24,8 +24,8 @@ use std::alloc::Global;
 use std::fmt;
 use std::ops::{Add, AddAssign, Mul, MulAssign, Neg, Sub, SubAssign};
 
-/// P.
-const MODULUS: u64 = 0xffff_ffff_0000_0001;
+/// P, the modulus of the Goldilocks field: 2^64 - 2^32 + 1.
+pub const MODULUS: u64 = 0xffff_ffff_0000_0001;
 
 /// An element of the Goldilocks field: a number from 0 to P - 1.
 #[derive(Clone, Copy, PartialEq, Eq)]
