@@ -40,7 +40,8 @@ encoded-admitted bytes p h =
 pub any_length-is : (range : LengthRange) → range.low ≡ 0 → range.high ≡ 4294967295 → any_length ≡ nonzero range
 any_length-is range e f = sym (ap₂ (λ (l h : ℕ). nonzero (record { low = l; high = h })) e f)
 
-pub encoded-admitted_by : (range : LengthRange) → range.low ≡ 0 → range.high ≡ 4294967295 → (bytes : List ℕ) (p : List F) → IsEncodedPolynomial bytes p → AdmitsList (nonzero range) (λ a. number a < P) p
+pub encoded-admitted_by : (range : LengthRange) → range.low ≡ 0 → range.high ≡ 4294967295 → (bytes : List ℕ) (p : List F)
+    → IsEncodedPolynomial bytes p → AdmitsList (nonzero range) (λ a. number a < P) p
 encoded-admitted_by range e f bytes p h = subst (λ (r : LengthRange). AdmitsList r (λ a. number a < P) p) (any_length-is range e f) (encoded-admitted bytes p h)
 
 same_value : (p q : List F) (r s : F) → same r s → AllZip same p q
@@ -48,7 +49,8 @@ same_value : (p q : List F) (r s : F) → same r s → AllZip same p q
 same_value p q r s e h = value_over-respects equality group (ring_is_module equality group commutes ring) equality commutes r s e p q h
 
 -- the line of a value at an element that is the point's remainder
-pub eval_line-residue : (p : List F) (r v : F) (point n : ℕ) → number r ≡ point % P → same v (value_over (residue 0) sum product (residue 1) product r p) → n ≡ number v → decimal n ++ line_end ≡ eval_line p point
+pub eval_line-residue : (p : List F) (r v : F) (point n : ℕ) → number r ≡ point % P → same v (value_over (residue 0) sum product (residue 1) product r p)
+    → n ≡ number v → decimal n ++ line_end ≡ eval_line p point
 eval_line-residue p r v point n e h k = ap (λ m. decimal m ++ line_end) (k ∙ h ∙ same_value p p r (residue point) e (all_same p))
 
 -- polynomials with the same coefficients have one value at a point

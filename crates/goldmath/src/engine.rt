@@ -16,16 +16,13 @@ use commonware_math::codec::{self, LengthRange, Mem, decode};
 use commonware_math::fields::goldilocks::F;
 use commonware_math::poly::Poly;
 use std::alloc::Global;
-use thiserror::Error;
 
 /// Why the program gives no answer.
-#[derive(Debug, Drop, Error)]
+#[derive(Debug, Drop)]
 pub enum ToolError {
     /// The words are those of no command.
-    #[error("usage: goldmath eval POINT | goldmath recover LG ROW..")]
     Usage,
     /// The words are a command's, and what it refuses is its input.
-    #[error("refused: {0}")]
     Refused(codec::Error),
 }
 
@@ -51,7 +48,8 @@ fn eval_point(words: &[String]) -> Option<u64>
 /// The polynomial that the bytes encode.
 fn decoded(alloc: Global, bytes: &[u8]) -> Result<Poly<F>, codec::Error>
     ensures taken { IfOk result (IsEncodedPolynomial bytes.now) }
-    ensures encoded { (p : List F) → IsEncodedPolynomial bytes.now p → MatchResult result (λ q. AllZip same q p) IsMemory }
+    ensures encoded { (p : List F) → IsEncodedPolynomial bytes.now p
+        → MatchResult result (λ q. AllZip same q p) IsMemory }
     ensures exact { Agrees (λ _. tt) result (scan_polynomial bytes.now) }
     ensures memory { OnMemory result (ListGrows any_length scan_element (λ _. ⊥) bytes.now) }
 {
@@ -68,14 +66,15 @@ fn value_line(alloc: Global, polynomial: &Poly<F>, point: u64) -> Mem<Vec<u8>>
 
 /// The value at `point` of the polynomial that the bytes encode, in decimal, and a line end.
 fn evaluated(alloc: Global, point: u64, bytes: &[u8]) -> Result<Vec<u8>, codec::Error>
-    ensures answer { IfOk result (λ line. (p : List F) × IsEncodedPolynomial bytes.now p × (line.items ≡ eval_line p point)) }
-    ensures encoded { (p : List F) → IsEncodedPolynomial bytes.now p → MatchResult result (λ line. line.items ≡ eval_line p point) IsMemory }
+    ensures answer { IfOk result (λ line.
+        (p : List F) × IsEncodedPolynomial bytes.now p × (line.items ≡ eval_line p point)) }
+    ensures encoded { (p : List F) → IsEncodedPolynomial bytes.now p
+        → MatchResult result (λ line. line.items ≡ eval_line p point) IsMemory }
     ensures exact { Agrees (λ _. tt) result (scan_polynomial bytes.now) }
     ensures memory { OnMemory result (ListGrows any_length scan_element (λ _. ⊥) bytes.now) }
 {
     let polynomial = decoded(alloc, bytes)?;
-    let line = value_line(alloc, &polynomial, point)?;
-    Ok(line)
+    Ok(value_line(alloc, &polynomial, point)?)
 }
 
 /// The answer to the command that the words are, given the bytes of standard input.
@@ -89,16 +88,18 @@ fn evaluated(alloc: Global, point: u64, bytes: &[u8]) -> Result<Vec<u8>, codec::
 pub fn run(alloc: Global, words: &[String], bytes: &[u8]) -> Result<Vec<u8>, ToolError>
     // The words.
     ensures usage { IfErr result (λ fault. IsUsage fault → AreWrongWords (map string_bytes words.now)) }
-    ensures wrong { AreWrongWords (map string_bytes words.now) → MatchResult result (λ _. ⊥) (λ fault. IsUsage fault ⊎ IsOutOfMemory fault) }
+    ensures wrong { AreWrongWords (map string_bytes words.now)
+        → MatchResult result (λ _. ⊥) (λ fault. IsUsage fault ⊎ IsOutOfMemory fault) }
 
     // `eval`: an answer is the value of the polynomial that the bytes encode, and it is given wherever they encode one.
     ensures eval { (point : ℕ) → AreEvalWords (map string_bytes words.now) point
         → IfOk result (λ line. (p : List F) × IsEncodedPolynomial bytes.now p × (line.items ≡ eval_line p point)) }
-    ensures eval_encoded { (point : ℕ) (p : List F) → AreEvalWords (map string_bytes words.now) point → IsEncodedPolynomial bytes.now p
-        → MatchResult result (λ line. line.items ≡ eval_line p point) IsOutOfMemory }
+    ensures eval_encoded { (point : ℕ) (p : List F) → AreEvalWords (map string_bytes words.now) point
+        → IsEncodedPolynomial bytes.now p → MatchResult result (λ line. line.items ≡ eval_line p point) IsOutOfMemory }
 
     // `eval`: which fault of the bytes it is.
-    ensures eval_exact { (point : ℕ) → AreEvalWords (map string_bytes words.now) point → Meets result (scan_polynomial bytes.now) }
+    ensures eval_exact { (point : ℕ) → AreEvalWords (map string_bytes words.now) point
+        → Meets result (scan_polynomial bytes.now) }
     ensures eval_memory { (point : ℕ) → AreEvalWords (map string_bytes words.now) point
         → IfErr result (λ fault. WhereOutOfMemory fault (ListGrows any_length scan_element (λ _. ⊥) bytes.now)) }
 {

@@ -6,10 +6,8 @@ ghost use Rattle.goldmath.specs.Numerals.{WritesPoint};
 
 use crate::engine::ToolError;
 use commonware_math::codec::{Error, Mem};
+use commonware_math::fields::goldilocks::MODULUS;
 use std::alloc::Global;
-
-/// The modulus of the Goldilocks field, 2^64 - 2^32 + 1.
-const P: u64 = 0xffff_ffff_0000_0001;
 
 /// The point that a word writes: 1 to 20 ASCII digits, the most significant first, of a number below
 /// the modulus. Zeros may lead.
@@ -24,7 +22,7 @@ pub fn point_of(word: &str) -> Option<u64>
         return None;
     }
     match word.parse::<u64>() {
-        Ok(point) => (point < P).then_some(point),
+        Ok(point) => (point < MODULUS).then_some(point),
         Err(_) => None,
     }
 }

@@ -23,11 +23,13 @@ module _ {A S : Type 0} {same : A → A → Type 0} {product : A → A → A} (E
   ended s e [] last rest run =
       (refl, over (base_of run.0) (next_of rest) [] last last (subst (λ (n : Option A). GivesPower {E = X} same product (base_of run.0) n last (next_of rest)) (ap next_of (sym run.1) ∙ e) run.2.0))
   ended s e (x ∷ items) last rest run =
-      let none : Some x ≡ None = over (base_of s) (next_of run.1.0) items last (Some x) (subst (λ (n : Option A). GivesPower {E = X} same product (base_of s) n (Some x) (next_of run.1.0)) e run.1.1.0) in
+      let none : Some x ≡ None = over (base_of s) (next_of run.1.0) items last (Some x)
+      (subst (λ (n : Option A). GivesPower {E = X} same product (base_of s) n (Some x) (next_of run.1.0)) e run.1.1.0) in
       absurd (cc none)
 
   -- the last of a run, where there is a next power
-  last_term : (shift base c : A) (i : ℕ) (after : Option A) (last : Option (Result A X)) → same c (product shift (power one product base i)) → GivesPower {E = X} same product base (Some c) last after → AreGeometric same product one shift base i [] last
+  last_term : (shift base c : A) (i : ℕ) (after : Option A) (last : Option (Result A X)) → same c (product shift (power one product base i))
+      → GivesPower {E = X} same product base (Some c) last after → AreGeometric same product one shift base i [] last
   last_term shift base c i after None h k = absurd k
   last_term shift base c i after (Some (Err e)) h k = tt
   last_term shift base c i after (Some (Ok x)) h k = E.transitive _ _ _ (given base c x after k).0 h

@@ -19,19 +19,17 @@ behind (Some y, r) first whole t u x xs h e =
     let (ys, f, g) = rest_of (first r) y xs t e in
     rw (h r ys f) (ap (λ l. (Some (l ++ x ∷ []), u)) g)
 
-sample_after : {T : Type 0} (sample : Stream → Option T × Stream) (n : ℕ) (s t u : Stream) (xs : List T) (x : T)
-    → samples sample n s ≡ (Some xs, t) → sample t ≡ (Some x, u) → samples sample (suc n) s ≡ (Some (xs ++ x ∷ []), u)
-unfolding samples before_samples
-sample_after sample zero s t u xs x e f =
-    let none : [] ≡ xs = same_Some [] xs (ap (λ p. p.0) e) in
-    let same_source : s ≡ t = ap (λ p. p.1) e in
-    rw (same_source, f, ← none) refl
-sample_after sample (suc n) s t u xs x e f = behind (sample s) (samples sample n) (samples sample (suc n)) t u x xs (λ r ys g. sample_after sample n r t u ys x g f) e
-
 -- a sample that the source gives after n samples is the last of n + 1
 pub sample_behind : {T : Type 0} (sample : Stream → Option T × Stream) (n : ℕ) (s t u : Stream) (xs : List T) (x : T)
     → samples sample n s ≡ (Some xs, t) → sample t ≡ (Some x, u) → samples sample (n + 1) s ≡ (Some (xs ++ x ∷ []), u)
-sample_behind sample n s t u xs x e f = let one_more : n + 1 ≡ suc n = omega arith in rw one_more (sample_after sample n s t u xs x e f)
+unfolding samples before_samples
+sample_behind sample zero s t u xs x e f =
+    let none : [] ≡ xs = same_Some [] xs (ap (λ p. p.0) e) in
+    let same_source : s ≡ t = ap (λ p. p.1) e in
+    rw (same_source, f, ← none) refl
+sample_behind sample (suc n) s t u xs x e f =
+    let one_more : suc n + 1 ≡ suc (n + 1) = omega arith in
+    rw one_more (behind (sample s) (samples sample n) (samples sample (n + 1)) t u x xs (λ r ys g. sample_behind sample n r t u ys x g f) e)
 
 ended : {T : Type 0} (o : Option T × Stream) (first whole : Stream → Option (List T) × Stream) (t u : Stream) (xs : List T)
     → ((r : Stream) (ys : List T) → first r ≡ (Some ys, t) → whole r ≡ (None, u)) → before_samples o first ≡ (Some xs, t) → before_samples o whole ≡ (None, u)

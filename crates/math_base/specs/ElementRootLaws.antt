@@ -49,7 +49,8 @@ exact_order lg h =
 greatest_power : (lg : ℕ) → lg ≤ 32 → power_mod P (root lg) 4294967296 ≡ 1
 greatest_power lg h =
     ap (λ t. power_mod P t 4294967296) (squared-power (32 - lg)) ∙ sym (power_mod-mul P greatest_root (2 ^ (32 - lg)) 4294967296)
-    ∙ ap (power_mod P greatest_root) (mul_comm (2 ^ (32 - lg)) 4294967296) ∙ power_mod-multiple_one P greatest_root 4294967296 (2 ^ (32 - lg)) (power_mod-by_squaring 33 P greatest_root 4294967296 (lit< tt))
+    ∙ ap (power_mod P greatest_root) (mul_comm (2 ^ (32 - lg)) 4294967296)
+    ∙ power_mod-multiple_one P greatest_root 4294967296 (2 ^ (32 - lg)) (power_mod-by_squaring 33 P greatest_root 4294967296 (lit< tt))
 
 shift_apart : (lg m : ℕ) → lg ≤ 32 → power_mod P (root lg) m ≢ shift
 shift_apart lg m h = λ e.
@@ -62,7 +63,8 @@ shift_apart lg m h = λ e.
 pub roots : HasRootsOfUnity same (residue 0) sum product (residue 1) 32 root_of shift_of half_of
 roots = record {
   order = exact_order;
-  square = λ lg h. let e : suc (32 - suc lg) ≡ 32 - lg = omega arith in let r = root (suc lg) in mul-mod_first r (r % P) P ∙ mul-mod_second r r P ∙ sym (mod-mod (r * r) P) ∙ ap (λ k. squared k greatest_root % P) e;
+  square = λ lg h. let e : suc (32 - suc lg) ≡ 32 - lg = omega arith in let r = root (suc lg) in mul-mod_first r (r % P) P
+      ∙ mul-mod_second r r P ∙ sym (mod-mod (r * r) P) ∙ ap (λ k. squared k greatest_root % P) e;
   shift_is_not_zero = λ e. let h : shift % P ≡ 0 = e in omega arith;
   shift_is_no_power = λ lg h m e. shift_apart lg m h (sym (power_of_root lg m) ∙ sym e);
   respects_half = λ a b e. ap (λ t. t * 9223372034707292161 % P) e;

@@ -115,18 +115,18 @@ pub trait Additive: Object {
 
     /// The n-fold sum, n being the number that the limbs write, the lowest limb first; no limbs write 0.
     fn scale(&self, alloc: Global, bits_le: &[u64]) -> Mem<Self>
-        ensures ok { IfOk result (λ answer. Self.same answer (multiple zero sum self.now (number_of_limbs bits_le.now))) }
+        ensures ok { IfOk result (λ answer.
+            Self.same answer (multiple zero sum self.now (number_of_limbs bits_le.now))) }
         ensures never { IsTrue Self.NEVER_REFUSES → IsOk result }
     {
         let start = Self::zero(alloc)?;
-        let out = power_by_bits(
+        power_by_bits(
             start,
             self,
             bits_le,
             |a: &mut Self| a.double(alloc),
             |a: &mut Self, b: &Self| a.add_assign(alloc, b),
-        )?;
-        Ok(out)
+        )
     }
 
     /// A commutative group, each of whose operations respects `same`.
@@ -180,18 +180,18 @@ pub trait Ring: Additive + Multiplicative {
 
     /// The n-fold product, n being the number that the limbs write, the lowest limb first; no limbs write 0.
     fn exp(&self, alloc: Global, bits_le: &[u64]) -> Mem<Self>
-        ensures ok { IfOk result (λ answer. Self.same answer (power one Self.product self.now (number_of_limbs bits_le.now))) }
+        ensures ok { IfOk result (λ answer.
+            Self.same answer (power one Self.product self.now (number_of_limbs bits_le.now))) }
         ensures never { IsTrue Self.NEVER_REFUSES → IsOk result }
     {
         let start = Self::one(alloc)?;
-        let out = power_by_bits(
+        power_by_bits(
             start,
             self,
             bits_le,
             |a: &mut Self| a.square(alloc),
             |a: &mut Self, b: &Self| a.mul_assign(alloc, b),
-        )?;
-        Ok(out)
+        )
     }
 
     /// One is the identity of the product, which distributes over sums.
@@ -291,16 +291,16 @@ pub trait Space<R: Ring>: Additive {
 
     /// The sum of point i scaled by scalar i, over the shorter of both slices; zero for none.
     fn msm(alloc: Global, points: &[Self], scalars: &[R]) -> Mem<Self>
-        ensures ok { IfOk result (λ answer. Self.same answer (weighted_sum Self.zero Self.sum scaling points.now scalars.now)) }
+        ensures ok { IfOk result (λ answer.
+            Self.same answer (weighted_sum Self.zero Self.sum scaling points.now scalars.now)) }
         ensures never { IsTrue Self.NEVER_REFUSES → IsOk result }
     {
-        let out = weighted_sum_by(
+        weighted_sum_by(
             alloc,
             points,
             scalars,
             |p: &mut Self, s: &R| p.scale_assign(alloc, s),
-        )?;
-        Ok(out)
+        )
     }
 
     /// The laws of a module, each operation respecting `same`.
@@ -347,8 +347,7 @@ pub trait HashToGroup: CryptoGroup {
     {
         let mut bytes = [0u8; 32];
         rng.fill_bytes(&mut bytes);
-        let out = Self::hash_to_group(alloc, &[], &bytes)?;
-        Ok(out)
+        Self::hash_to_group(alloc, &[], &bytes)
     }
 }
 
@@ -387,12 +386,14 @@ pub trait Random: Sized {
     /// The next sample of the source. How samples are distributed is not promised.
     fn random<G: Rng + CryptoRng>(alloc: Global, rng: &mut G) -> Result<Self, RandomError>
         ensures sampled { IfOk result (λ x. sample (G.stream rng.old) ≡ (Some x, G.stream rng.new)) }
-        ensures refused { IfErr result (λ error. error ≡ TooManyWords → sample (G.stream rng.old) ≡ (None, G.stream rng.new)) };
+        ensures refused { IfErr result (λ error.
+            error ≡ TooManyWords → sample (G.stream rng.old) ≡ (None, G.stream rng.new)) };
 }
 
 /// `Ok(shift)`, `Ok(shift * base)`, `Ok(shift * base^2)` and so on, without end; after an `Err` it ends.
 pub fn powers<'a, R: Ring>(alloc: Global, shift: R, base: &'a R) -> Powers<'a, R>
-    ensures { (items : _) (last : _) (rest : _) → YieldsThen ⟦<Powers<'a, R> as Iterator>⟧.next_gives result items last rest
+    ensures { (items : _) (last : _) (rest : _)
+        → YieldsThen ⟦<Powers<'a, R> as Iterator>⟧.next_gives result items last rest
         → AreGeometric R.same R.product R.one shift base.now 0 items last }
 {
     Powers::new(alloc, shift, base)
@@ -403,13 +404,12 @@ pub fn msm_naive<R: Ring, K: Space<R>>(alloc: Global, points: &[K], scalars: &[R
     ensures ok { IfOk result (λ answer. K.same answer (weighted_sum K.zero K.sum K.scaling points.now scalars.now)) }
     ensures never { IsTrue K.NEVER_REFUSES → IsOk result }
 {
-    let out = weighted_sum_by(
+    weighted_sum_by(
         alloc,
         points,
         scalars,
         |p: &mut K, s: &R| p.scale_assign(alloc, s),
-    )?;
-    Ok(out)
+    )
 }
 
 /// The sum of point i scaled by scalar i, over the shorter of both slices. The scaling is handed in,
@@ -421,10 +421,12 @@ fn weighted_sum_by<R: Drop, K: Additive, S: Fn(&mut K, &R) -> Mem<()>>(
     scale: S,
 ) -> Mem<K>
     requires { S.IsAlwaysCallable scale }
-    ensures ok { IfOk result (λ answer. (scaling : K → R → K) → ((a b : K) (x : R) → K.same a b → K.same (scaling a x) (scaling b x))
+    ensures ok { IfOk result (λ answer.
+        (scaling : K → R → K) → ((a b : K) (x : R) → K.same a b → K.same (scaling a x) (scaling b x))
         → ((a : _) (x : _) (r : _) (b : _) → S.post scale a x r b → IfOk r (λ _. K.same b.now (scaling a.now x.now)))
         → K.same answer (weighted_sum K.zero K.sum scaling points.now scalars.now)) }
-    ensures never { IsTrue K.NEVER_REFUSES → ((a : _) (x : _) (r : _) (b : _) → S.post scale a x r b → IsOk r) → IsOk result }
+    ensures never { IsTrue K.NEVER_REFUSES
+        → ((a : _) (x : _) (r : _) (b : _) → S.post scale a x r b → IsOk r) → IsOk result }
 {
     let mut out = K::zero(alloc)?;
     for (s, p) in scalars.iter().zip(points.iter()) {

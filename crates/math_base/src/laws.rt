@@ -1,4 +1,5 @@
-//! Laws, each the contract of a function that does nothing.
+//! Laws, each the contract of a function that does nothing, or only answers what the law is about.
 
+pub mod elements;
 pub mod packing;
 pub mod polynomials;

@@ -31,7 +31,8 @@ module _ {K X : Type 0} {compare : X → X → Ordering} (u : IsTotalOrder compa
   same_head true false x e f xs apart same more p q =
       absurd (true≢false (sym same ∙ ap (λ (y : K × X). is_eq (compare y.1 f.1)) (sym (same_Some x e p)) ∙ found_fails other (λ y. is_eq (compare x.1 y)) xs f apart q))
   same_head false true x e f xs apart same more p q =
-      absurd (true≢false (sym same ∙ (eq_by_cmp_equiv u).symm e.1 f.1 ∙ ap (λ (y : K × X). is_eq (compare y.1 e.1)) (sym (same_Some x f q)) ∙ found_fails one (λ y. is_eq (compare x.1 y)) xs e apart p))
+      absurd (true≢false (sym same ∙ (eq_by_cmp_equiv u).symm e.1 f.1 ∙ ap (λ (y : K × X). is_eq (compare y.1 e.1)) (sym (same_Some x f q))
+      ∙ found_fails one (λ y. is_eq (compare x.1 y)) xs e apart p))
   same_head false false x e f xs apart same more p q = more p q
 
   -- two pairs that are found, with equal values, are one
@@ -59,7 +60,9 @@ values_differ_kept {K} {X} {cmp} {compare} o u xs es differ has =
     ap (λ y. is_eq (compare y (get_or (values_of es) j d))) (at_field (λ (p : K × X). p.1) es i d e at_e)
     ∙ ap (λ y. is_eq (compare e.1 y)) (at_field (λ (p : K × X). p.1) es j d f at_f)
     ∙ apart_or (is_eq (compare e.1 f.1)) (λ same.
-    let one : e ≡ f = same_pair u (λ k. is_eq (cmp e.0 k)) (λ k. is_eq (cmp f.0 k)) xs e f differ same (sym (has.1 e.0) ∙ first_at o es i e has.0 at_e) (sym (has.1 f.0) ∙ first_at o es j f has.0 at_f) in
-    let less : cmp e.0 f.0 ≡ Less = ap (λ k. cmp k f.0) (sym (at_field (λ (p : K × X). p.0) es i e.0 e at_e)) ∙ ap (cmp (get_or (keys_of es) i e.0)) (sym (at_field (λ (p : K × X). p.0) es j e.0 f at_f)) ∙ Less-from_sorted cmp (keys_of es) i j e.0 has.0 lt (omega arith) in
+    let one : e ≡ f = same_pair u (λ k. is_eq (cmp e.0 k)) (λ k. is_eq (cmp f.0 k)) xs e f differ same
+    (sym (has.1 e.0) ∙ first_at o es i e has.0 at_e) (sym (has.1 f.0) ∙ first_at o es j f has.0 at_f) in
+    let less : cmp e.0 f.0 ≡ Less = ap (λ k. cmp k f.0) (sym (at_field (λ (p : K × X). p.0) es i e.0 e at_e))
+    ∙ ap (cmp (get_or (keys_of es) i e.0)) (sym (at_field (λ (p : K × X). p.0) es j e.0 f at_f)) ∙ Less-from_sorted cmp (keys_of es) i j e.0 has.0 lt (omega arith) in
     let equal : cmp e.0 f.0 ≡ Equal = ap (λ (p : K × X). cmp e.0 p.0) (sym one) ∙ tied_itself o e.0 in
     true≢false (sym (ap is_eq equal) ∙ ap is_eq less)))))

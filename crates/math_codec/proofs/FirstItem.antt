@@ -12,18 +12,13 @@ pub past_first : (scan : List ℕ → Result (List ℕ) Fault) (bytes rest after
 past_first scan bytes rest after (inl e) h = inr (after, ap scan (sym e) ∙ h)
 past_first scan bytes rest after (inr b) h = inr b
 
-first_grows : (scan : List ℕ → Result (List ℕ) Fault) (grows : List ℕ → Type 0) (count i : ℕ) (bytes : List ℕ) → i < count → grows bytes ⊎ ((after : List ℕ) × (scan bytes ≡ Ok after)) → ItemsGrow scan grows count bytes
+first_grows : (scan : List ℕ → Result (List ℕ) Fault) (grows : List ℕ → Type 0) (count i : ℕ) (bytes : List ℕ) → i < count
+    → grows bytes ⊎ ((after : List ℕ) × (scan bytes ≡ Ok after)) → ItemsGrow scan grows count bytes
 first_grows scan grows zero i bytes lt h = absurd (omega arith)
 first_grows scan grows (suc n) i bytes lt h = h
 
--- the item could not be read for want of memory
-pub item_memory : (reported : Option Fault) (scan : List ℕ → Result (List ℕ) Fault) (grows : List ℕ → Type 0) (count i : ℕ) (bytes rest : List ℕ) → i < count → NoneOrFirstRead scan bytes rest
-    → IfNone reported (grows rest) → IfNone reported (ItemsGrow scan grows count bytes)
-item_memory None scan grows count i bytes rest lt (inl e) h = first_grows scan grows count i bytes lt (inl (subst grows e h))
-item_memory None scan grows count i bytes rest lt (inr b) h = first_grows scan grows count i bytes lt (inr b)
-item_memory (Some fault) scan grows count i bytes rest lt b h = tt
-
 -- the item was read, and could not be stored
-pub push_memory : (scan : List ℕ → Result (List ℕ) Fault) (grows : List ℕ → Type 0) (count i : ℕ) (bytes rest after : List ℕ) → i < count → NoneOrFirstRead scan bytes rest → scan rest ≡ Ok after → ItemsGrow scan grows count bytes
+pub push_memory : (scan : List ℕ → Result (List ℕ) Fault) (grows : List ℕ → Type 0) (count i : ℕ) (bytes rest after : List ℕ)
+    → i < count → NoneOrFirstRead scan bytes rest → scan rest ≡ Ok after → ItemsGrow scan grows count bytes
 push_memory scan grows count i bytes rest after lt (inl e) h = first_grows scan grows count i bytes lt (inr (after, ap scan (sym e) ∙ h))
 push_memory scan grows count i bytes rest after lt (inr b) h = first_grows scan grows count i bytes lt (inr b)

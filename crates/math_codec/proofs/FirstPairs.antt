@@ -27,7 +27,8 @@ module _ {K X : Type 0} (test : K → Bool) where
   lookup_entry-append [] ys = refl
   lookup_entry-append (x ∷ xs) ys = append_head (test x.0) x xs ys (lookup_entry-append xs ys)
 
-  is_some_head : (b : Bool) (x : K × X) (xs : List (K × X)) → is_some (lookup_entry test xs) ≡ list_any test (keys_of xs) → is_some (cond b (Some x) (lookup_entry test xs)) ≡ b || list_any test (keys_of xs)
+  is_some_head : (b : Bool) (x : K × X) (xs : List (K × X)) → is_some (lookup_entry test xs) ≡ list_any test (keys_of xs)
+      → is_some (cond b (Some x) (lookup_entry test xs)) ≡ b || list_any test (keys_of xs)
   is_some_head true x xs more = refl
   is_some_head false x xs more = more
 

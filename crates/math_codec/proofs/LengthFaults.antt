@@ -5,7 +5,7 @@ use Rattle.std.proofs.lemmas.Bool.{le-ltb, ne_eqb, ltb-false}
 use Rattle.std.proofs.lemmas.List.Elements.{All-cons, All-tail}
 use Rattle.math_codec.specs.Faults.{Fault, EndOfBuffer, InvalidVarint, ◌>>=◌}
 use Rattle.math_codec.specs.Lengths.{rest_at, length_at}
-use Rattle.math_codec.proofs.Steps.{chosen, bind_err}
+use Rattle.math_codec.proofs.ScanParts.{chosen, bind_err}
 
 -- bit 7 is set on each
 abbrev pub IsMarked : List ℕ → Type 0

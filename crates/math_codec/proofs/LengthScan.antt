@@ -8,7 +8,7 @@ use Rattle.math_codec.specs.declared.codec.error.Error.{Error}
 use Rattle.math_codec.specs.Faults.{InvalidVarint, Agrees, ◌>>=◌}
 use Rattle.math_codec.specs.Lengths.{length_spelling, rest_at, length_at, SpellsFrom, SpellsLength}
 use Rattle.math_codec.specs.LengthLaws.{length_again, one_read}
-use Rattle.math_codec.proofs.Steps.{bind_ok, chosen}
+use Rattle.math_codec.proofs.ScanParts.{bind_ok, chosen}
 use Rattle.math_codec.proofs.Spellings.{spells_before, only_spelling, length_below}
 
 -- each is below 256
@@ -33,7 +33,8 @@ pub record BeginsWith (place n : ℕ) (bytes rest : List ℕ) : Type 0 where
   pub parts : bytes ≡ spelling ++ rest
 
 -- a byte with bit 7, before a spelling of the rest
-joined : (place byte n high : ℕ) (bytes after rest : List ℕ) → place < 4 → 128 ≤ byte → byte < 256 → byte - 128 + 128 * high ≡ n → after ≡ rest → BeginsWith (place + 1) high bytes after → BeginsWith place n (byte ∷ bytes) rest
+joined : (place byte n high : ℕ) (bytes after rest : List ℕ) → place < 4 → 128 ≤ byte → byte < 256 → byte - 128 + 128 * high ≡ n
+    → after ≡ rest → BeginsWith (place + 1) high bytes after → BeginsWith place n (byte ∷ bytes) rest
 joined place byte n high bytes after rest lt marked fits e same h =
     let quotient : high ≡ n / 128 = omega arith in
     let others : SpellsFrom (place + 1) (n / 128) h.spelling = subst (λ (k : ℕ). SpellsFrom (place + 1) k h.spelling) quotient h.spells in

@@ -5,7 +5,7 @@ pub mod ItemScan
 pub mod FirstItem
 pub mod ExactScan
 pub mod GroupsWritten
-pub mod Steps
+pub mod ScanParts
 pub mod LengthFaults
 pub mod FirstPairs
 pub mod MapParts
@@ -15,3 +15,4 @@ pub mod ValuePlaces
 pub mod DistinctValues
 pub mod SeenSoFar
 pub mod SearchedValues
+pub mod MapRefusals

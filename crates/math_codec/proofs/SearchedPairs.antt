@@ -63,7 +63,8 @@ module _ {K X : Type 0} {cmp : K → K → Ordering} (o : IsTotalOrder cmp) wher
       let less : cmp (get_or (keys_of es) i d.0) (get_or (keys_of es) (i + 1) d.0) ≡ Less = Less-from_sorted cmp (keys_of es) i (i + 1) d.0 rise (omega arith) (omega arith) in
       let x = get_or es i d in
       let y = get_or es (i + 1) d in
-      let at : cmp x.0 y.0 ≡ Less = ap (λ k. cmp k y.0) (sym (get_or-map_default (λ (p : K × X). p.0) es i d)) ∙ ap (cmp (get_or (keys_of es) i d.0)) (sym (get_or-map_default (λ (p : K × X). p.0) es (i + 1) d)) ∙ less in
+      let at : cmp x.0 y.0 ≡ Less = ap (λ k. cmp k y.0) (sym (get_or-map_default (λ (p : K × X). p.0) es i d))
+      ∙ ap (cmp (get_or (keys_of es) i d.0)) (sym (get_or-map_default (λ (p : K × X). p.0) es (i + 1) d)) ∙ less in
       ap is_lt (o.antisymm y.0 x.0 ∙ ap ordering_reverse at)
 
 module _ {K X Y : Type 0} {cmp : K → K → Ordering} (o : IsTotalOrder cmp) (k : K) (seen : K × X → Y) (ord : Y → Ordering) (es : List (K × X)) (rise : KeysRise cmp es)
@@ -81,15 +82,18 @@ module _ {K X Y : Type 0} {cmp : K → K → Ordering} (o : IsTotalOrder cmp) (k
   answers_rise long i j d le below =
       with_element es i (omega arith) (λ e at_e. with_element es j (omega arith) (λ f at_f.
       let up = searchable_from_sorted o (λ (p : K × X). p.0) es k (sorted_by_key o es rise) i j e le (omega arith) in
-      let left : ordering_index (ord (get_or (map seen es) i d)) ≡ ordering_index (cmp (get_or es i e).0 k) = ap ordering_index (order_at i d e at_e) ∙ ap (λ (p : K × X). ordering_index (cmp p.0 k)) (sym (get_or_from_slice_get es i e e at_e)) in
-      let right : ordering_index (ord (get_or (map seen es) j d)) ≡ ordering_index (cmp (get_or es j e).0 k) = ap ordering_index (order_at j d f at_f) ∙ ap (λ (p : K × X). ordering_index (cmp p.0 k)) (sym (get_or_from_slice_get es j f e at_f)) in
+      let left : ordering_index (ord (get_or (map seen es) i d)) ≡ ordering_index (cmp (get_or es i e).0 k)
+      = ap ordering_index (order_at i d e at_e) ∙ ap (λ (p : K × X). ordering_index (cmp p.0 k)) (sym (get_or_from_slice_get es i e e at_e)) in
+      let right : ordering_index (ord (get_or (map seen es) j d)) ≡ ordering_index (cmp (get_or es j e).0 k)
+      = ap ordering_index (order_at j d f at_f) ∙ ap (λ (p : K × X). ordering_index (cmp p.0 k)) (sym (get_or_from_slice_get es j f e at_f)) in
       omega arith))
 
   turned : (a b : Ordering) (e : K × X) → cmp e.0 k ≡ a → ordering_reverse a ≡ b → cmp k e.0 ≡ b
   turned a b e h r = o.antisymm k e.0 ∙ ap ordering_reverse h ∙ r
 
   -- where the search stops at no pair, no key is equal to k
-  pub search_missed : (i : ℕ) → length (map seen es) ≡ length es → (IsNonDecreasingBy (λ y. ordering_index (ord y)) (map seen es) → IsPartitionPoint (λ y. ord y ≡ Less) (λ y. ord y ≡ Greater) (map seen es) i) → first_pair cmp k es ≡ None
+  pub search_missed : (i : ℕ) → length (map seen es) ≡ length es
+      → (IsNonDecreasingBy (λ y. ordering_index (ord y)) (map seen es) → IsPartitionPoint (λ y. ord y ≡ Less) (λ y. ord y ≡ Greater) (map seen es) i) → first_pair cmp k es ≡ None
   search_missed i long parted =
       let parts = parted (answers_rise long) in
       let none : lookup (λ y. is_eq (cmp k y)) es ≡ None = lookup_at_gap o k es i rise
@@ -111,4 +115,5 @@ module _ {K X : Type 0} {cmp : K → K → Ordering} (o : IsTotalOrder cmp) (k :
   pub value_missed : (IsNonDecreasingBy (λ y. ordering_index (cmp y k)) keys → IsPartitionPoint (λ y. cmp y k ≡ Less) (λ y. cmp y k ≡ Greater) keys i) → value_at cmp k es ≡ None
   value_missed parted =
       lookup-from_entry (λ y. is_eq (cmp k y)) es
-      ∙ ap (option_map (λ p. p.1)) (search_missed o k (λ (p : K × X). p.0) (λ y. cmp y k) es rise (λ j p at. refl) i (length-keys_of es) (subst (λ l. IsNonDecreasingBy (λ y. ordering_index (cmp y k)) l → IsPartitionPoint (λ y. cmp y k ≡ Less) (λ y. cmp y k ≡ Greater) l i) are parted))
+      ∙ ap (option_map (λ p. p.1)) (search_missed o k (λ (p : K × X). p.0) (λ y. cmp y k) es rise (λ j p at. refl) i
+      (length-keys_of es) (subst (λ l. IsNonDecreasingBy (λ y. ordering_index (cmp y k)) l → IsPartitionPoint (λ y. cmp y k ≡ Less) (λ y. cmp y k ≡ Greater) l i) are parted))

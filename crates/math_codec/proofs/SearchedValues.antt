@@ -24,15 +24,19 @@ module _ {I V : Type 0} {cmp : V → V → Ordering} (o : IsTotalOrder cmp) (v :
   pub key_found : i < length by_value → HoldsAt (λ p. compared_at cmp (values_of m) v p ≡ Equal) by_value i → (p : ℕ) → p ≡ get_or by_value i p → slice_get (keys_of m) p ≡ key_with cmp v m
   key_found below stops p at =
       let long : length by_value ≡ length is.0 = ap length is.1 ∙ length-values_of is.0 in
-      let e = search_found o v (λ (x : V × ℕ). x.1) (compared_at cmp (values_of m) v) is.0 is.2.0 compares i (omega arith) (subst (λ l. HoldsAt (λ p. compared_at cmp (values_of m) v p ≡ Equal) l i) is.1 stops) in
+      let e = search_found o v (λ (x : V × ℕ). x.1) (compared_at cmp (values_of m) v) is.0 is.2.0 compares i (omega arith)
+      (subst (λ l. HoldsAt (λ p. compared_at cmp (values_of m) v p ≡ Equal) l i) is.1 stops) in
       let r : Found cmp v 0 m (key_with cmp v m) e.0 = place_found cmp v 0 m e.0 (sym (is.2.1 v) ∙ e.2) in
-      let held : p ≡ e.0.1 = at ∙ ap (λ l. get_or l i p) is.1 ∙ get_or_from_slice_get (values_of is.0) i e.0.1 p (slice_get-map (λ (x : V × ℕ). x.1) is.0 i ∙ ap (option_map (λ (x : V × ℕ). x.1)) e.1) in
+      let held : p ≡ e.0.1 = at ∙ ap (λ l. get_or l i p) is.1
+      ∙ get_or_from_slice_get (values_of is.0) i e.0.1 p (slice_get-map (λ (x : V × ℕ). x.1) is.0 i ∙ ap (option_map (λ (x : V × ℕ). x.1)) e.1) in
       let place : p ≡ r.at = (let far : e.0.1 ≡ 0 + r.at = r.place in omega arith) in
       ap (slice_get (keys_of m)) place ∙ r.first
 
-  pub key_missed : (IsNonDecreasingBy (λ p. ordering_index (compared_at cmp (values_of m) v p)) by_value → IsPartitionPoint (λ p. compared_at cmp (values_of m) v p ≡ Less) (λ p. compared_at cmp (values_of m) v p ≡ Greater) by_value i) → key_with cmp v m ≡ None
+  pub key_missed : (IsNonDecreasingBy (λ p. ordering_index (compared_at cmp (values_of m) v p)) by_value
+      → IsPartitionPoint (λ p. compared_at cmp (values_of m) v p ≡ Less) (λ p. compared_at cmp (values_of m) v p ≡ Greater) by_value i) → key_with cmp v m ≡ None
   key_missed parted =
       place_missed cmp v 0 m
       (sym (is.2.1 v)
       ∙ search_missed o v (λ (x : V × ℕ). x.1) (compared_at cmp (values_of m) v) is.0 is.2.0 compares i (length-values_of is.0)
-      (subst (λ l. IsNonDecreasingBy (λ p. ordering_index (compared_at cmp (values_of m) v p)) l → IsPartitionPoint (λ p. compared_at cmp (values_of m) v p ≡ Less) (λ p. compared_at cmp (values_of m) v p ≡ Greater) l i) is.1 parted))
+      (subst (λ l. IsNonDecreasingBy (λ p. ordering_index (compared_at cmp (values_of m) v p)) l
+      → IsPartitionPoint (λ p. compared_at cmp (values_of m) v p ≡ Less) (λ p. compared_at cmp (values_of m) v p ≡ Greater) l i) is.1 parted))

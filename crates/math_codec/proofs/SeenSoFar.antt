@@ -23,9 +23,11 @@ module _ {K : Type 0} {cmp : K → K → Ordering} (o : IsTotalOrder cmp) where
       either false b c = refl
 
   -- whether q is among what was seen and one more
-  pub seen_more : (xs ys : List K) (q k : K) (before after : Bool) → ys ≡ xs ++ k ∷ [] → before ≡ list_any (λ x. is_eq (cmp q x)) xs → after ≡ cond (is_eq (cmp k q)) true before → after ≡ list_any (λ x. is_eq (cmp q x)) ys
+  pub seen_more : (xs ys : List K) (q k : K) (before after : Bool) → ys ≡ xs ++ k ∷ [] → before ≡ list_any (λ x. is_eq (cmp q x)) xs
+      → after ≡ cond (is_eq (cmp k q)) true before → after ≡ list_any (λ x. is_eq (cmp q x)) ys
   seen_more xs ys q k before after more was is =
-      is ∙ ap (λ b. cond b true before) ((eq_by_cmp_equiv o).symm k q) ∙ ap (cond (is_eq (cmp q k)) true) was ∙ sym (any_push (λ x. is_eq (cmp q x)) xs k) ∙ ap (list_any (λ x. is_eq (cmp q x))) (sym more)
+      is ∙ ap (λ b. cond b true before) ((eq_by_cmp_equiv o).symm k q) ∙ ap (cond (is_eq (cmp q k)) true) was
+      ∙ sym (any_push (λ x. is_eq (cmp q x)) xs k) ∙ ap (list_any (λ x. is_eq (cmp q x))) (sym more)
 
   pub differ_more : (xs ys : List K) (k : K) → ys ≡ xs ++ k ∷ [] → IsDistinct (eq_by_cmp cmp) xs → list_any (λ x. is_eq (cmp k x)) xs ≡ false → IsDistinct (eq_by_cmp cmp) ys
   differ_more xs ys k more differ new = subst (IsDistinct (eq_by_cmp cmp)) (sym more) (IsDistinct-push (eq_by_cmp_equiv o) xs k differ new)

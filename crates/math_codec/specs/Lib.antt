@@ -8,5 +8,6 @@ pub mod LengthLaws
 pub mod Lists
 pub mod ListLaws
 pub mod Theorems
+pub mod Iterables
 pub mod OrderedMaps
 pub mod OrderedFaults

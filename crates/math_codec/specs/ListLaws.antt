@@ -33,7 +33,8 @@ list_again spelling admits scan again range vs rest h =
 
 items_apart : {T : Type 0} (spelling : T → List ℕ) (admits : T → Type 0) (alike : T → T → Type 0)
     → SpellsApart spelling admits alike
-    → (vs ws : List T) (x y : List ℕ) → length vs ≡ length ws → AllByRecursion admits vs → AllByRecursion admits ws → flat_map spelling vs ++ x ≡ flat_map spelling ws ++ y → AllZip alike vs ws × (x ≡ y)
+    → (vs ws : List T) (x y : List ℕ) → length vs ≡ length ws → AllByRecursion admits vs → AllByRecursion admits ws
+    → flat_map spelling vs ++ x ≡ flat_map spelling ws ++ y → AllZip alike vs ws × (x ≡ y)
 items_apart spelling admits alike apart [] [] x y n h k e = (tt, e)
 items_apart spelling admits alike apart [] (w ∷ ws) x y n h k e = absurd (omega (arith, n))
 items_apart spelling admits alike apart (v ∷ vs) [] x y n h k e = absurd (omega (arith, n))
@@ -46,5 +47,6 @@ pub list_apart : {T : Type 0} (spelling : T → List ℕ) (admits : T → Type 0
     → SpellsApart spelling admits alike
     → (range : LengthRange) → SpellsApart (list_spelling spelling) (AdmitsList range admits) (AllZip alike)
 list_apart spelling admits alike apart range vs ws x y h k e =
-    let a = lengths_apart (length vs) (length ws) (flat_map spelling vs ++ x) (flat_map spelling ws ++ y) h.fits k.fits (sym (append_assoc (length_spelling (length vs)) (flat_map spelling vs) x) ∙ e ∙ append_assoc (length_spelling (length ws)) (flat_map spelling ws) y) in
+    let a = lengths_apart (length vs) (length ws) (flat_map spelling vs ++ x) (flat_map spelling ws ++ y) h.fits k.fits
+    (sym (append_assoc (length_spelling (length vs)) (flat_map spelling vs) x) ∙ e ∙ append_assoc (length_spelling (length ws)) (flat_map spelling ws) y) in
     items_apart spelling admits alike apart vs ws x y a.0 h.each k.each a.1

@@ -18,7 +18,8 @@ OnlyLengthsAreSpelled = (n : ℕ) (bytes : List ℕ) → SpellsLength n bytes �
 
 -- a length is read exactly where a spelling of it stands in front of the rest
 abbrev pub LengthIsReadWhereSpelled : Type 0
-LengthIsReadWhereSpelled = (n : ℕ) (bytes rest : List ℕ) → All (λ byte. byte < 256) bytes → (length_at bytes ≡ Ok (n, rest)) ↔ ((spelling : List ℕ) × SpellsLength n spelling × (bytes ≡ spelling ++ rest))
+LengthIsReadWhereSpelled = (n : ℕ) (bytes rest : List ℕ) → All (λ byte. byte < 256) bytes
+    → (length_at bytes ≡ Ok (n, rest)) ↔ ((spelling : List ℕ) × SpellsLength n spelling × (bytes ≡ spelling ++ rest))
 
 -- a read of a length meets the end exactly where fewer than five bytes remain, each with bit 7 set
 abbrev pub LengthEndsWhereMarked : Type 0

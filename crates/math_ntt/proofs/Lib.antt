@@ -8,4 +8,5 @@ pub mod BitmapPoints
 pub mod PaddedPolynomials
 pub mod FirstRows
 pub mod WrittenCells
+pub mod MatrixPlaces
 pub mod ComparedTruths

@@ -28,5 +28,6 @@ module _ {A : Type 0} {same : A → A → Type 0} {zero_of : A} {sum : A → A �
       let points : drop j row ≡ factor ∷ drop (j + 1) row = rw (← f) at (drop_more row j factor l) in
       let below : j < m.rows = omega arith in
       let column = column_of zero_of m k in
-      let scalars : drop j column ≡ get_or (row_of m j) k zero_of ∷ drop (j + 1) column = rw (column-at zero_of m k j zero_of below) at (drop_more column j zero_of (rw (length-column zero_of m k) below)) in
+      let scalars : drop j column ≡ get_or (row_of m j) k zero_of ∷ drop (j + 1) column
+      = rw (column-at zero_of m k j zero_of below) at (drop_more column j zero_of (rw (length-column zero_of m k) below)) in
       weighted_sum-step E G left _ points scalars (E.reflexive factor) (E.reflexive _) h w

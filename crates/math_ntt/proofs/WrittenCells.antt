@@ -16,5 +16,14 @@ cells-between n from cells items e within =
     let before : length (take from cells) ≡ from = length-take-le from cells (omega (arith, within)) in
     let put = take from cells ++ (items ++ drop (length items) (drop from cells)) in
     let whole : length put ≡ length cells =
-    omega (arith, length-append (take from cells) (items ++ drop (length items) (drop from cells)), length-append items (drop (length items) (drop from cells)), before, ap length rest, length-drop (from + length items) cells, within) in
+    omega (
+      arith,
+      length-append (take from cells) (items ++ drop (length items) (drop from cells)),
+      length-append items
+          (drop (length items) (drop from cells)),
+      before,
+      ap length rest,
+      length-drop (from + length items) cells,
+      within,
+    ) in
     take-written n cells put e whole ∙ ap (λ xs. take from cells ++ (items ++ xs)) rest

@@ -6,3 +6,4 @@ pub mod MatrixEncodingLaws
 pub mod Bitmaps
 pub mod PolynomialRows
 pub mod Evaluations
+pub mod MatrixPlaces

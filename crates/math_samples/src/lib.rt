@@ -3,6 +3,7 @@
 #![tactic(auto)]
 
 pub mod boxed;
+pub mod laws;
 pub mod quotients;
 #[cfg(test)]
 mod tests;

@@ -42,7 +42,8 @@ impl<'a, R: Ring> Powers<'a, R> {
 impl<'a, R: Ring> Iterator for Powers<'a, R> {
     type Item = Mem<R>;
 
-    ghost next_gives = { λ s r t. GivesPower R.same R.product s.base.now s.next_power r t.next_power × (t.base.now ≡ s.base.now) };
+    ghost next_gives = { λ s r t. GivesPower R.same R.product s.base.now s.next_power r t.next_power
+        × (t.base.now ≡ s.base.now) };
 
     fn next(&mut self) -> Option<Mem<R>> {
         let power = self.next_power.take()?;

@@ -24,8 +24,8 @@ use std::alloc::Global;
 use std::fmt;
 use std::ops::{Add, AddAssign, Mul, MulAssign, Neg, Sub, SubAssign};
 
-/// P.
-const MODULUS: u64 = 0xffff_ffff_0000_0001;
+/// P, the modulus of the Goldilocks field: 2^64 - 2^32 + 1.
+pub const MODULUS: u64 = 0xffff_ffff_0000_0001;
 
 /// An element of the Goldilocks field: a number from 0 to P - 1.
 #[derive(Clone, Copy, PartialEq, Eq)]
@@ -462,7 +462,8 @@ impl Random for F {
     /// The source stands after the words that were looked at.
     fn random<G: Rng + CryptoRng>(_alloc: Global, rng: &mut G) -> Result<F, RandomError>
         ensures sampled { IfOk result (λ a. sample_of (G.stream rng.old) ≡ (Some a, G.stream rng.new)) }
-        ensures refused { IfErr result (λ error. (error ≡ TooManyWords) × (sample_of (G.stream rng.old) ≡ (None, G.stream rng.new))) }
+        ensures refused { IfErr result (λ error.
+            (error ≡ TooManyWords) × (sample_of (G.stream rng.old) ≡ (None, G.stream rng.new))) }
     {
         for _looked_at in 0..64u32 {
             let word = rng.next_u64();

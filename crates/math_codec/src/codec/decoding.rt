@@ -31,7 +31,8 @@ pub fn decode<T: Read + Drop>(alloc: Global, bytes: &[u8], cfg: &T::Cfg) -> Resu
     ensures taken { IfOk result (λ v. T.admits cfg.now v × (bytes.now ≡ T.spelling v)) }
 
     // Where the bytes are the spelling of a value, it is read, unless memory runs out.
-    ensures again { (v : T) → T.admits cfg.now v → bytes.now ≡ T.spelling v → MatchResult result (λ w. T.alike w v) IsMemory }
+    ensures again { (v : T) → T.admits cfg.now v → bytes.now ≡ T.spelling v
+        → MatchResult result (λ w. T.alike w v) IsMemory }
 
     // Which fault it is.
     ensures memory { OnMemory result (T.grows cfg.now bytes.now) }

@@ -76,7 +76,7 @@ fn split_length(bytes: &[u8]) -> Result<(u32, &[u8]), Error>
 ///
 /// It refuses at the first byte that is wrong, and then `input` stays where it was: `EndOfBuffer`
 /// where none remains, `InvalidVarint` where the fifth is above 15 or one after the first is zero.
-/// It takes no memory, and never answers `Memory`.
+/// It never answers `Memory`.
 pub fn read_len(_alloc: Global, input: &mut &[u8]) -> Result<u32, Error>
     ensures taken { IfOk result (λ n. input.old.now ≡ length_spelling n ++ input.new.now) }
     ensures stays { OnErr result (input.new ≡ input.old) }

@@ -1,6 +1,6 @@
 //! Lists: a length, and then the items.
 
-ghost use Rattle.std.specs.Prelude.{◌≡◌, ◌<◌, ◌^◌, ◌++◌, length, take, true, IfOk, OnOk, OnErr};
+ghost use Rattle.std.specs.Prelude.{◌≡◌, ◌<◌, ◌≤◌, ◌+◌, ◌*◌, ◌^◌, ◌++◌, ◌∷◌, [], ℕ, List, length, take, true, IfOk, OnOk, OnErr, vec_capacity};
 ghost use Rattle.std.specs.List.{flat_map, All, AllByRecursion, AllZip};
 ghost use Rattle.math_codec.specs.Faults.{Agrees, Reads, OnMemory};
 ghost use Rattle.math_codec.specs.Lengths.{length_in_front};
@@ -16,25 +16,47 @@ use super::read::{Encoding, Read};
 use super::write::{EncodeSize, Write, roll_back};
 use std::alloc::Global;
 
-/// Reads `count` items, one after the other, and gives them with what follows.
+/// Puts an item at the end. Where no room is left, it makes room for as many further items as there are, and for
+/// four at least.
+fn push_item<T: Drop>(items: &mut Vec<T>, item: T) -> Mem<()>
+    requires { vec_capacity items.old ≤ 2 * length items.old.items + 4 }
+    ensures ok { OnOk result (items.new.items ≡ items.old.items ++ item ∷ []) }
+    ensures err { OnErr result (items.new.items ≡ items.old.items) }
+    ensures room { vec_capacity items.new ≤ 2 * length items.new.items + 4 }
+{
+    if items.len() == items.capacity() {
+        items.reserve_exact(items.len().max(4))?;
+    }
+    items.push_reserved(item);
+    Ok(())
+}
+
+/// Reads `count` items, one after the other, and gives what follows them. `items`, which is empty, then holds
+/// them; where it is refused, those that were read.
 fn read_items<'a, T: Read + Drop>(
     alloc: Global,
     count: u32,
     bytes: &'a [u8],
     cfg: &T::Cfg,
-) -> Result<(Vec<T>, &'a [u8]), Error>
-    ensures number { IfOk result (λ x. length x.0.items ≡ count) }
-    ensures admitted { IfOk result (λ x. AllByRecursion (T.admits cfg.now) x.0.items) }
-    ensures taken { IfOk result (λ x. bytes.now ≡ flat_map T.spelling x.0.items ++ x.1.now) }
+    items: &mut Vec<T>,
+) -> Result<&'a [u8], Error>
+    requires { (items.old.items ≡ []) × (vec_capacity items.old ≡ 0) }
+    ensures number { OnOk result (length items.new.items ≡ count) }
+    ensures admitted { AllByRecursion (T.admits cfg.now) items.new.items }
+    ensures taken { IfOk result (λ rest. bytes.now ≡ flat_map T.spelling items.new.items ++ rest.now) }
     ensures memory { OnMemory result (ItemsGrow (T.scan cfg.now) (T.grows cfg.now) count bytes.now) }
-    ensures exact { Agrees (λ x. x.1.now) result (scan_items (T.scan cfg.now) count bytes.now) }
+    ensures exact { Agrees (λ rest. rest.now) result (scan_items (T.scan cfg.now) count bytes.now) }
+
+    // Refused or not, room is made for at most four and twice as many items as stand in front of the bytes.
+    ensures read { (rest : List ℕ) × (bytes.now ≡ flat_map T.spelling items.new.items ++ rest) }
+    ensures room { vec_capacity items.new ≤ 2 * length items.new.items + 4 }
 {
-    let mut items = Vec::new(alloc);
     let mut rest = bytes;
     for _ in 0..count {
-        items.push(T::read_cfg(alloc, &mut rest, cfg)?)?;
+        let item = T::read_cfg(alloc, &mut rest, cfg)?;
+        push_item(items, item)?;
     }
-    Ok((items, rest))
+    Ok(rest)
 }
 
 /// Reads a list whose length is in `range` from the front of `input`, each item under `cfg`, and
@@ -62,7 +84,8 @@ pub fn read_list<T: Read + Drop>(
     if !range.contains(count) {
         return Err(Error::InvalidLength(count));
     }
-    let (items, rest) = read_items::<T>(alloc, count, rest, cfg)?;
+    let mut items = Vec::new(alloc);
+    let rest = read_items::<T>(alloc, count, rest, cfg, &mut items)?;
     *input = rest;
     Ok(items)
 }
@@ -92,9 +115,11 @@ impl<T: Read + Drop> Read for Vec<T> {
         read_list(alloc, input, cfg.0, &cfg.1)
     }
 
-    ghost again = { λ cfg v rest h. list_again T.spelling (T.admits cfg.1) (T.scan cfg.1) (T.again cfg.1) cfg.0 v.items rest h };
+    ghost again = { λ cfg v rest h.
+        list_again T.spelling (T.admits cfg.1) (T.scan cfg.1) (T.again cfg.1) cfg.0 v.items rest h };
 
-    ghost apart = { λ cfg v w x y h k e. list_apart T.spelling (T.admits cfg.1) T.alike (T.apart cfg.1) cfg.0 v.items w.items x y h k e };
+    ghost apart = { λ cfg v w x y h k e.
+        list_apart T.spelling (T.admits cfg.1) T.alike (T.apart cfg.1) cfg.0 v.items w.items x y h k e };
 }
 
 /// Writes a list. What is written stays where memory runs out.

@@ -4,7 +4,7 @@ ghost use Rattle.std.specs.Prelude.{◌≡◌};
 ghost use Rattle.math_codec.specs.Ranges.{in_range, nonzero};
 
 /// The lengths from `low` to `high`, both among them; none where `low` is above `high`.
-#[derive(Clone, Copy, Debug, PartialEq, Eq)]
+#[derive(Clone, Copy, Debug)]
 pub struct LengthRange {
     /// The least length.
     pub low: u32,

@@ -6,6 +6,7 @@ ghost use Rattle.std.specs.List.{zip};
 ghost use Rattle.std.specs.List.Sorted.{IsStrictlySortedBy};
 ghost use Rattle.std.specs.Map.{keys_of, values_of};
 ghost use Rattle.std.specs.Option.{option_copied};
+ghost use Rattle.math_codec.specs.Iterables.{ItemsMeet};
 ghost use Rattle.math_codec.specs.OrderedMaps.{KeysRise, KeysDiffer, HasFirstOfEachKey, EndsAtRepeatedKey, add_pair, has_key, value_at};
 ghost use Rattle.math_codec.specs.OrderedFaults.{OnDuplicateKey, OnDuplicateValue};
 
@@ -69,7 +70,8 @@ impl<I: Ord + Drop, V: Drop> Map<I, V> {
     where
         P::IntoIter: Drop,
         requires { IsFiniteIterable P.into_iter_gives P.IntoIter.can_next P.IntoIter.remaining pairs }
-        ensures { IfOk result (λ m. (it : P.IntoIter) × (xs : List (I × V)) × P.into_iter_gives pairs it × Drains P.IntoIter.next_gives it xs × HasFirstOfEachKey I.cmp xs m) }
+        ensures { IfOk result (λ m. ItemsMeet P.into_iter_gives (Drains P.IntoIter.next_gives) pairs
+            (λ xs. HasFirstOfEachKey I.cmp xs m)) }
     {
         let mut entries = BTreeMap::new(alloc);
         for (key, value) in pairs {
@@ -89,8 +91,10 @@ impl<I: Ord + Drop, V: Drop> Map<I, V> {
     where
         P::IntoIter: Drop,
         requires { IsFiniteIterable P.into_iter_gives P.IntoIter.can_next P.IntoIter.remaining pairs }
-        ensures ok { IfOk result (λ m. (it : P.IntoIter) × (xs : List (I × V)) × P.into_iter_gives pairs it × Drains P.IntoIter.next_gives it xs × KeysDiffer I.cmp xs × HasFirstOfEachKey I.cmp xs m) }
-        ensures repeated { OnDuplicateKey result ((it : P.IntoIter) × (xs : List (I × V)) × (rest : P.IntoIter) × P.into_iter_gives pairs it × Yields P.IntoIter.next_gives it xs rest × EndsAtRepeatedKey I.cmp xs) }
+        ensures ok { IfOk result (λ m. ItemsMeet P.into_iter_gives (Drains P.IntoIter.next_gives) pairs
+            (λ xs. KeysDiffer I.cmp xs × HasFirstOfEachKey I.cmp xs m)) }
+        ensures repeated { OnDuplicateKey result (ItemsMeet P.into_iter_gives
+            (λ it xs. (rest : P.IntoIter) × Yields P.IntoIter.next_gives it xs rest) pairs (EndsAtRepeatedKey I.cmp)) }
         ensures any_value { OnDuplicateValue result ⊥ }
     {
         let mut entries = BTreeMap::new(alloc);
@@ -99,11 +103,10 @@ impl<I: Ord + Drop, V: Drop> Map<I, V> {
                 return Err(Error::DuplicateKey);
             }
         }
-        let map = Self::from_entries(alloc, entries)?;
-        Ok(map)
+        Ok(Self::from_entries(alloc, entries)?)
     }
 
-    /// The map with the same keys, and in the order of the keys these values.
+    /// The map with the same keys, and in the order of the keys these values, of which there are as many as keys.
     pub fn with_values<W: Drop>(self, values: Vec<W>) -> Map<I, W>
         requires { length values.items ≡ length self }
         ensures { result ≡ zip (keys_of self) values.items }

@@ -4,6 +4,7 @@ ghost use Rattle.std.specs.Prelude.{◌≡◌, ◌++◌, ◌∷◌, [], List, �
 ghost use Rattle.std.specs.Iterator.{IsFiniteIterable, Drains};
 ghost use Rattle.std.specs.Map.{keys_of, values_of};
 ghost use Rattle.std.specs.Option.{option_copied};
+ghost use Rattle.math_codec.specs.Iterables.{ItemsMeet};
 ghost use Rattle.math_codec.specs.OrderedMaps.{KeysRise, KeysDiffer, ValuesDiffer, HasFirstOfEachKey, RepeatsKeyFirst, RepeatsValueFirst, value_at, compared_at, key_with, IsOrderByValue};
 ghost use Rattle.math_codec.specs.OrderedFaults.{OnDuplicateKey, OnDuplicateValue};
 
@@ -81,9 +82,12 @@ impl<I: Ord + Drop, V: Ord + Drop> BiMap<I, V> {
     where
         P::IntoIter: Drop,
         requires { IsFiniteIterable P.into_iter_gives P.IntoIter.can_next P.IntoIter.remaining pairs }
-        ensures ok { IfOk result (λ m. (it : P.IntoIter) × (xs : List (I × V)) × P.into_iter_gives pairs it × Drains P.IntoIter.next_gives it xs × KeysDiffer I.cmp xs × ValuesDiffer V.cmp xs × HasFirstOfEachKey I.cmp xs m) }
-        ensures repeated_key { OnDuplicateKey result ((it : P.IntoIter) × (xs : List (I × V)) × P.into_iter_gives pairs it × Drains P.IntoIter.next_gives it xs × RepeatsKeyFirst I.cmp V.cmp xs) }
-        ensures repeated_value { OnDuplicateValue result ((it : P.IntoIter) × (xs : List (I × V)) × P.into_iter_gives pairs it × Drains P.IntoIter.next_gives it xs × RepeatsValueFirst I.cmp V.cmp xs) }
+        ensures ok { IfOk result (λ m. ItemsMeet P.into_iter_gives (Drains P.IntoIter.next_gives) pairs
+            (λ xs. KeysDiffer I.cmp xs × ValuesDiffer V.cmp xs × HasFirstOfEachKey I.cmp xs m)) }
+        ensures repeated_key { OnDuplicateKey result
+            (ItemsMeet P.into_iter_gives (Drains P.IntoIter.next_gives) pairs (RepeatsKeyFirst I.cmp V.cmp)) }
+        ensures repeated_value { OnDuplicateValue result
+            (ItemsMeet P.into_iter_gives (Drains P.IntoIter.next_gives) pairs (RepeatsValueFirst I.cmp V.cmp)) }
     {
         let mut taken = Vec::new(alloc);
         for pair in pairs {

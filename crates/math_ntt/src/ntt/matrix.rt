@@ -3,6 +3,7 @@
 ghost use Rattle.std.specs.Prelude.{◌≡◌, ◌↔◌, ◌+◌, ◌*◌, ◌<◌, ◌≤◌, ◌^◌, List, Some, IsTrue, IsOk, IfOk, length, slice_get};
 ghost use Rattle.std.specs.List.{AllZip};
 ghost use Rattle.std.specs.Iterator.{YieldsFirstRef, item_count};
+ghost use Rattle.math_codec.specs.Iterables.{ItemsMeet};
 ghost use Rattle.math_ntt.specs.Matrices.{rows_of, row_of, IsOfSize, AreSame, IsIterable, GivesAtMost, AreFilledUp, IsProductOf};
 
 mod encoding;
@@ -26,6 +27,7 @@ pub struct Matrix<F: Drop> {
 /// A matrix is its numbers of rows and of columns and the list of its cells, row by row.
 impl<F: Drop> Model for Matrix<F> {
     ghost use Rattle.std.specs.Prelude.{◌≡◌, ◌*◌, length};
+    ghost use Rattle.math_codec.specs.Iterables.{ItemsMeet};
     ghost use Rattle.math_ntt.specs.Matrices.{MatrixOf};
 
     ghost Value = { MatrixOf F };
@@ -38,7 +40,7 @@ impl<F: Drop> Model for Matrix<F> {
 impl<F: Additive> Matrix<F> {
     /// The matrix whose cells are the items of `data`, row by row. Where there are fewer items than
     /// cells, the further cells are zero. No more items than cells are asked for, so `data` need not
-    /// end.
+    /// end. The number of cells is below 2^64.
     pub fn init<P: IntoIterator<Item = F>>(
         alloc: Global,
         rows: usize,
@@ -50,8 +52,8 @@ impl<F: Additive> Matrix<F> {
         requires fits { rows * cols < 2 ^ 64 }
         requires iterable { IsIterable P.into_iter_gives P.IntoIter.can_next «data» }
         ensures size { IfOk result (λ m. IsOfSize m rows cols) }
-        ensures cells { IfOk result (λ m. (it : P.IntoIter) × (items : List F) × P.into_iter_gives «data» it
-            × GivesAtMost P.IntoIter.next_gives (rows * cols) it items × AreFilledUp F.same F.zero items m.cells) }
+        ensures cells { IfOk result (λ m. ItemsMeet P.into_iter_gives
+            (GivesAtMost P.IntoIter.next_gives (rows * cols)) «data» (λ items. AreFilledUp F.same F.zero items m.cells)) }
     {
         let count = rows * cols;
         let mut cells = Vec::new(alloc);
@@ -66,7 +68,8 @@ impl<F: Additive> Matrix<F> {
     /// of this matrix times the cell in row j and column k of `other`.
     ///
     /// Row i of the product is the sum of the rows of `other`, row j scaled by cell j of row i here. So
-    /// both matrices are read along their rows.
+    /// both matrices are read along their rows. This matrix has as many columns as `other` has rows, and the
+    /// number of cells of the product is below 2^64.
     pub fn mul(&self, alloc: Global, other: &Self) -> Mem<Self>
     where
         F: Ring,
@@ -116,7 +119,7 @@ impl<F: Drop> Matrix<F> {
         self.cols
     }
 
-    /// Row i, which has as many cells as there are columns.
+    /// Row i, which has as many cells as there are columns; i is below the number of rows.
     pub fn row(&self, i: usize) -> &[F]
         requires { i < self.now.rows }
         ensures row { result.now ≡ row_of self.now i }
@@ -144,7 +147,7 @@ impl<F: Drop> Matrix<F> {
     ghost use Rattle.std.specs.Borrow.{sem};
     ghost use Rattle.math_ntt.specs.MatrixLends.{lends_row};
 
-    /// Row i, to be written.
+    /// Row i, to be written; i is below the number of rows.
     pub fn row_mut(&mut self, i: usize) -> &mut [F]
         requires { i < self.old.rows }
         ensures* writes_back { sem 𝓛 (lends_row F.row self.entry i result) }
@@ -207,8 +210,7 @@ impl<F: Object> Matrix<F> {
         if self.rows != other.rows || self.cols != other.cols {
             return Ok(false);
         }
-        let out = all_same(alloc, &self.cells, &other.cells)?;
-        Ok(out)
+        all_same(alloc, &self.cells, &other.cells)
     }
 }
 
@@ -261,6 +263,7 @@ pub struct Rows<'a, F: Drop> {
 /// The rows that are left.
 impl<'a, F: Drop> Model for Rows<'a, F> {
     ghost use Rattle.std.specs.Prelude.{◌≡◌, ◌*◌, List, length};
+    ghost use Rattle.math_codec.specs.Iterables.{ItemsMeet};
     ghost use Rattle.math_ntt.specs.Matrices.{pieces};
 
     ghost Value = { List (List F) };

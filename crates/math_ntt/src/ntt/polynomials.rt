@@ -45,7 +45,8 @@ impl<F: Additive> Matrix<F> {
         ensures some { IfOk result (λ answer. IsSome answer ↔ AreEnough self.now min_coefficients) }
         ensures rows { IfOk result (λ answer. IfSome answer (λ v. IsNextPowerOfTwo min_coefficients v.rows)) }
         ensures size { IfOk result (λ answer. IfSome answer (λ v. IsOfSize v v.rows self.now.cols)) }
-        ensures polynomials { IfOk result (λ answer. IfSome answer (λ v. HaveSamePolynomials F.same F.zero v self.now)) }
+        ensures polynomials { IfOk result (λ answer.
+            IfSome answer (λ v. HaveSamePolynomials F.same F.zero v self.now)) }
     {
         if min_coefficients == 0 || min_coefficients < self.rows {
             return Ok(None);
@@ -96,8 +97,7 @@ impl<F: Object> PolynomialVector<F> {
         ensures ok { IfOk result (λ answer. IsTrue answer ↔ AreSame F.same self.now other.now) }
         ensures never { IsTrue F.NEVER_REFUSES → IsOk result }
     {
-        let out = self.coefficients.equals(alloc, &other.coefficients)?;
-        Ok(out)
+        self.coefficients.equals(alloc, &other.coefficients)
     }
 }
 

@@ -16,14 +16,16 @@ loop-limb-preserved g c one product M squared multiplied s =
 
 pub loop-i-preserved-in-Continue-branch-2 : goal.loop-i-preserved-in-Continue-branch-2
 loop-i-preserved-in-Continue-branch-2 g c one product M squared multiplied s = record {
-  taken = TakenTo-one g.met.T.Object.equality M _ _ _ c.loop-i-test.true c.loop-i.auto.i c.if-bit.true (c.loop-i.invariant one product M squared multiplied s).taken (squared _ _ _ c.in_ok-square.ensures)
+  taken = TakenTo-one g.met.T.Object.equality M _ _ _ c.loop-i-test.true c.loop-i.auto.i c.if-bit.true
+      (c.loop-i.invariant one product M squared multiplied s).taken (squared _ _ _ c.in_ok-square.ensures)
       (multiplied _ _ _ _ c.in_ok-multiply.ensures);
   before = λ e. absurd (cc (e, c.if-begun.true));
 }
 
 pub loop-i-preserved-else-bit : goal.loop-i-preserved-else-bit
 loop-i-preserved-else-bit g c one product M squared multiplied s = record {
-  taken = TakenTo-zero g.met.T.Object.equality M _ _ _ c.loop-i-test.true c.loop-i.auto.i c.if-bit.false (c.loop-i.invariant one product M squared multiplied s).taken (squared _ _ _ c.in_ok-square.ensures);
+  taken = TakenTo-zero g.met.T.Object.equality M _ _ _ c.loop-i-test.true c.loop-i.auto.i c.if-bit.false
+      (c.loop-i.invariant one product M squared multiplied s).taken (squared _ _ _ c.in_ok-square.ensures);
   before = λ e. absurd (cc (e, c.if-begun.true));
 }
 

@@ -12,7 +12,8 @@ loop-s-init g c scaling respects scales =
 pub loop-s-preserved : goal.loop-s-preserved
 loop-s-preserved g c scaling respects scales =
     let K = g.met.K in
-    weighted_sum-step K.Object.equality K.Additive.group respects _ c.in-Some.ensures.steps.1 c.in-Some.ensures.steps.0 c.in_ok-term.ensures.ok (scales _ _ _ _ c.in_ok-scale.ensures) c.in_ok-add_assign.ensures.ok
+    weighted_sum-step K.Object.equality K.Additive.group respects _ c.in-Some.ensures.steps.1 c.in-Some.ensures.steps.0 c.in_ok-term.ensures.ok
+    (scales _ _ _ _ c.in_ok-scale.ensures) c.in_ok-add_assign.ensures.ok
     (c.loop-s.invariant scaling respects scales)
 
 pub returns-clause-ok : goal.returns-clause-ok

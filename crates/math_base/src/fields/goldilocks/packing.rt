@@ -83,7 +83,8 @@ impl<I: Iterator<Item = u64> + Drop> WordsToElements<I> {
         ensures refills { RefillsWithWords I.next_gives self.old self.new }
         ensures enough { self.new.waiting.count < 63 → running self.new.source ≡ None }
         ensures can { ⟦<Fuse<I> as Iterator>⟧.can_next self.new.source }
-        ensures left { NoMoreThan (words_to_elements_bits ⟦<Fuse<I> as Iterator>⟧.remaining self.new) (words_to_elements_bits ⟦<Fuse<I> as Iterator>⟧.remaining self.old) }
+        ensures left { NoMoreThan (words_to_elements_bits ⟦<Fuse<I> as Iterator>⟧.remaining self.new)
+            (words_to_elements_bits ⟦<Fuse<I> as Iterator>⟧.remaining self.old) }
     {
         if self.waiting.count < 63 {
             if let Some(word) = self.source.next() {
@@ -131,9 +132,11 @@ impl<I: Iterator<Item = F> + Drop> ElementsToWords<I> {
     fn refill(&mut self)
         requires { ⟦<Fuse<I> as Iterator>⟧.can_next self.old.source }
         ensures refills { RefillsWithElements I.next_gives self.old self.new }
-        ensures enough { self.new.waiting.count < 64 → (running self.new.source ≡ None) ⊎ (self.new.waiting.count ≡ self.old.waiting.count + 63) }
+        ensures enough { self.new.waiting.count < 64
+            → (running self.new.source ≡ None) ⊎ (self.new.waiting.count ≡ self.old.waiting.count + 63) }
         ensures can { ⟦<Fuse<I> as Iterator>⟧.can_next self.new.source }
-        ensures left { NoMoreThan (elements_to_words_bits ⟦<Fuse<I> as Iterator>⟧.remaining self.new) (elements_to_words_bits ⟦<Fuse<I> as Iterator>⟧.remaining self.old) }
+        ensures left { NoMoreThan (elements_to_words_bits ⟦<Fuse<I> as Iterator>⟧.remaining self.new)
+            (elements_to_words_bits ⟦<Fuse<I> as Iterator>⟧.remaining self.old) }
     {
         if self.waiting.count < 64 {
             if let Some(element) = self.source.next() {
@@ -195,9 +198,11 @@ impl F {
     pub fn stream_from_u64s<I: Iterator<Item = u64> + Drop>(inner: I) -> WordsToElements<I>
         ensures all { GivesAll (words_to_elements_steps I.next_gives) result I.next_gives inner elements_of }
         ensures front { GivesFront (words_to_elements_steps I.next_gives) result I.next_gives inner elements_of }
-        ensures count { GivesCount (words_to_elements_steps I.next_gives) result I.next_gives inner (λ n. piece_count 63 (64 * n)) }
+        ensures count { GivesCount (words_to_elements_steps I.next_gives) result I.next_gives inner
+            (λ n. piece_count 63 (64 * n)) }
         ensures can { I.can_next inner → ⟦<WordsToElements<I> as Iterator>⟧.can_next result }
-        ensures ends { NoMoreThan (⟦<WordsToElements<I> as Iterator>⟧.remaining result) (count_map (λ n. piece_count 63 (64 * n)) (I.remaining inner)) }
+        ensures ends { NoMoreThan (⟦<WordsToElements<I> as Iterator>⟧.remaining result)
+            (count_map (λ n. piece_count 63 (64 * n)) (I.remaining inner)) }
     {
         WordsToElements {
             waiting: WaitingBits::none(),
@@ -214,9 +219,11 @@ impl F {
     pub fn stream_to_u64s<I: Iterator<Item = F> + Drop>(inner: I) -> ElementsToWords<I>
         ensures all { GivesAll (elements_to_words_steps I.next_gives) result I.next_gives inner words_of }
         ensures front { GivesFront (elements_to_words_steps I.next_gives) result I.next_gives inner words_of }
-        ensures count { GivesCount (elements_to_words_steps I.next_gives) result I.next_gives inner (λ n. piece_count 64 (63 * n)) }
+        ensures count { GivesCount (elements_to_words_steps I.next_gives) result I.next_gives inner
+            (λ n. piece_count 64 (63 * n)) }
         ensures can { I.can_next inner → ⟦<ElementsToWords<I> as Iterator>⟧.can_next result }
-        ensures ends { NoMoreThan (⟦<ElementsToWords<I> as Iterator>⟧.remaining result) (count_map (λ n. piece_count 64 (63 * n)) (I.remaining inner)) }
+        ensures ends { NoMoreThan (⟦<ElementsToWords<I> as Iterator>⟧.remaining result)
+            (count_map (λ n. piece_count 64 (63 * n)) (I.remaining inner)) }
     {
         ElementsToWords {
             waiting: WaitingBits::none(),

@@ -76,9 +76,11 @@ impl<F: Read + Drop> Read for Matrix<F> {
         })
     }
 
-    ghost again = { λ cfg m rest h. matrix_again F.spelling (F.admits cfg.1) (F.scan cfg.1) (F.again cfg.1) cfg.0 m rest h };
+    ghost again = { λ cfg m rest h.
+        matrix_again F.spelling (F.admits cfg.1) (F.scan cfg.1) (F.again cfg.1) cfg.0 m rest h };
 
-    ghost apart = { λ cfg m n x y h k e. matrix_apart F.spelling (F.admits cfg.1) F.alike (F.apart cfg.1) cfg.0 m n x y h k e };
+    ghost apart = { λ cfg m n x y h k e.
+        matrix_apart F.spelling (F.admits cfg.1) F.alike (F.apart cfg.1) cfg.0 m n x y h k e };
 }
 
 /// Writes a matrix. What is written stays where memory runs out.

@@ -11,7 +11,7 @@ use rand_core::{CryptoRng, Rng};
 use std::alloc::Global;
 
 impl<F: Random + Drop> Matrix<F> {
-    /// The matrix whose cells are the next samples of the source, row by row.
+    /// The matrix whose cells are the next samples of the source, row by row. The number of cells is below 2^64.
     ///
     /// It refuses with `TooManyWords` where one of these samples is refused, or with `Memory`.
     pub fn rand<G: Rng + CryptoRng>(
@@ -22,8 +22,10 @@ impl<F: Random + Drop> Matrix<F> {
     ) -> Result<Self, RandomError>
         requires fits { rows * cols < 2 ^ 64 }
         ensures size { IfOk result (λ m. IsOfSize m rows cols) }
-        ensures sampled { IfOk result (λ m. samples F.sample (rows * cols) (G.stream rng.old) ≡ (Some m.cells, G.stream rng.new)) }
-        ensures refused { IfErr result (λ error. error ≡ TooManyWords → samples F.sample (rows * cols) (G.stream rng.old) ≡ (None, G.stream rng.new)) }
+        ensures sampled { IfOk result (λ m.
+            samples F.sample (rows * cols) (G.stream rng.old) ≡ (Some m.cells, G.stream rng.new)) }
+        ensures refused { IfErr result (λ error.
+            error ≡ TooManyWords → samples F.sample (rows * cols) (G.stream rng.old) ≡ (None, G.stream rng.new)) }
     {
         let mut cells = Vec::new(alloc);
         for _sampled in 0..rows * cols {

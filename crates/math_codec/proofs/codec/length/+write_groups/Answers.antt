@@ -10,9 +10,11 @@ write_groups-requires t c = (omega arith, quotient_below c.args.more c.args.n (o
 pub returns-clause-ok : goal.returns-clause-ok
 returns-clause-ok t c =
     let pushed = c.in_ok-push-2.ensures.items in
-    groups_written c.args.out.now.items c.write_groups.new.out.items c.args.more c.args.n (omega arith) (omega arith) (c.in_ok-write_groups.ensures.ok ∙ ap (λ (x : List ℕ). x ++ groups (c.args.more - 1) (c.args.n / 128)) pushed)
+    groups_written c.args.out.now.items c.write_groups.new.out.items c.args.more c.args.n (omega arith) (omega arith)
+    (c.in_ok-write_groups.ensures.ok ∙ ap (λ (x : List ℕ). x ++ groups (c.args.more - 1) (c.args.n / 128)) pushed)
 
 pub returns-clause-kept : goal.returns-clause-kept
 returns-clause-kept t c =
     let pushed = c.in_ok-push-2.ensures.items in
-    kept_before c.args.out.now.items ((128 + c.args.n % 128) ∷ []) c.write_groups.new.out.items (subst (λ (x : List ℕ). take (length x) c.write_groups.new.out.items ≡ x) pushed c.in_ok-write_groups.ensures.kept)
+    kept_before c.args.out.now.items ((128 + c.args.n % 128) ∷ []) c.write_groups.new.out.items
+    (subst (λ (x : List ℕ). take (length x) c.write_groups.new.out.items ≡ x) pushed c.in_ok-write_groups.ensures.kept)

@@ -11,7 +11,8 @@ returns-then-contains_key-clause-added g c =
 pub returns-then-contains_key-clause-entries : goal.returns-then-contains_key-clause-entries
 returns-then-contains_key-clause-entries g c =
     let es = c.args.entries.now.entries in
-    ap (λ b. cond b es (insert_entry g.I.Ord.cmp es c.args.key c.args.value)) (sym (sym (is_some-lookup (λ k. is_eq (g.I.Ord.cmp c.args.key k)) es) ∙ sym c.contains_key.ensures ∙ c.if-contains_key.true))
+    ap (λ b. cond b es (insert_entry g.I.Ord.cmp es c.args.key c.args.value))
+    (sym (sym (is_some-lookup (λ k. is_eq (g.I.Ord.cmp c.args.key k)) es) ∙ sym c.contains_key.ensures ∙ c.if-contains_key.true))
 
 pub returns-clause-added : goal.returns-clause-added
 returns-clause-added g c =
@@ -20,4 +21,5 @@ returns-clause-added g c =
 pub returns-clause-entries : goal.returns-clause-entries
 returns-clause-entries g c =
     let es = c.args.entries.now.entries in
-    c.in_ok-insert.ensures.entries ∙ ap (λ b. cond b es (insert_entry g.I.Ord.cmp es c.args.key c.args.value)) (sym (sym (is_some-lookup (λ k. is_eq (g.I.Ord.cmp c.args.key k)) es) ∙ sym c.contains_key.ensures ∙ c.if-contains_key.false))
+    c.in_ok-insert.ensures.entries ∙ ap (λ b. cond b es (insert_entry g.I.Ord.cmp es c.args.key c.args.value))
+    (sym (sym (is_some-lookup (λ k. is_eq (g.I.Ord.cmp c.args.key k)) es) ∙ sym c.contains_key.ensures ∙ c.if-contains_key.false))

@@ -27,5 +27,9 @@ returns g c =
     let rise = subst (KeysRise (λ (x : Bor g.row.V.Denot) (y : Bor g.row.V.Denot). cmp x.now y.now)) same c.in_ok-by_value.ensures.rise in (
       with_keys now c.loop-place.table.entries,
       c.into_values.ensures ∙ ap values_of same ∙ sym (values_of-with_keys now c.loop-place.table.entries),
-      (keys_rise-with_keys now cmp c.loop-place.table.entries rise, λ q. c.loop-place.invariant q ∙ ap (λ l. first_pair cmp q (places_from 0 l)) (take_all c.loop-place.place vs c.loop-place-test.false)),
+      (
+        keys_rise-with_keys now cmp c.loop-place.table.entries rise,
+        λ q. c.loop-place.invariant q
+            ∙ ap (λ l. first_pair cmp q (places_from 0 l)) (take_all c.loop-place.place vs c.loop-place-test.false),
+      ),
     )

@@ -10,5 +10,6 @@ loop-key-preserved g c =
     let value = c.in-Some.value in (
       goes.0,
       goes.1,
-      subst (λ es. SameFirsts cmp es (c.loop-key.yielded ++ (key, value) ∷ [])) (sym c.in_ok-add_new.ensures.entries) (same_firsts_push g.met.I.Ord.total c.loop-key.entries.entries c.loop-key.yielded key value c.loop-key.invariant.2),
+      subst (λ es. SameFirsts cmp es (c.loop-key.yielded ++ (key, value) ∷ [])) (sym c.in_ok-add_new.ensures.entries)
+          (same_firsts_push g.met.I.Ord.total c.loop-key.entries.entries c.loop-key.yielded key value c.loop-key.invariant.2),
     )

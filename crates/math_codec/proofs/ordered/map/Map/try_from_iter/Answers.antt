@@ -36,9 +36,8 @@ returns-then-not-branch-clause-repeated g c =
     let there : has_key cmp key es ≡ true = not-false (has_key cmp key es) (sym c.in_ok-add_new.ensures.added ∙ c.if-not-branch.true) in (
       start,
       xs ++ (key, value) ∷ [],
-      c.next.new.self,
       c.into_iter-key-iterator.ensures.into_iter_gives,
-      yields_more g.P.IntoIter.Iterator.next_gives start xs c.loop-key.key-iterator (key, value) c.next.new.self c.loop-key.yielded_by c.in-Some.ensures.steps,
+      (c.next.new.self, yields_more g.P.IntoIter.Iterator.next_gives start xs c.loop-key.key-iterator (key, value) c.next.new.self c.loop-key.yielded_by c.in-Some.ensures.steps),
       record {
         before = xs;
         last = (key, value);

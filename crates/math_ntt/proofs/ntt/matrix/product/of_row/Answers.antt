@@ -26,6 +26,7 @@ loop-j-preserved g c =
     rw written record {
       count = kept ∙ c.loop-j.invariant.count;
       sums = λ k l.
-          makes-more F.Object.equality F.Additive.group F.Multiplicative.commutes c.args.other.now c.args.row.now old new c.loop-j.j k c.index-row-j.result c.loop-j-test.true c.requires c.index-row-j.is
+          makes-more F.Object.equality F.Additive.group F.Multiplicative.commutes c.args.other.now c.args.row.now old new
+          c.loop-j.j k c.index-row-j.result c.loop-j-test.true c.requires c.index-row-j.is
           (added k (rw (← c.row.ensures.row, c.row.ensures.count) l)) (c.loop-j.invariant.sums k l);
     }

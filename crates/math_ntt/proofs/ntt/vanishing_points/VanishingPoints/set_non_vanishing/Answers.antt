@@ -16,7 +16,8 @@ invariant_of-self c =
     let words = c.self.inside.words.items in
     let within : c.args.index < length (truth_values lg words) = subst (λ l. c.args.index < length l) (sym c.self.view_is) c.requires in
     let there : c.args.index / 64 < length words = word_within lg words c.self.invariant c.args.index within in
-    let word : c.index_mut.result.now ≡ get_or words (c.args.index / 64) 0 = get_or_read_under words (c.args.index / 64) (length words) c.index_mut.result.now 0 c.index_mut.ensures.value there (search rules) in
+    let word : c.index_mut.result.now ≡ get_or words (c.args.index / 64) 0
+    = get_or_read_under words (c.args.index / 64) (length words) c.index_mut.result.now 0 c.index_mut.ensures.value there (search rules) in
     subst (λ w. IsBitmap lg (set words (c.args.index / 64) (bit_or w (1 * 2 ^ (c.args.index % 64) % 2 ^ 64)))) (sym word) (IsBitmap-set lg words c.self.invariant c.args.index within)
 
 pub returns : goal.returns
@@ -25,7 +26,8 @@ returns c =
     let words = c.self.inside.words.items in
     let within : c.args.index < length (truth_values lg words) = subst (λ l. c.args.index < length l) (sym c.self.view_is) c.requires in
     let there : c.args.index / 64 < length words = word_within lg words c.self.invariant c.args.index within in
-    let word : c.index_mut.result.now ≡ get_or words (c.args.index / 64) 0 = get_or_read_under words (c.args.index / 64) (length words) c.index_mut.result.now 0 c.index_mut.ensures.value there (search rules) in
+    let word : c.index_mut.result.now ≡ get_or words (c.args.index / 64) 0
+    = get_or_read_under words (c.args.index / 64) (length words) c.index_mut.result.now 0 c.index_mut.ensures.value there (search rules) in
     ap (λ w. truth_values lg (set words (c.args.index / 64) (bit_or w (1 * 2 ^ (c.args.index % 64) % 2 ^ 64)))) word
     ∙ truth_values-set lg words c.self.invariant c.args.index within
     ∙ ap (λ l. set l c.args.index true) c.self.view_is

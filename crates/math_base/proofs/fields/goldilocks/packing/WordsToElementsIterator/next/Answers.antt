@@ -7,7 +7,8 @@ use Rattle.math_base.proofs.fields.goldilocks.packing.WordsToElementsIterator.ne
 
 pub returns-then-self-eq0-clause-steps : goal.returns-then-self-eq0-clause-steps
 returns-then-self-eq0-clause-steps g c =
-    Repacks-none (joined-append 64) elements_of_bits c.refill.ensures.refills refl elements_of_bits-nil (waiting_bits-none c.refill.new.self.waiting (search rules)) (c.refill.ensures.enough (search rules))
+    Repacks-none (joined-append 64) elements_of_bits c.refill.ensures.refills refl elements_of_bits-nil
+    (waiting_bits-none c.refill.new.self.waiting (search rules)) (c.refill.ensures.enough (search rules))
 
 pub returns-clause-steps : goal.returns-clause-steps
 returns-clause-steps g c =

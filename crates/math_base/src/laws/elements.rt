@@ -1,0 +1,32 @@
+//! Equality of elements of the Goldilocks field, and what the traits' constants are for it.
+ghost use Rattle.std.specs.Prelude.{◌≡◌, ◌↔◌, IsTrue};
+ghost use Rattle.math_base.specs.Elements.{same};
+
+use crate::algebra::{FieldNTT, Object};
+use crate::fields::goldilocks::F;
+use math_codec::codec::{FixedSize, MaxEncodeSize};
+
+/// Whether `a == b`: exactly where both are the same number.
+pub fn equality(a: F, b: F) -> bool
+    ensures { IsTrue result ↔ same a b }
+{
+    a == b
+}
+
+/// The constants of `F`: its calls are never refused, it has roots of unity of orders 1 to 2^32, and each
+/// element is written in eight bytes.
+pub fn constants() -> (bool, u8, usize, usize)
+    ensures values { (result.0 ≡ ⟦<F as Object>⟧.NEVER_REFUSES) × (result.1 ≡ ⟦<F as FieldNTT>⟧.MAX_LG_ROOT_ORDER)
+        × (result.2 ≡ ⟦<F as FixedSize>⟧.SIZE) × (result.3 ≡ ⟦<F as MaxEncodeSize>⟧.MAX_ENCODE_SIZE) }
+    ensures never { IsTrue ⟦<F as Object>⟧.NEVER_REFUSES }
+    ensures order { ⟦<F as FieldNTT>⟧.MAX_LG_ROOT_ORDER ≡ 32 }
+    ensures size { ⟦<F as FixedSize>⟧.SIZE ≡ 8 }
+    ensures greatest { ⟦<F as MaxEncodeSize>⟧.MAX_ENCODE_SIZE ≡ 8 }
+{
+    (
+        <F as Object>::NEVER_REFUSES,
+        <F as FieldNTT>::MAX_LG_ROOT_ORDER,
+        <F as FixedSize>::SIZE,
+        <F as MaxEncodeSize>::MAX_ENCODE_SIZE,
+    )
+}
