@@ -4,7 +4,7 @@ use Rattle.std.proofs.Common.{◌≡◌, sym, ap, ℕ, zero, suc, ◌+◌, ◌*�
 use Rattle.std.proofs.Math.Nat.{pow-suc, div-div-eq-div-mul}
 use Rattle.std.proofs.lemmas.Nat.Bits.{shr_and_one}
 use Rattle.std.proofs.lemmas.List.{map-append, reverse-append}
-use Rattle.math_theory.specs.Laws.{IsEquality, IsGroup, IsProduct, IsRing, IsMonoid}
+use Rattle.math_theory.specs.Laws.{IsEquality, IsMonoid}
 use Rattle.math_theory.specs.Powers.{power, power-zero, power-suc}
 use Rattle.math_theory.specs.Sums.{number_of_limbs}
 
