@@ -12,7 +12,7 @@ GivesPower same product base (Some power) (Some (Ok item)) None = ⊥
 GivesPower same product base (Some power) (Some (Ok item)) (Some next) = same item power × same next (product power base)
 
 -- an item that is not refused is shift times the power i of base
-abbrev pub IsTerm : {A E : Type 0} → (A → A → Type 0) → (A → A → A) → A → A → A → ℕ → Result A E → Type 0
+abbrev IsTerm : {A E : Type 0} → (A → A → Type 0) → (A → A → A) → A → A → A → ℕ → Result A E → Type 0
 IsTerm same product one shift base i (Ok item) = same item (product shift (power one product base i))
 IsTerm same product one shift base i (Err e) = Unit {0}
 

@@ -1,6 +1,5 @@
 -- Memory is wanted among some items only where the first is read, or wants it itself.
-use Rattle.std.proofs.Common.{Option, Some, None, ◌≡◌, ◌⊎◌, inl, inr, ℕ, zero, suc, ◌<◌, List, Result, Ok, sym, ap, subst, ◌∙◌, arith}
-use Rattle.std.specs.Prelude.{IfNone}
+use Rattle.std.proofs.Common.{◌≡◌, ◌⊎◌, inl, inr, ℕ, zero, suc, ◌<◌, List, Result, Ok, sym, ap, ◌∙◌, arith}
 use Rattle.math_codec.specs.Faults.{Fault}
 use Rattle.math_codec.specs.Lists.{ItemsGrow}
 

@@ -39,7 +39,7 @@ length_at [] = Err EndOfBuffer
 length_at (byte ∷ after) = if nat_lt byte 128 then Ok (byte, after) else (rest_at 3 after >>= λ high. Ok (byte - 128 + 128 * high.0, high.1))
 
 -- the number that was read, or 0 at a fault
-abbrev pub number_read : Result (ℕ × List ℕ) Fault → ℕ
+abbrev number_read : Result (ℕ × List ℕ) Fault → ℕ
 number_read (Ok x) = x.0
 number_read (Err f) = 0
 

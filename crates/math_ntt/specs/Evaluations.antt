@@ -9,7 +9,7 @@ pub record EvaluationsOf (A : Type 0) : Type 0 where
   pub filled : List Bool
 
 -- the matrix with these items in place of the first cells of row i
-abbrev pub with_first_cells : {A : Type 0} → MatrixOf A → ℕ → List A → MatrixOf A
+abbrev with_first_cells : {A : Type 0} → MatrixOf A → ℕ → List A → MatrixOf A
 with_first_cells m i items = record m { cells = take (i * m.cols) m.cells ++ (items ++ drop (i * m.cols + length items) m.cells) }
 
 -- w is v with copies of the items in place of the first cells of row i, which counts as filled

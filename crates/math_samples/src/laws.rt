@@ -7,11 +7,10 @@ use crate::quotients::Quotient;
 use math_base::algebra::{FieldNTT, Object};
 use math_base::fields::goldilocks::F;
 
-/// Whether calls on quotients are never refused, which they are not, and the greatest lg of an order of a
-/// root of unity, 5.
+/// `NEVER_REFUSES` and `MAX_LG_ROOT_ORDER` of quotients: no call is refused, and the greatest order of a root
+/// of unity is 2^5.
 pub fn constants_of_quotients() -> (bool, u8)
-    ensures values { (result.0 ≡ ⟦<Quotient as Object>⟧.NEVER_REFUSES)
-        × (result.1 ≡ ⟦<Quotient as FieldNTT>⟧.MAX_LG_ROOT_ORDER) }
+    ensures answer { IsTrue result.0 × (result.1 ≡ 5) }
     ensures never { IsTrue ⟦<Quotient as Object>⟧.NEVER_REFUSES }
     ensures order { ⟦<Quotient as FieldNTT>⟧.MAX_LG_ROOT_ORDER ≡ 5 }
 {
@@ -21,10 +20,9 @@ pub fn constants_of_quotients() -> (bool, u8)
     )
 }
 
-/// The same of boxed elements: calls may be refused, and the greatest lg is that of `F`, 32.
+/// The same of boxed elements: calls may be refused, and the greatest order is 2^32.
 pub fn constants_of_boxed_elements() -> (bool, u8)
-    ensures values { (result.0 ≡ ⟦<Boxed<F> as Object>⟧.NEVER_REFUSES)
-        × (result.1 ≡ ⟦<Boxed<F> as FieldNTT>⟧.MAX_LG_ROOT_ORDER) }
+    ensures answer { (result.0 ≡ false) × (result.1 ≡ 32) }
     ensures may_refuse { ⟦<Boxed<F> as Object>⟧.NEVER_REFUSES ≡ false }
     ensures order { ⟦<Boxed<F> as FieldNTT>⟧.MAX_LG_ROOT_ORDER ≡ 32 }
 {

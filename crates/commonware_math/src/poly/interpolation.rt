@@ -5,6 +5,7 @@ ghost use Rattle.std.specs.Iterator.{IsFiniteIterable, Drains};
 ghost use Rattle.std.specs.List.{AllZip};
 ghost use Rattle.std.specs.Map.{values_of};
 ghost use Rattle.math_theory.specs.Sums.{weighted_sum};
+ghost use Rattle.math_codec.specs.Iterables.{ItemsMeet};
 ghost use Rattle.math_base.specs.Members.{value};
 ghost use Rattle.math_base.specs.Polynomials.{AreWeightsAt};
 ghost use Rattle.commonware_math.specs.Interpolators.{InterpolatesAt, HaveEqualKeys};
@@ -38,7 +39,8 @@ impl<I: Ord + Drop, F: Field> Interpolator<I, F> {
     where
         P::IntoIter: Drop,
         requires { IsFiniteIterable P.into_iter_gives P.IntoIter.can_next P.IntoIter.remaining pairs }
-        ensures { IfOk result (λ m. (it : P.IntoIter) × (xs : List (I × F)) × P.into_iter_gives pairs it × Drains P.IntoIter.next_gives it xs × InterpolatesAt I.cmp F.Ring F.zero xs m) }
+        ensures { IfOk result (λ m. ItemsMeet P.into_iter_gives (Drains P.IntoIter.next_gives) pairs
+            (λ xs. InterpolatesAt I.cmp F.Ring F.zero xs m)) }
     {
         let zero = F::zero(alloc)?;
         let out = Self::at(alloc, pairs, &zero)?;
@@ -56,7 +58,8 @@ impl<I: Ord + Drop, F: Field> Interpolator<I, F> {
     where
         P::IntoIter: Drop,
         requires { IsFiniteIterable P.into_iter_gives P.IntoIter.can_next P.IntoIter.remaining pairs }
-        ensures { IfOk result (λ m. (it : P.IntoIter) × (xs : List (I × F)) × P.into_iter_gives pairs it × Drains P.IntoIter.next_gives it xs × InterpolatesAt I.cmp F.Ring x.now xs m) }
+        ensures { IfOk result (λ m. ItemsMeet P.into_iter_gives (Drains P.IntoIter.next_gives) pairs
+            (λ xs. InterpolatesAt I.cmp F.Ring x.now xs m)) }
     {
         let points = Map::from_iter_dedup(alloc, pairs)?;
         let weights = weights_at(alloc, points.values(), x)?;

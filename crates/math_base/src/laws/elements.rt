@@ -13,11 +13,12 @@ pub fn equality(a: F, b: F) -> bool
     a == b
 }
 
-/// The constants of `F`: its calls are never refused, it has roots of unity of orders 1 to 2^32, and each
-/// element is written in eight bytes.
+/// `NEVER_REFUSES`, `MAX_LG_ROOT_ORDER`, `SIZE` and `MAX_ENCODE_SIZE` of `F`: no call is refused, the greatest
+/// order of a root of unity is 2^32, and each element is written in eight bytes.
 pub fn constants() -> (bool, u8, usize, usize)
-    ensures values { (result.0 ≡ ⟦<F as Object>⟧.NEVER_REFUSES) × (result.1 ≡ ⟦<F as FieldNTT>⟧.MAX_LG_ROOT_ORDER)
-        × (result.2 ≡ ⟦<F as FixedSize>⟧.SIZE) × (result.3 ≡ ⟦<F as MaxEncodeSize>⟧.MAX_ENCODE_SIZE) }
+    ensures answer { IsTrue result.0 × (result.1 ≡ 32) × (result.2 ≡ 8) × (result.3 ≡ 8) }
+
+    // The same of the ghost members, which contracts cite.
     ensures never { IsTrue ⟦<F as Object>⟧.NEVER_REFUSES }
     ensures order { ⟦<F as FieldNTT>⟧.MAX_LG_ROOT_ORDER ≡ 32 }
     ensures size { ⟦<F as FixedSize>⟧.SIZE ≡ 8 }

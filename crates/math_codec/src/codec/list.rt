@@ -63,8 +63,9 @@ fn read_items<'a, T: Read + Drop>(
 /// moves `input` to what follows it.
 ///
 /// It refuses with the faults of the length, then `InvalidLength` where the length is out of the
-/// range, then the faults of the items in order, and then `input` stays where it was. Memory is
-/// taken for items that were read, so a large length alone takes none.
+/// range, then the faults of the items in order, and then `input` stays where it was. Once an item is
+/// read, room is made for at most four items and twice as many as are read, so a large length alone
+/// takes no memory.
 #[tactic(auto, unfolding(crate::specs::Lists::scan_list, crate::specs::Lengths::length_in_front))]
 pub fn read_list<T: Read + Drop>(
     alloc: Global,

@@ -11,7 +11,7 @@ use std::alloc::Global;
 
 impl<K: Random + Drop> Poly<K> {
     /// A polynomial of `degree + 1` coefficients, which are the next samples of the source, from the
-    /// constant upwards.
+    /// constant upwards; `degree` is at most 2^32 - 2.
     ///
     /// It refuses with `TooManyWords` where one of these samples is refused, or with `Memory`.
     pub fn new<G: Rng + CryptoRng>(
@@ -30,7 +30,7 @@ impl<K: Random + Drop> Poly<K> {
     }
 
     /// A polynomial of `degree + 1` coefficients: the given constant, and then the next samples of
-    /// the source upwards.
+    /// the source upwards; `degree` is at most 2^32 - 2.
     ///
     /// It refuses with `TooManyWords` where one of these samples is refused, or with `Memory`.
     pub fn new_with_constant<G: Rng + CryptoRng>(
