@@ -130,6 +130,3 @@ impl<K: Read + Drop> Read for Poly<K> {
 
     ghost apart = { λ cfg p q x y h k e. list_apart K.spelling (K.admits cfg.1) K.alike (K.apart cfg.1) (nonzero cfg.0) p q x y h k e };
 }
-
-#[cfg(test)]
-mod tests;

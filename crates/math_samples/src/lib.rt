@@ -5,3 +5,4 @@
 pub mod boxed;
 pub mod elements;
 pub mod quotients;
+pub mod sources;

@@ -2,60 +2,62 @@
 
 use crate::fault::Fault;
 use crate::words::element;
+use commonware_math::algebra::Mem;
 use math_samples::elements::Element;
-use std::alloc::{AllocError, Global};
+use std::alloc::Global;
 
-/// A part of an answer, which is one word of a row.
-#[derive(Debug, Drop)]
-pub enum Part<R> {
-    /// An element, which is compared by its type's own equality.
-    Element(R),
-    /// A word as it stands.
-    Word(String),
-}
-
-/// The answer of a call, part by part.
-#[derive(Debug, Drop)]
+/// The answer of a call: words, in which `_` stands for the next of the elements.
+#[derive(Drop)]
 pub struct Answer<R> {
-    parts: Vec<Part<R>>,
+    pub text: String,
+    pub elements: Vec<R>,
 }
 
 impl<R: Element> Answer<R> {
     pub fn new(alloc: Global) -> Answer<R> {
         Answer {
-            parts: Vec::new(alloc),
+            text: String::new(alloc),
+            elements: Vec::new(alloc),
         }
     }
 
     /// Adds an element.
-    pub fn element(&mut self, x: R) -> Result<(), AllocError> {
-        self.parts.push(Part::Element(x))?;
+    pub fn element(&mut self, x: R) -> Mem<()> {
+        self.text.push_str(" _")?;
+        self.elements.push(x)?;
         Ok(())
     }
 
-    /// Adds a number.
-    pub fn number(&mut self, alloc: Global, n: u64) -> Result<(), AllocError> {
-        let word = format!(in alloc; "{n}")?;
-        self.parts.push(Part::Word(word))?;
+    /// Adds an element with a key, as `K:E`.
+    pub fn keyed(&mut self, key: u64, x: R) -> Mem<()> {
+        write!(self.text, " {key}:_")?;
+        self.elements.push(x)?;
         Ok(())
     }
 
-    /// Adds the words of a text.
-    pub fn words(&mut self, alloc: Global, text: &str) -> Result<(), AllocError> {
-        for word in text.split_whitespace() {
-            let word = String::from_str(alloc, word)?;
-            self.parts.push(Part::Word(word))?;
+    /// Adds copies of elements.
+    pub fn copies(&mut self, alloc: Global, xs: &[R]) -> Mem<()> {
+        for x in xs {
+            self.element(x.clone(alloc)?)?;
         }
         Ok(())
     }
 
-    /// Whether these are the parts that the words of `expected` stand for.
+    /// Whether the words of `expected` stand for this answer.
     pub fn is(&self, alloc: Global, expected: &str) -> Result<bool, Fault> {
-        if expected.split_whitespace().count() != self.parts.len() {
+        if expected.split_whitespace().count() != self.text.split_whitespace().count() {
             return Ok(false);
         }
-        for (word, part) in expected.split_whitespace().zip(self.parts.iter()) {
-            if !is_part(alloc, part, word)? {
+        let mut elements = self.elements.iter();
+        for (word, part) in expected
+            .split_whitespace()
+            .zip(self.text.split_whitespace())
+        {
+            let same = match part.strip_suffix('_') {
+                Some(key) => is_element(alloc, key, elements.next(), word)?,
+                None => part == word,
+            };
+            if !same {
                 return Ok(false);
             }
         }
@@ -63,10 +65,62 @@ impl<R: Element> Answer<R> {
     }
 }
 
-/// Whether a word stands for this part.
-fn is_part<R: Element>(alloc: Global, part: &Part<R>, word: &str) -> Result<bool, Fault> {
-    match part {
-        Part::Element(x) => Ok(x.equals(alloc, &element::<R>(alloc, word)?)?),
-        Part::Word(text) => Ok(text.as_str() == word),
+/// Whether a word is the key and a word for the element.
+fn is_element<R: Element>(
+    alloc: Global,
+    key: &str,
+    x: Option<&R>,
+    word: &str,
+) -> Result<bool, Fault> {
+    match (x, word.strip_prefix(key)) {
+        (Some(x), Some(word)) => Ok(x.equals(alloc, &element::<R>(alloc, word)?)?),
+        _ => Ok(false),
     }
+}
+
+/// Adds a number to a text.
+pub fn put(text: &mut String, n: u64) -> Mem<()> {
+    write!(text, " {n}")
+}
+
+/// Adds numbers to a text.
+pub fn put_all(text: &mut String, numbers: &[u64]) -> Mem<()> {
+    for n in numbers {
+        put(text, *n)?;
+    }
+    Ok(())
+}
+
+/// Adds bytes to a text, as two hexadecimal digits each.
+pub fn put_bytes(text: &mut String, bytes: &[u8]) -> Mem<()> {
+    for byte in bytes {
+        write!(text, " {byte:02x}")?;
+    }
+    Ok(())
+}
+
+/// The place of the first item that equals this one.
+fn first<T, E: Fn(&T, &T) -> Mem<bool>>(items: &[T], item: &T, equal: &E) -> Mem<u64>
+    requires { E.IsAlwaysCallable equal.now }
+{
+    for (i, other) in items.iter().enumerate() {
+        if equal(other, item)? {
+            return Ok(i as u64);
+        }
+    }
+    Ok(u64::MAX)
+}
+
+/// Adds for each item the place of the first item that it equals.
+pub fn put_firsts<T, E: Fn(&T, &T) -> Mem<bool>>(
+    text: &mut String,
+    items: &[T],
+    equal: E,
+) -> Mem<()>
+    requires { E.IsAlwaysCallable equal }
+{
+    for item in items {
+        put(text, first(items, item, &equal)?)?;
+    }
+    Ok(())
 }

@@ -9,9 +9,6 @@ ghost use Rattle.math_theory.specs.Sums.{number_of_limbs, weighted_sum};
 ghost use Rattle.commonware_math.specs.PolynomialCounts.{greatest_count};
 ghost use Rattle.commonware_math.specs.PolynomialLaws.{coefficients_equality, polynomials_group, polynomials_module};
 
-#[cfg(test)]
-mod tests;
-
 use super::Poly;
 use math_base::algebra::{Additive, Mem, Object, Ring, Space};
 use std::alloc::Global;

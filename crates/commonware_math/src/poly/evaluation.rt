@@ -76,6 +76,3 @@ fn add_powers<R: Ring>(alloc: Global, sums: &mut [R], shift: R, base: &R) -> Mem
     }
     Ok(())
 }
-
-#[cfg(test)]
-mod tests;

@@ -90,6 +90,3 @@ impl<I: Ord + Drop, F: Field> Interpolator<I, F> {
         Ok(Some(out))
     }
 }
-
-#[cfg(test)]
-mod tests;

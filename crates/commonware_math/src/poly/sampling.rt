@@ -54,6 +54,3 @@ impl<K: Random + Drop> Poly<K> {
         Ok(Poly { coefficients })
     }
 }
-
-#[cfg(test)]
-mod tests;

@@ -37,6 +37,3 @@ impl<K: MaxEncodeSize + Drop> Poly<K> {
         len_size(n) + n * K::MAX_ENCODE_SIZE
     }
 }
-
-#[cfg(test)]
-mod tests;

@@ -231,6 +231,3 @@ impl F {
         bits.div_ceil(63)
     }
 }
-
-#[cfg(test)]
-mod tests;

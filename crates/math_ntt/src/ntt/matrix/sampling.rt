@@ -33,6 +33,3 @@ impl<F: Random + Drop> Matrix<F> {
         Ok(Matrix { rows, cols, cells })
     }
 }
-
-#[cfg(test)]
-mod tests;
