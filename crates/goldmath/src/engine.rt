@@ -108,6 +108,3 @@ pub fn run(alloc: Global, words: &[String], bytes: &[u8]) -> Result<Vec<u8>, Too
         None => Err(ToolError::Usage),
     }
 }
-
-#[cfg(test)]
-mod tests;

@@ -29,6 +29,3 @@ pub use write::{EncodeSize, FixedSize, MaxEncodeSize, Write, roll_back};
 
 /// What a call gives that fails only where memory runs out.
 pub type Mem<T> = Result<T, AllocError>;
-
-#[cfg(test)]
-mod tests;

@@ -11,6 +11,3 @@ mod two_way;
 pub use error::Error;
 pub use map::Map;
 pub use two_way::BiMap;
-
-#[cfg(test)]
-mod tests;

@@ -1,13 +1,15 @@
--- Quotients that bytes hash to.
-use Rattle.std.specs.Prelude.{ℕ, ◌+◌, ◌%◌, List, sum}
+-- Elements that bytes hash to.
+use Rattle.std.specs.Prelude.{ℕ, ◌+◌, List, sum}
+use Rattle.math_base.specs.Elements.{residue}
+use Rattle.math_base.specs.declared.fields.goldilocks.F.{F}
+use Rattle.math_samples.specs.ByteSums.{remainder_of_sum}
 use Rattle.math_samples.specs.Quotients.{whole}
 use Rattle.math_samples.specs.declared.quotients.Quotient.{Quotient}
-use Rattle.math_samples.specs.declared.quotients.TheConstants.{MODULUS}
-
--- the remainder by 97 of the sum of the bytes
-abbrev pub remainder_of_sum : List ℕ → ℕ
-remainder_of_sum bytes = sum bytes % MODULUS
 
 -- the remainder by 97 of the sum of all bytes of the separator and of the message, over one
 abbrev pub hash : List ℕ → List ℕ → Quotient
 hash separator message = whole (sum separator + sum message)
+
+-- the remainders by 97 of the sums of both byte lists, added
+abbrev pub element_of : List ℕ → List ℕ → F
+element_of separator message = residue (remainder_of_sum separator + remainder_of_sum message)

@@ -1,5 +1,6 @@
 pub mod ModulusLaws
 pub mod Quotients
+pub mod ByteSums
 pub mod Hashes
 pub mod RootsModulo
 pub mod QuotientLaws

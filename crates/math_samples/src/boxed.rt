@@ -5,14 +5,18 @@
 //! a run show as allocations.
 
 ghost use Rattle.std.specs.Prelude.{◌≡◌, IfOk, false};
-ghost use Rattle.math_base.specs.Elements.{residue, same, sum, negative, product, inverse, root_of, shift_of, half_of};
+ghost use Rattle.math_base.specs.Elements.{residue, same, sum, negative, product, inverse, root_of, shift_of, half_of, sample_of};
+ghost use Rattle.math_samples.specs.Hashes.{element_of};
 ghost use Rattle.math_base.specs.ElementLaws.{equality, group, commutes, ring};
 ghost use Rattle.math_base.specs.ElementRootLaws.{field, roots};
 
+use crate::quotients::remainder_of_sum;
 use math_base::algebra::{
-    Additive, CryptoGroup, Field, FieldNTT, Mem, Multiplicative, Object, Ring,
+    Additive, CryptoGroup, Field, FieldNTT, HashToGroup, Mem, Multiplicative, Object, Random,
+    RandomError, Ring,
 };
 use math_base::fields::goldilocks::F;
+use rand_core::{CryptoRng, Rng};
 use std::alloc::Global;
 use std::marker::Model;
 
@@ -44,6 +48,11 @@ impl Boxed<F> {
         ensures { result ≡ self.now }
     {
         *self.element
+    }
+
+    /// Where the box lies.
+    pub fn place(&self) -> *const F {
+        &*self.element
     }
 }
 
@@ -124,6 +133,7 @@ impl Field for Boxed<F> {
     ghost field = { field };
 }
 
+/// The inverse of the shift and the halves are left to the trait.
 impl FieldNTT for Boxed<F> {
     ghost MAX_LG_ROOT_ORDER = { 32 };
 
@@ -146,14 +156,6 @@ impl FieldNTT for Boxed<F> {
         Boxed::new(alloc, F::coset_shift(alloc)?)
     }
 
-    fn coset_shift_inv(alloc: Global) -> Mem<Boxed<F>> {
-        Boxed::new(alloc, F::coset_shift_inv(alloc)?)
-    }
-
-    fn div_2(&self, alloc: Global) -> Mem<Boxed<F>> {
-        Boxed::new(alloc, FieldNTT::div_2(&self.value(), alloc)?)
-    }
-
     ghost roots = { roots };
 }
 
@@ -165,5 +167,26 @@ impl CryptoGroup for Boxed<F> {
 
     fn generator(alloc: Global) -> Mem<Boxed<F>> {
         Boxed::new(alloc, F::from(5))
+    }
+}
+
+/// A separator and a message hash to the sum of the remainders by 97 of the sums of their bytes.
+impl HashToGroup for Boxed<F> {
+    ghost hash = { element_of };
+
+    fn hash_to_group(alloc: Global, domain_separator: &[u8], message: &[u8]) -> Mem<Boxed<F>> {
+        let total = remainder_of_sum(domain_separator) + remainder_of_sum(message);
+        Boxed::new(alloc, F::from(total))
+    }
+}
+
+/// A sample is one of `F`, in a box.
+impl Random for Boxed<F> {
+    ghost sample = { sample_of };
+
+    fn random<G: Rng + CryptoRng>(alloc: Global, rng: &mut G) -> Result<Boxed<F>, RandomError> {
+        let element = F::random(alloc, rng)?;
+        let boxed = Boxed::new(alloc, element)?;
+        Ok(boxed)
     }
 }

@@ -8,6 +8,7 @@
 
 ghost use Rattle.std.specs.Prelude.{◌≡◌, ◌<◌, true};
 ghost use Rattle.math_samples.specs.declared.quotients.TheConstants.{MODULUS};
+ghost use Rattle.math_samples.specs.ByteSums.{remainder_of_sum};
 
 use math_base::algebra::{
     Additive, CryptoGroup, Field, FieldNTT, HashToGroup, Mem, Multiplicative, Object, Ring,
@@ -35,7 +36,6 @@ pub struct Quotient {
 
 impl Quotient {
     ghost use Rattle.math_samples.specs.Quotients.{numerator_of, denominator_of, over_both, sum, negative, product, inverse, half};
-    ghost use Rattle.math_samples.specs.Hashes.{remainder_of_sum};
 
     /// The quotient of two numbers below 97, of which the second is not zero.
     pub fn new(numerator: u64, denominator: u64) -> Quotient
@@ -123,17 +123,6 @@ impl Quotient {
             numerator: self.numerator,
             denominator: self.denominator * 2 % MODULUS,
         }
-    }
-
-    /// The remainder by 97 of the sum of the bytes.
-    fn remainder_of_sum(bytes: &[u8]) -> u64
-        ensures { result ≡ remainder_of_sum bytes.now }
-    {
-        let mut total = 0;
-        for byte in bytes {
-            total = (total + u64::from(*byte)) % MODULUS;
-        }
-        total
     }
 }
 
@@ -297,8 +286,19 @@ impl HashToGroup for Quotient {
     ghost hash = { hash };
 
     fn hash_to_group(_alloc: Global, domain_separator: &[u8], message: &[u8]) -> Mem<Quotient> {
-        let total = Quotient::remainder_of_sum(domain_separator)
-            + Quotient::remainder_of_sum(message);
+        let total = remainder_of_sum(domain_separator) + remainder_of_sum(message);
         Ok(Quotient::new(total % MODULUS, 1))
     }
+}
+
+/// The remainder by 97 of the sum of the bytes.
+pub fn remainder_of_sum(bytes: &[u8]) -> u64
+    ensures value { result ≡ remainder_of_sum bytes.now }
+    ensures below { result < MODULUS }
+{
+    let mut total = 0;
+    for byte in bytes {
+        total = (total + u64::from(*byte)) % MODULUS;
+    }
+    total
 }

@@ -547,6 +547,3 @@ impl MaxEncodeSize for F {
 
     ghost bounded = { λ a. word_bounded (number a) };
 }
-
-#[cfg(test)]
-mod tests;

@@ -103,6 +103,3 @@ impl<F: Object> EvaluationVector<F> {
         Ok(out)
     }
 }
-
-#[cfg(test)]
-mod tests;

@@ -290,6 +290,3 @@ impl<'a, F: Drop> Iterator for Rows<'a, F> {
         Some(row)
     }
 }
-
-#[cfg(test)]
-mod tests;

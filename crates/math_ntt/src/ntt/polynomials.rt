@@ -127,6 +127,3 @@ impl<'a, F: Drop> Iterator for CoefficientRows<'a, F> {
         self.rows.next()
     }
 }
-
-#[cfg(test)]
-mod tests;

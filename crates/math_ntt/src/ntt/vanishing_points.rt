@@ -130,6 +130,3 @@ fn full_word(lg_size: u32) -> u64
 {
     u64::MAX >> (64 - (1u32 << lg_size.min(6)))
 }
-
-#[cfg(test)]
-mod tests;

@@ -238,6 +238,3 @@ impl F {
         bits.div_ceil(63)
     }
 }
-
-#[cfg(test)]
-mod tests;

@@ -113,6 +113,3 @@ impl<F: EncodeSize + Drop> EncodeSize for Matrix<F> {
         len_size(self.rows) + len_size(self.cols) + list_size(&self.cells)
     }
 }
-
-#[cfg(test)]
-mod tests;

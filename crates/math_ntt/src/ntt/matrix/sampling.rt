@@ -35,6 +35,3 @@ impl<F: Random + Drop> Matrix<F> {
         Ok(Matrix { rows, cols, cells })
     }
 }
-
-#[cfg(test)]
-mod tests;

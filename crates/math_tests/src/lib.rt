@@ -1,0 +1,14 @@
+//! Tests of what no row of calls and answers can say: texts for debugging, how often an iterator is
+//! asked, new boxes, and calls whose contracts have to serve their callers.
+#![tactic(auto)]
+
+#[cfg(test)]
+mod encodings;
+#[cfg(test)]
+mod iterators;
+#[cfg(test)]
+mod memory;
+#[cfg(test)]
+mod packing;
+#[cfg(test)]
+mod texts;

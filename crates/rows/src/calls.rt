@@ -1,0 +1,65 @@
+//! The calls that rows name: each module runs those of one subject.
+
+mod algebra;
+mod bitmaps;
+mod encodings;
+mod goldilocks;
+mod groups;
+mod interpolation;
+mod maps;
+mod matrices;
+mod polynomials;
+mod sampling;
+mod vectors;
+
+use crate::answer::Answer;
+use crate::fault::Fault;
+use crate::row::Row;
+use commonware_math::fields::goldilocks::F;
+use math_samples::boxed::Boxed;
+use math_samples::elements::Element;
+use math_samples::quotients::Quotient;
+use std::alloc::Global;
+
+/// Runs a call that each field has; `false` where it is none.
+fn at_any<R: Element>(alloc: Global, row: Row<'_>, answer: &mut Answer<R>) -> Result<bool, Fault> {
+    let Row {
+        call,
+        arguments,
+        ..
+    } = row;
+    Ok(
+        algebra::run(alloc, call, arguments, answer)?
+            || polynomials::run(alloc, call, arguments, answer)?
+            || interpolation::run(alloc, call, arguments, answer)?
+            || matrices::run(alloc, call, arguments, answer)?
+            || vectors::run(alloc, call, arguments, answer)?
+            || goldilocks::run(alloc, call, arguments, &mut answer.text)?
+            || encodings::run(alloc, call, arguments, &mut answer.text)?
+            || maps::run(alloc, call, arguments, &mut answer.text)?
+            || bitmaps::run(alloc, call, arguments, &mut answer.text)?,
+    )
+}
+
+/// Runs a call at the Goldilocks field.
+pub fn at_field(alloc: Global, row: Row<'_>, answer: &mut Answer<F>) -> Result<bool, Fault> {
+    Ok(at_any(alloc, row, answer)? || sampling::run(alloc, row.call, row.arguments, answer)?)
+}
+
+/// Runs a call at the boxed field.
+pub fn at_boxed(alloc: Global, row: Row<'_>, answer: &mut Answer<Boxed<F>>) -> Result<bool, Fault> {
+    Ok(
+        at_any(alloc, row, answer)?
+            || sampling::run(alloc, row.call, row.arguments, answer)?
+            || groups::run(alloc, row.call, row.arguments, answer)?,
+    )
+}
+
+/// Runs a call at the quotients.
+pub fn at_quotients(
+    alloc: Global,
+    row: Row<'_>,
+    answer: &mut Answer<Quotient>,
+) -> Result<bool, Fault> {
+    Ok(at_any(alloc, row, answer)? || groups::run(alloc, row.call, row.arguments, answer)?)
+}

@@ -1,0 +1,152 @@
+//! Vectors of polynomials and of evaluations.
+
+use super::matrices::{matrix, put_matrix};
+use crate::answer::{Answer, put, put_firsts};
+use crate::fault::Fault;
+use crate::words::{elements, number, parted, two_numbers};
+use commonware_math::ntt::{EvaluationVector, Matrix, PolynomialVector};
+use math_samples::elements::Element;
+use std::alloc::Global;
+
+/// Runs a call of this module; `false` where it is none.
+pub fn run<R: Element>(
+    alloc: Global,
+    call: &str,
+    arguments: &str,
+    answer: &mut Answer<R>,
+) -> Result<bool, Fault> {
+    match call {
+        "coefficients_up_to" => first_rows(alloc, arguments, answer)?,
+        "polynomials_equal" => same_polynomials(alloc, arguments, answer)?,
+        "fill_rows" => fill_rows(alloc, arguments, answer)?,
+        "evaluations_equal" => same_evaluations(alloc, arguments, answer)?,
+        _ => return Ok(false),
+    }
+    Ok(true)
+}
+
+/// The columns of the matrix `M` as polynomials of N coefficients at least, from `N @ M`.
+fn polynomials<R: Element>(
+    alloc: Global,
+    text: &str,
+) -> Result<Option<PolynomialVector<R>>, Fault> {
+    let (n, m) = parted(text, '@')?;
+    let n = number(n.trim())? as usize;
+    padded(alloc, &matrix::<R>(alloc, m)?, n)
+}
+
+/// The columns as polynomials of n coefficients at least, where the number of cells fits.
+fn padded<R: Element>(
+    alloc: Global,
+    m: &Matrix<R>,
+    n: usize,
+) -> Result<Option<PolynomialVector<R>>, Fault> {
+    let Some(rows) = n.checked_next_power_of_two() else {
+        return Err(Fault::OutOfRange("too many rows"));
+    };
+    let Some(_cells) = rows.checked_mul(m.cols()) else {
+        return Err(Fault::OutOfRange("too many cells"));
+    };
+    Ok(m.as_polynomials(alloc, n)?)
+}
+
+/// `coefficients_up_to U @ N @ M`: the columns of M as polynomials of N coefficients at least, and the
+/// first U rows of them, each after `;`; or `none`.
+fn first_rows<R: Element>(
+    alloc: Global,
+    arguments: &str,
+    answer: &mut Answer<R>,
+) -> Result<(), Fault> {
+    let (up_to, columns) = parted(arguments, '@')?;
+    let up_to = number(up_to.trim())? as usize;
+    let Some(v) = polynomials::<R>(alloc, columns)? else {
+        answer.text.push_str(" none")?;
+        return Ok(());
+    };
+    for row in v.coefficients_up_to(up_to) {
+        answer.text.push_str(" ;")?;
+        answer.copies(alloc, row)?;
+    }
+    Ok(())
+}
+
+/// `polynomials_equal N @ M ; ..`: for each vector of polynomials the place of the first that it equals.
+fn same_polynomials<R: Element>(
+    alloc: Global,
+    arguments: &str,
+    answer: &mut Answer<R>,
+) -> Result<(), Fault> {
+    let mut items = Vec::new(alloc);
+    for part in arguments.split(';') {
+        let v = polynomials::<R>(alloc, part)?.ok_or(Fault::OutOfRange("no polynomials"))?;
+        items.push(v.clone(alloc)?)?;
+    }
+    put_firsts(
+        &mut answer.text,
+        &items,
+        |a: &PolynomialVector<R>, b: &PolynomialVector<R>| a.equals(alloc, b),
+    )?;
+    Ok(())
+}
+
+/// What a row is filled with, from `ROW : CELL ..`.
+fn fill<R: Element>(alloc: Global, text: &str) -> Result<(usize, Vec<R>), Fault> {
+    let (row, cells) = parted(text, ':')?;
+    let row = number(row.trim())? as usize;
+    Ok((row, elements::<R>(alloc, cells)?))
+}
+
+/// The vector of 2^LG rows of so many columns, of which some are filled one after the other, from
+/// `LG COLUMNS @ ROW : CELL .. @ ..`.
+fn filled<R: Element>(alloc: Global, text: &str) -> Result<EvaluationVector<R>, Fault> {
+    let (size, _fills) = text.split_once('@').unwrap_or((text, ""));
+    let (lg, cols) = two_numbers(size)?;
+    let (lg, cols) = (lg as usize, cols as usize);
+    if lg >= 64 {
+        return Err(Fault::OutOfRange("too many rows"));
+    }
+    let rows: usize = 1 << lg;
+    if rows.checked_mul(cols).is_none() {
+        return Err(Fault::OutOfRange("too many cells"));
+    }
+    let mut v = EvaluationVector::empty(alloc, lg, cols)?;
+    for part in text.split('@').skip(1) {
+        let (row, cells) = fill::<R>(alloc, part)?;
+        if row >= rows || cells.len() > cols {
+            return Err(Fault::OutOfRange("no such cells"));
+        }
+        v.fill_row(alloc, row, &cells)?;
+    }
+    Ok(v)
+}
+
+/// `fill_rows LG COLUMNS @ ROW : CELL .. @ ..`: how many rows are filled, and the matrix.
+fn fill_rows<R: Element>(
+    alloc: Global,
+    arguments: &str,
+    answer: &mut Answer<R>,
+) -> Result<(), Fault> {
+    let v = filled::<R>(alloc, arguments)?;
+    put(&mut answer.text, v.filled_rows() as u64)?;
+    put_matrix(alloc, &v.data(), answer)?;
+    Ok(())
+}
+
+/// `evaluations_equal LG COLUMNS @ ROW : CELL .. @ .. ; ..`: for each vector the place of the first that
+/// it equals.
+fn same_evaluations<R: Element>(
+    alloc: Global,
+    arguments: &str,
+    answer: &mut Answer<R>,
+) -> Result<(), Fault> {
+    let mut items = Vec::new(alloc);
+    for part in arguments.split(';') {
+        items.push(filled::<R>(alloc, part)?)?;
+    }
+    put_firsts(
+        &mut answer.text,
+        &items,
+        |a: &EvaluationVector<R>, b: &EvaluationVector<R>| a.equals(alloc, b),
+    )?;
+    Ok(())
+}

@@ -1,0 +1,108 @@
+//! Numbers, elements and bytes, read from words.
+
+use crate::fault::Fault;
+use math_samples::elements::Element;
+use std::alloc::Global;
+
+/// What stands before and after the first `mark` of a text.
+pub fn parted(text: &str, mark: char) -> Result<(&str, &str), Fault> {
+    text.split_once(mark)
+        .ok_or(Fault::Unreadable("mark between arguments"))
+}
+
+/// A number in decimal, or in hexadecimal after `0x`.
+pub fn number(word: &str) -> Result<u64, Fault> {
+    let read = match word.strip_prefix("0x") {
+        Some(digits) => u64::from_str_radix(digits, 16),
+        None => word.parse::<u64>(),
+    };
+    read.ok().ok_or(Fault::Unreadable("number"))
+}
+
+/// A number below 2^32.
+pub fn short(word: &str) -> Result<u32, Fault> {
+    u32::try_from(number(word.trim())?)
+        .ok()
+        .ok_or(Fault::OutOfRange("a number of 2^32 or more"))
+}
+
+/// Two numbers, with a space between them.
+pub fn two_numbers(text: &str) -> Result<(u64, u64), Fault> {
+    let (a, b) = parted(text.trim(), ' ')?;
+    Ok((number(a)?, number(b.trim())?))
+}
+
+/// A number, and how often it stands there: `n*count`, or n once.
+fn repeated(word: &str) -> Result<(u64, u64), Fault> {
+    match word.split_once('*') {
+        Some((n, count)) => Ok((number(n)?, number(count)?)),
+        None => Ok((number(word)?, 1)),
+    }
+}
+
+/// The numbers that the words of a text stand for.
+pub fn numbers(alloc: Global, text: &str) -> Result<Vec<u64>, Fault> {
+    let mut out = Vec::new(alloc);
+    for word in text.split_whitespace() {
+        let (n, count) = repeated(word)?;
+        for _ in 0..count {
+            out.push(n)?;
+        }
+    }
+    Ok(out)
+}
+
+/// The element that a number stands for; after `-` it is the negative.
+fn whole<R: Element>(alloc: Global, word: &str) -> Result<R, Fault> {
+    match word.strip_prefix('-') {
+        Some(size) => Ok(R::from_number(alloc, number(size)?)?.neg(alloc)?),
+        None => Ok(R::from_number(alloc, number(word)?)?),
+    }
+}
+
+/// The element that one word stands for: a number, or `a/b`, a times the inverse of b.
+pub fn element<R: Element>(alloc: Global, word: &str) -> Result<R, Fault> {
+    match word.trim().split_once('/') {
+        Some((a, b)) => {
+            let inverse = whole::<R>(alloc, b)?.inv(alloc)?;
+            Ok(whole::<R>(alloc, a)?.mul(alloc, &inverse)?)
+        }
+        None => whole::<R>(alloc, word.trim()),
+    }
+}
+
+/// The elements that the words of a text stand for.
+pub fn elements<R: Element>(alloc: Global, text: &str) -> Result<Vec<R>, Fault> {
+    let mut out = Vec::new(alloc);
+    for word in text.split_whitespace() {
+        out.push(element::<R>(alloc, word)?)?;
+    }
+    Ok(out)
+}
+
+/// The pairs `K:E` of a number and an element.
+pub fn keyed<R: Element>(alloc: Global, text: &str) -> Result<Vec<(u64, R)>, Fault> {
+    let mut out = Vec::new(alloc);
+    for word in text.split_whitespace() {
+        let (key, value) = parted(word, ':')?;
+        out.push((number(key)?, element::<R>(alloc, value)?))?;
+    }
+    Ok(out)
+}
+
+/// The bytes that words stand for: two hexadecimal digits a byte, or sixteen for eight bytes.
+pub fn bytes(alloc: Global, text: &str) -> Result<Vec<u8>, Fault> {
+    let mut out = Vec::new(alloc);
+    for word in text.split_whitespace() {
+        let n = u64::from_str_radix(word, 16)
+            .ok()
+            .ok_or(Fault::Unreadable("byte"))?;
+        if word.len() == 16 {
+            out.extend_from_slice(&n.to_be_bytes())?;
+        } else {
+            let byte = u8::try_from(n).ok().ok_or(Fault::Unreadable("byte"))?;
+            out.push(byte)?;
+        }
+    }
+    Ok(out)
+}
