@@ -38,11 +38,6 @@ module _ {A B : Type 0} {same : A → A → Type 0} {zero : A} {sum : A → A �
   by_horner : (r : B) (a : A) (p : List A) → same (at r (a ∷ p)) (sum a (scaling (at r p) r))
   by_horner r a p = value_over-cons E G M r a p
 
-  interchange : (a b c d : A) → same (sum (sum a b) (sum c d)) (sum (sum a c) (sum b d))
-  interchange a b c d =
-      let s = λ (x y : A). E.symmetric x y in
-      grw (E.transitive, E.reflexive, G.respects_sum, G.associative a b (sum c d), s _ _ (G.associative b c d), G.commutative b c, G.associative c b d, s _ _ (G.associative a c (sum b d)))
-
   -- lists with the same value have the same value after the same coefficients too
   value-after : (r : B) (front xs ys : List A) → same (at r xs) (at r ys) → same (at r (front ++ xs)) (at r (front ++ ys))
   value-after r [] xs ys h = h
@@ -75,109 +70,73 @@ module _ {A B : Type 0} {same : A → A → Type 0} {zero : A} {sum : A → A �
   horner-done r [] out whole l h = E.transitive _ _ _ (E.symmetric _ _ (value-one r out)) h
   horner-done r (c ∷ front) out whole l h = absurd (omega (arith, l))
 
-  -- the last coefficient is copied
-  pub horner-begun : (r : B) (xs : List A) (c copy : A) → 1 ≤ length xs → c ≡ get_or xs (length xs - 1) c → same copy c → same (at r (take (length xs - 1) xs ++ copy ∷ [])) (at r xs)
-  horner-begun r xs c copy l e h =
+  -- from all but the last coefficient, and a copy of this one
+  pub horner-all : (r : B) (xs ys : List A) (c copy out : A) → xs ≡ ys → 1 ≤ length xs → c ≡ get_or xs (length xs - 1) c → same copy c
+      → same out (at r (take (length xs - 1) xs ++ copy ∷ [])) → same out (at r ys)
+  horner-all r xs ys c copy out i l e h k =
       let last : same (at r (copy ∷ [])) (at r (c ∷ [])) = E.transitive _ _ _ (value-one r copy) (E.transitive _ _ _ h (E.symmetric _ _ (value-one r c))) in
-      rw (last-apart xs c l e) at (value-after r (take (length xs - 1) xs) (copy ∷ []) (c ∷ []) last)
+      rw (← i) (E.transitive _ _ _ k (rw (last-apart xs c l e) at (value-after r (take (length xs - 1) xs) (copy ∷ []) (c ∷ []) last)))
 
-  -- four last coefficients, and what is left, become one by Horner's rule
-  pub horner-four_joined : (r : B) (front : List A) (a b c d d2 d3 d4 out whole : A) → same d2 (sum (scaling d r) c) → same d3 (sum (scaling d2 r) b) → same d4 (sum (scaling d3 r) a)
-      → same (at r (front ++ a ∷ b ∷ c ∷ d ∷ [])) whole → same out (at r (front ++ d4 ∷ [])) → same out whole
-  horner-four_joined r front a b c d d2 d3 d4 out whole h i j k o =
-      let joined : same (at r (d4 ∷ [])) (at r (a ∷ b ∷ c ∷ d ∷ [])) =
-      E.transitive _ _ _ (horner-next r [] a d3 d4 j) (E.transitive _ _ _ (horner-next r (a ∷ []) b d2 d3 i) (horner-next r (a ∷ b ∷ []) c d d2 h)) in
-      E.transitive _ _ _ o (E.transitive _ _ _ (value-after r front (d4 ∷ []) (a ∷ b ∷ c ∷ d ∷ []) joined) k)
+  module _ (E' : IsEquality same_scalar) (P' : IsProduct same_scalar product) where
+    -- a copy, squared
+    pub square-made : (x copy new : B) → same_scalar copy x → same_scalar new (product copy copy) → same_scalar new (product x x)
+    square-made x copy new h k = E'.transitive _ _ _ k (P'.respects _ _ _ _ h h)
 
-  value-append : (r : B) (p q : List A) → same (at r (p ++ q)) (sum (at r p) (scaling (at r q) (power one product r (length p))))
-  value-append r [] q =
-      rw (power-zero one product r) (E.symmetric _ _ (E.transitive _ _ _ (G.identity (scaling (at r q) one)) (M.identity (at r q))))
-  value-append r (a ∷ p) q =
-      let n = power one product r (length p) in
+  two-more : (r r2 : B) (a b : A) (p : List A) → same_scalar r2 (product r r) → same (at r (a ∷ b ∷ p)) (sum (sum a (scaling b r)) (scaling (at r p) r2))
+  two-more r r2 a b p e =
       let s = λ (x y : A). E.symmetric x y in
-      let rest : same (scaling (at r (p ++ q)) r) (scaling (sum (at r p) (scaling (at r q) n)) r) = M.respects_points _ _ r (value-append r p q) in
-      rw (power-suc one product r (length p))
-      (grw (
+      let next : same (scaling (at r (b ∷ p)) r) (scaling (sum b (scaling (at r p) r)) r) = M.respects_points _ _ r (by_horner r b p) in
+      let square : same (scaling (at r p) (product r r)) (scaling (at r p) r2) = s _ _ (M.respects_scalars (at r p) _ _ e) in
+      grw (
         E.transitive,
         E.reflexive,
         G.respects_sum,
-        by_horner r a (p ++ q),
+        by_horner r a (b ∷ p),
+        next,
+        M.sum_of_points b (scaling (at r p) r) r,
+        M.product_of_scalars (at r p) r r,
+        square,
+        s _ _ (G.associative a (scaling b r) (scaling (at r p) r2)),
+      )
+
+  -- four coefficients by two halves
+  four-more : (r r2 r4 : B) (a b c d b' d' low high group : A) (p : List A) → same_scalar r2 (product r r) → same_scalar r4 (product r2 r2)
+      → same b' b → same low (sum (scaling b' r) a) → same d' d → same high (sum (scaling d' r) c) → same group (sum (scaling high r2) low)
+      → same (at r (a ∷ b ∷ c ∷ d ∷ p)) (sum group (scaling (at r p) r4))
+  four-more r r2 r4 a b c d b' d' low high group p e f hb hl hd hh hg =
+      let s = λ (x y : A). E.symmetric x y in
+      let half : (x y y' z : A) → same y' y → same z (sum (scaling y' r) x) → same (sum x (scaling y r)) z =
+      λ x y y' z k l. s _ _ (E.transitive _ _ _ l (E.transitive _ _ _ (G.respects_sum _ _ _ _ (M.respects_points _ _ r k) (E.reflexive x)) (G.commutative (scaling y r) x))) in
+      let rest : same (scaling (at r (c ∷ d ∷ p)) r2) (scaling (sum high (scaling (at r p) r2)) r2) =
+      M.respects_points _ _ r2 (E.transitive _ _ _ (two-more r r2 c d p e) (G.respects_sum _ _ _ _ (half c d d' high hd hh) (E.reflexive (scaling (at r p) r2)))) in
+      let fourth : same (scaling (at r p) (product r2 r2)) (scaling (at r p) r4) = s _ _ (M.respects_scalars (at r p) _ _ f) in
+      grw (
+        E.transitive,
+        E.reflexive,
+        G.respects_sum,
+        two-more r r2 a b (c ∷ d ∷ p) e,
+        half a b b' low hb hl,
         rest,
-        M.sum_of_points (at r p) (scaling (at r q) n) r,
-        M.product_of_scalars (at r q) n r,
-        s _ _ (G.associative a (scaling (at r p) r) (scaling (at r q) (product n r))),
-        s _ _ (by_horner r a p),
-      ))
+        M.sum_of_points high (scaling (at r p) r2) r2,
+        M.product_of_scalars (at r p) r2 r2,
+        fourth,
+        s _ _ (G.associative low (scaling high r2) (scaling (at r p) r4)),
+        G.commutative low (scaling high r2),
+        s _ _ hg,
+      )
 
-  module _ {negative_scalar : B → B} (E' : IsEquality same_scalar) (G' : IsGroup same_scalar zero_scalar sum_scalar negative_scalar) (P' : IsProduct same_scalar product)
-      (R' : IsRing same_scalar sum_scalar product one) where
-    -- coefficients that are added, after those of the other list are scaled by x
-    value-added : (r x : B) (n p q : A) (new ps qs : List A) → same n (sum (scaling q x) p) → same (at r new) (sum (at r ps) (scaling (at r qs) x))
-        → same (at r (n ∷ new)) (sum (at r (p ∷ ps)) (scaling (at r (q ∷ qs)) x))
-    value-added r x n p q new ps qs h k =
-        let s = λ (x y : A). E.symmetric x y in
-        let turned : same (scaling (scaling (at r qs) x) r) (scaling (scaling (at r qs) r) x) =
-        E.transitive _ _ _ (M.product_of_scalars (at r qs) x r) (E.transitive _ _ _ (M.respects_scalars (at r qs) _ _ (P'.commutative x r)) (s _ _ (M.product_of_scalars (at r qs) r x))) in
-        let rest : same (scaling (at r new) r) (sum (scaling (at r ps) r) (scaling (scaling (at r qs) r) x)) =
-        E.transitive _ _ _ (M.respects_points _ _ r k) (E.transitive _ _ _ (M.sum_of_points (at r ps) (scaling (at r qs) x) r) (G.respects_sum _ _ _ _ (E.reflexive (scaling (at r ps) r)) turned)) in
-        let scaled : same (sum (scaling q x) (scaling (scaling (at r qs) r) x)) (scaling (at r (q ∷ qs)) x) =
-        E.transitive _ _ _ (s _ _ (M.sum_of_points q (scaling (at r qs) r) x)) (M.respects_points _ _ x (s _ _ (by_horner r q qs))) in
-        grw (
-          E.transitive,
-          E.reflexive,
-          G.respects_sum,
-          by_horner r n new,
-          rest,
-          h,
-          G.commutative (scaling q x) p,
-          interchange p (scaling q x) (scaling (at r ps) r) (scaling (scaling (at r qs) r) x),
-          s _ _ (by_horner r p ps),
-          scaled,
-        )
-
-    -- the four last coefficients are copied
-    pub horner-four_begun : (r : B) (xs : List A) (a b c d a' b' c' d' : A) → 4 ≤ length xs
-        → a ≡ get_or xs (length xs - 4) a → b ≡ get_or xs (length xs - 3) b → c ≡ get_or xs (length xs - 2) c → d ≡ get_or xs (length xs - 1) d
-        → same a' a → same b' b → same c' c → same d' d → same (at r (take (length xs - 4) xs ++ a' ∷ b' ∷ c' ∷ d' ∷ [])) (at r xs)
-    horner-four_begun r xs a b c d a' b' c' d' l ia ib ic id ha hb hc hd =
-        let last : same (at r (a' ∷ b' ∷ c' ∷ d' ∷ [])) (at r (a ∷ b ∷ c ∷ d ∷ [])) =
-        value_over-respects E G M E' P' r r (E'.reflexive r) (a' ∷ b' ∷ c' ∷ d' ∷ []) (a ∷ b ∷ c ∷ d ∷ []) (ha, (hb, (hc, (hd, tt)))) in
-        rw (four-apart xs a b c d l ia ib ic id) at (value-after r (take (length xs - 4) xs) (a' ∷ b' ∷ c' ∷ d' ∷ []) (a ∷ b ∷ c ∷ d ∷ []) last)
-
-    fourth_power : (r : B) → same_scalar (power one product r 4) (product (product r r) (product r r))
-    fourth_power r =
-        rw (power-suc one product r 3, power-suc one product r 2, power-suc one product r 1, power-suc one product r 0, power-zero one product r)
-        (ring_same E' G' P' R' (r ∷ []) ((((𝟙 ⊗ v0) ⊗ v0) ⊗ v0) ⊗ v0) ((v0 ⊗ v0) ⊗ (v0 ⊗ v0)) refl)
-
-    -- the fourth power, by two squarings of a copy
-    pub fourth-made : (r copy second fourth : B) → same_scalar copy r → same_scalar second (product copy copy) → same_scalar fourth (product second second) → same_scalar fourth (product (product r r) (product r r))
-    fourth-made r copy second fourth h k l =
-        let square : same_scalar second (product r r) = E'.transitive _ _ _ k (P'.respects _ _ _ _ h h) in
-        E'.transitive _ _ _ l (P'.respects _ _ _ _ square square)
-
-    -- four steps of Horner's rule side by side
-    horner-four_next : (r x : B) (front : List A) (a b c d e f g h a' b' c' d' : A) → same_scalar x (product (product r r) (product r r))
-        → same a' (sum (scaling a x) e) → same b' (sum (scaling b x) f) → same c' (sum (scaling c x) g) → same d' (sum (scaling d x) h)
-        → same (at r (front ++ a' ∷ b' ∷ c' ∷ d' ∷ [])) (at r (front ++ e ∷ f ∷ g ∷ h ∷ a ∷ b ∷ c ∷ d ∷ []))
-    horner-four_next r x front a b c d e f g h a' b' c' d' k i j l m =
-        let none : same zero (sum zero (scaling zero x)) = E.symmetric _ _ (E.transitive _ _ _ (G.identity (scaling zero x)) (scaling_zero E G M x)) in
-        let made : same (at r (a' ∷ b' ∷ c' ∷ d' ∷ [])) (sum (at r (e ∷ f ∷ g ∷ h ∷ [])) (scaling (at r (a ∷ b ∷ c ∷ d ∷ [])) x)) =
-        value-added r x a' e a (b' ∷ c' ∷ d' ∷ []) (f ∷ g ∷ h ∷ []) (b ∷ c ∷ d ∷ []) i
-        (value-added r x b' f b (c' ∷ d' ∷ []) (g ∷ h ∷ []) (c ∷ d ∷ []) j (value-added r x c' g c (d' ∷ []) (h ∷ []) (d ∷ []) l (value-added r x d' h d [] [] [] m none))) in
-        let fourth : same_scalar x (power one product r 4) = E'.transitive _ _ _ k (E'.symmetric _ _ (fourth_power r)) in
-        value-after r front (a' ∷ b' ∷ c' ∷ d' ∷ []) (e ∷ f ∷ g ∷ h ∷ a ∷ b ∷ c ∷ d ∷ [])
-        (E.transitive _ _ _ made
-        (E.transitive _ _ _ (G.respects_sum _ _ _ _ (E.reflexive (at r (e ∷ f ∷ g ∷ h ∷ []))) (M.respects_scalars (at r (a ∷ b ∷ c ∷ d ∷ [])) _ _ fourth))
-        (E.symmetric _ _ (value-append r (e ∷ f ∷ g ∷ h ∷ []) (a ∷ b ∷ c ∷ d ∷ [])))))
-
-    -- the last four coefficients that are left are taken
-    pub horner-four_taken : (r x : B) (front : List A) (a b c d e f g h a' b' c' d' whole : A) → same_scalar x (product (product r r) (product r r)) → 4 ≤ length front
-        → e ≡ get_or front (length front - 4) e → f ≡ get_or front (length front - 3) f → g ≡ get_or front (length front - 2) g → h ≡ get_or front (length front - 1) h
-        → same a' (sum (scaling a x) e) → same b' (sum (scaling b x) f) → same c' (sum (scaling c x) g) → same d' (sum (scaling d x) h)
-        → same (at r (front ++ a ∷ b ∷ c ∷ d ∷ [])) whole → same (at r (take (length front - 4) front ++ a' ∷ b' ∷ c' ∷ d' ∷ [])) whole
-    horner-four_taken r x front a b c d e f g h a' b' c' d' whole four l ie if ig ih i j m n k =
-        let left = take (length front - 4) front in
-        let apart : (left ++ e ∷ f ∷ g ∷ h ∷ []) ++ a ∷ b ∷ c ∷ d ∷ [] ≡ front ++ a ∷ b ∷ c ∷ d ∷ [] = rw (four-apart front e f g h l ie if ig ih) refl in
-        let apart' : left ++ e ∷ f ∷ g ∷ h ∷ a ∷ b ∷ c ∷ d ∷ [] ≡ front ++ a ∷ b ∷ c ∷ d ∷ [] = simp append_assoc at apart in
-        let k' : same (at r (left ++ e ∷ f ∷ g ∷ h ∷ a ∷ b ∷ c ∷ d ∷ [])) whole = rw apart' k in
-        E.transitive _ _ _ (horner-four_next r x left a b c d e f g h a' b' c' d' four i j m n) k'
+  -- the last four coefficients that are left are taken
+  pub horner-four_taken : (r r2 r4 : B) (front : List A) (a b c d b' d' low high group out new whole : A) → same_scalar r2 (product r r) → same_scalar r4 (product r2 r2) → 4 ≤ length front
+      → a ≡ get_or front (length front - 4) a → b ≡ get_or front (length front - 3) b → c ≡ get_or front (length front - 2) c → d ≡ get_or front (length front - 1) d
+      → same b' b → same low (sum (scaling b' r) a) → same d' d → same high (sum (scaling d' r) c) → same group (sum (scaling high r2) low) → same new (sum (scaling out r4) group)
+      → same (at r (front ++ out ∷ [])) whole → same (at r (take (length front - 4) front ++ new ∷ [])) whole
+  horner-four_taken r r2 r4 front a b c d b' d' low high group out new whole e f l ia ib ic id hb hl hd hh hg hn k =
+      let left = take (length front - 4) front in
+      let apart : (left ++ a ∷ b ∷ c ∷ d ∷ []) ++ out ∷ [] ≡ front ++ out ∷ [] = rw (four-apart front a b c d l ia ib ic id) refl in
+      let apart' : left ++ a ∷ b ∷ c ∷ d ∷ out ∷ [] ≡ front ++ out ∷ [] = simp append_assoc at apart in
+      let k' : same (at r (left ++ a ∷ b ∷ c ∷ d ∷ out ∷ [])) whole = rw apart' k in
+      let last : same (scaling out r4) (scaling (at r (out ∷ [])) r4) = M.respects_points _ _ r4 (E.symmetric _ _ (value-one r out)) in
+      let made : same new (sum group (scaling (at r (out ∷ [])) r4)) =
+      E.transitive _ _ _ hn (E.transitive _ _ _ (G.commutative (scaling out r4) group) (G.respects_sum _ _ _ _ (E.reflexive group) last)) in
+      let four = four-more r r2 r4 a b c d b' d' low high group (out ∷ []) e f hb hl hd hh hg in
+      E.transitive _ _ _ (value-after r left (new ∷ []) (a ∷ b ∷ c ∷ d ∷ out ∷ []) (E.transitive _ _ _ (value-one r new) (E.transitive _ _ _ made (E.symmetric _ _ four)))) k'

@@ -1,6 +1,6 @@
 //! Values of polynomials, by Horner's rule and as sums weighted by powers.
 
-ghost use Rattle.std.specs.Prelude.{◌≡◌, ◌≤◌, ◌++◌, [], ◌∷◌, IsTrue, IsOk, IfOk, OnOk, length};
+ghost use Rattle.std.specs.Prelude.{◌≡◌, ◌++◌, [], ◌∷◌, IsTrue, IsOk, IfOk, OnOk, length};
 ghost use Rattle.std.specs.List.{AllZip, zip};
 ghost use Rattle.math_theory.specs.Domains.{coset};
 ghost use Rattle.math_base.specs.Members.{value};
@@ -18,18 +18,16 @@ impl<K: Drop> Poly<K> {
         ensures ok { IfOk result (λ answer. K.same answer (value K.Space R.Ring self.now r.now)) }
         ensures never { IsTrue K.NEVER_REFUSES → IsOk result }
     {
-        let coefficients = self.coefficients.as_slice();
-        if R::NEVER_REFUSES && coefficients.len() >= 8 {
-            return horner_by_fours(alloc, coefficients, r);
+        let [front @ .., last] = self.coefficients.as_slice() else {
+            unreachable!()
+        };
+        let last = last.clone(alloc)?;
+        if R::NEVER_REFUSES && K::NEVER_REFUSES {
+            let out = horner_by_fours(alloc, front, last, r)?;
+            return Ok(out);
         }
-        match coefficients {
-            [front @ .., last] => {
-                let last = last.clone(alloc)?;
-                let out = horner(alloc, front, last, r)?;
-                Ok(out)
-            }
-            [] => unreachable!(),
-        }
+        let out = horner(alloc, front, last, r)?;
+        Ok(out)
     }
 
     /// The value at r, as `eval` gives it, by one call of `msm`: the sum of coefficient i weighted by
@@ -100,37 +98,36 @@ fn horner_step<R: Ring, K: Space<R>>(alloc: Global, out: &mut K, r: &R, coeffici
     Ok(())
 }
 
-/// The value at r of the polynomial with these coefficients.
+/// The value that `horner` gives, by four coefficients at a time, which takes fewer products one after
+/// the other, but copies some coefficients.
 ///
-/// X^4 a(X) has the value of r^4 a(X) at r. So four more coefficients from the end may be added to the
-/// last four, if these are scaled by r^4 before: four times Horner's rule at r^4, side by side, of which
-/// none waits for another. At last four coefficients and those that are left over are a polynomial with
-/// the same value.
-fn horner_by_fours<R: Ring, K: Space<R>>(alloc: Global, coefficients: &[K], r: &R) -> Mem<K>
-    requires { 4 ≤ length coefficients.now }
-    ensures ok { IfOk result (λ answer. K.same answer (value K.Space R.Ring coefficients.now r.now)) }
+/// The value of a + b X + c X^2 + d X^3 + X^4 p is (a + b r) + (c + d r) r^2, and to that the value of
+/// p scaled by r^4. So for each four coefficients one product waits for those of the four before.
+fn horner_by_fours<R: Ring, K: Space<R>>(
+    alloc: Global,
+    coefficients: &[K],
+    last: K,
+    r: &R,
+) -> Mem<K>
+    ensures ok { IfOk result (λ answer. K.same answer (value K.Space R.Ring (coefficients.now ++ last ∷ []) r.now)) }
     ensures never { IsTrue R.NEVER_REFUSES → IsTrue K.NEVER_REFUSES → IsOk result }
 {
-    let [front @ .., a, b, c, d] = coefficients else {
-        unreachable!()
-    };
-    let mut front = front;
-    let (mut a, mut b) = (a.clone(alloc)?, b.clone(alloc)?);
-    let (mut c, mut d) = (c.clone(alloc)?, d.clone(alloc)?);
-    let mut r4 = r.clone(alloc)?;
+    let mut r2 = r.clone(alloc)?;
+    r2.square(alloc)?;
+    let mut r4 = r2.clone(alloc)?;
     r4.square(alloc)?;
-    r4.square(alloc)?;
-    while let [before @ .., e, f, g, h] = front {
-        horner_step(alloc, &mut a, &r4, e)?;
-        horner_step(alloc, &mut b, &r4, f)?;
-        horner_step(alloc, &mut c, &r4, g)?;
-        horner_step(alloc, &mut d, &r4, h)?;
+    let mut out = last;
+    let mut front = coefficients;
+    while let [before @ .., a, b, c, d] = front {
+        let mut low = b.clone(alloc)?;
+        horner_step(alloc, &mut low, r, a)?;
+        let mut high = d.clone(alloc)?;
+        horner_step(alloc, &mut high, r, c)?;
+        horner_step(alloc, &mut high, &r2, &low)?;
+        horner_step(alloc, &mut out, &r4, &high)?;
         front = before;
     }
-    horner_step(alloc, &mut d, r, &c)?;
-    horner_step(alloc, &mut d, r, &b)?;
-    horner_step(alloc, &mut d, r, &a)?;
-    let out = horner(alloc, front, d, r)?;
+    let out = horner(alloc, front, out, r)?;
     Ok(out)
 }
 
