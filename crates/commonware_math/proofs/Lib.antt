@@ -1,3 +1,4 @@
 pub mod WeightLoops
 pub mod InterpolatorLaws
 pub mod EqualKeys
+pub mod DifferencesByFours

@@ -11,3 +11,4 @@ pub mod AddedTerms
 pub mod ZippedLists
 pub mod CombinationSteps
 pub mod ListSizes
+pub mod HornerSteps

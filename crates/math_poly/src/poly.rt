@@ -1,11 +1,10 @@
 //! Polynomials, by the lists of their coefficients.
 
-ghost use Rattle.std.specs.Prelude.{◌≡◌, ◌+◌, ◌<◌, ◌^◌, IsTrue, IsOk, IfOk, List, Some, length, slice_get};
+ghost use Rattle.std.specs.Prelude.{◌≡◌, ◌+◌, ◌<◌, ◌^◌, List, Some, length, slice_get};
 ghost use Rattle.std.specs.List.{AllZip};
 ghost use Rattle.math_codec.specs.Lists.{list_spelling, scan_list, AdmitsList, ListGrows};
 ghost use Rattle.math_codec.specs.ListLaws.{list_again, list_apart};
 ghost use Rattle.math_codec.specs.Ranges.{nonzero};
-ghost use Rattle.math_base.specs.Members.{value};
 
 mod algebra;
 mod commitment;
@@ -13,7 +12,6 @@ mod evaluation;
 mod sampling;
 mod writing;
 
-use math_base::algebra::{Mem, Ring, Space};
 use math_codec::codec::{Encoding, Error, LengthRange, Read, read_list};
 use std::alloc::Global;
 use std::fmt;
@@ -60,24 +58,6 @@ impl<K: Drop> Poly<K> {
         ensures { slice_get self.now 0 ≡ Some result.now }
     {
         &self.coefficients[0]
-    }
-
-    /// The value at r: the sum of coefficient i scaled by r to the power i.
-    ///
-    /// By Horner's rule: the value of a + X p is a plus the value of p scaled by r, so each
-    /// coefficient, from the last to the first, takes one scaling and one sum.
-    pub fn eval<R: Ring>(&self, alloc: Global, r: &R) -> Mem<K>
-    where
-        K: Space<R>,
-        ensures ok { IfOk result (λ answer. K.same answer (value K.Space R.Ring self.now r.now)) }
-        ensures never { IsTrue K.NEVER_REFUSES → IsOk result }
-    {
-        let mut out = K::zero(alloc)?;
-        for coefficient in self.coefficients.iter().rev() {
-            out.scale_assign(alloc, r)?;
-            out.add_assign(alloc, coefficient)?;
-        }
-        Ok(out)
     }
 }
 

@@ -1,6 +1,6 @@
-//! Values of polynomials as sums weighted by powers.
+//! Values of polynomials, by Horner's rule and as sums weighted by powers.
 
-ghost use Rattle.std.specs.Prelude.{◌≡◌, IfOk, OnOk, length};
+ghost use Rattle.std.specs.Prelude.{◌≡◌, ◌++◌, [], ◌∷◌, IsTrue, IsOk, IfOk, OnOk, length};
 ghost use Rattle.std.specs.List.{AllZip, zip};
 ghost use Rattle.math_theory.specs.Domains.{coset};
 ghost use Rattle.math_base.specs.Members.{value};
@@ -11,6 +11,25 @@ use math_base::algebra::{Mem, Ring, Space, powers};
 use std::alloc::Global;
 
 impl<K: Drop> Poly<K> {
+    /// The value at r: the sum of coefficient i scaled by r to the power i.
+    pub fn eval<R: Ring>(&self, alloc: Global, r: &R) -> Mem<K>
+    where
+        K: Space<R>,
+        ensures ok { IfOk result (λ answer. K.same answer (value K.Space R.Ring self.now r.now)) }
+        ensures never { IsTrue K.NEVER_REFUSES → IsOk result }
+    {
+        let [front @ .., last] = self.coefficients.as_slice() else {
+            unreachable!()
+        };
+        let last = last.clone(alloc)?;
+        if R::NEVER_REFUSES && K::NEVER_REFUSES {
+            let out = horner_by_fours(alloc, front, last, r)?;
+            return Ok(out);
+        }
+        let out = horner(alloc, front, last, r)?;
+        Ok(out)
+    }
+
     /// The value at r, as `eval` gives it, by one call of `msm`: the sum of coefficient i weighted by
     /// r to the power i.
     ///
@@ -50,6 +69,66 @@ impl<K: Drop> Poly<K> {
         let out = K::msm(alloc, &self.coefficients, &weights)?;
         Ok(out)
     }
+}
+
+/// The value at r of the polynomial with these coefficients and then `last`.
+///
+/// By Horner's rule: the value of a + X p is a plus the value of p scaled by r, so each coefficient,
+/// from the last to the first, takes one scaling and one sum.
+fn horner<R: Ring, K: Space<R>>(alloc: Global, coefficients: &[K], last: K, r: &R) -> Mem<K>
+    ensures ok { IfOk result (λ answer. K.same answer (value K.Space R.Ring (coefficients.now ++ last ∷ []) r.now)) }
+    ensures never { IsTrue K.NEVER_REFUSES → IsOk result }
+{
+    let mut out = last;
+    let mut front = coefficients;
+    while let [before @ .., coefficient] = front {
+        horner_step(alloc, &mut out, r, coefficient)?;
+        front = before;
+    }
+    Ok(out)
+}
+
+/// Scales `out` by r and adds a coefficient.
+fn horner_step<R: Ring, K: Space<R>>(alloc: Global, out: &mut K, r: &R, coefficient: &K) -> Mem<()>
+    ensures ok { OnOk result (K.same out.new (K.sum (K.scaling out.old r.now) coefficient.now)) }
+    ensures never { IsTrue K.NEVER_REFUSES → IsOk result }
+{
+    out.scale_assign(alloc, r)?;
+    out.add_assign(alloc, coefficient)?;
+    Ok(())
+}
+
+/// The value that `horner` gives, by four coefficients at a time, which takes fewer products one after
+/// the other, but copies some coefficients.
+///
+/// The value of a + b X + c X^2 + d X^3 + X^4 p is (a + b r) + (c + d r) r^2, and to that the value of
+/// p scaled by r^4. So for each four coefficients one product waits for those of the four before.
+fn horner_by_fours<R: Ring, K: Space<R>>(
+    alloc: Global,
+    coefficients: &[K],
+    last: K,
+    r: &R,
+) -> Mem<K>
+    ensures ok { IfOk result (λ answer. K.same answer (value K.Space R.Ring (coefficients.now ++ last ∷ []) r.now)) }
+    ensures never { IsTrue R.NEVER_REFUSES → IsTrue K.NEVER_REFUSES → IsOk result }
+{
+    let mut r2 = r.clone(alloc)?;
+    r2.square(alloc)?;
+    let mut r4 = r2.clone(alloc)?;
+    r4.square(alloc)?;
+    let mut out = last;
+    let mut front = coefficients;
+    while let [before @ .., a, b, c, d] = front {
+        let mut low = b.clone(alloc)?;
+        horner_step(alloc, &mut low, r, a)?;
+        let mut high = d.clone(alloc)?;
+        horner_step(alloc, &mut high, r, c)?;
+        horner_step(alloc, &mut high, &r2, &low)?;
+        horner_step(alloc, &mut out, &r4, &high)?;
+        front = before;
+    }
+    let out = horner(alloc, front, out, r)?;
+    Ok(out)
 }
 
 /// The first n of shift, shift * base, shift * base^2 and so on.

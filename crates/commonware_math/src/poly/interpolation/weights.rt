@@ -70,15 +70,44 @@ fn one_at<R: Ring>(alloc: Global, k: usize, n: usize) -> Mem<Vec<R>>
 }
 
 /// The product of `start` and of r - x over the roots x.
+///
+/// The differences from four roots are multiplied with each other first, so that for each four roots
+/// one product waits for those of the roots before.
 fn times_differences<R: Ring>(alloc: Global, start: R, r: &R, roots: &[R]) -> Mem<R>
     ensures { IfOk result (λ answer. R.same answer (R.product start (root_product R.sum R.negative R.product R.one r.now roots.now))) }
 {
     let mut out = start;
-    for x in roots {
-        let mut difference = r.clone(alloc)?;
-        difference.sub_assign(alloc, x)?;
+    let mut left = roots;
+    while let [a, b, c, d, after @ ..] = left {
+        let mut four = difference_product(alloc, r, a, b)?;
+        let others = difference_product(alloc, r, c, d)?;
+        four.mul_assign(alloc, &others)?;
+        out.mul_assign(alloc, &four)?;
+        left = after;
+    }
+    for x in left {
+        let difference = difference(alloc, r, x)?;
         out.mul_assign(alloc, &difference)?;
     }
+    Ok(out)
+}
+
+/// The product of r - x and r - y.
+fn difference_product<R: Ring>(alloc: Global, r: &R, x: &R, y: &R) -> Mem<R>
+    ensures { IfOk result (λ answer. R.same answer (R.product (R.sum r.now (R.negative x.now)) (R.sum r.now (R.negative y.now)))) }
+{
+    let mut out = difference(alloc, r, x)?;
+    let other = difference(alloc, r, y)?;
+    out.mul_assign(alloc, &other)?;
+    Ok(out)
+}
+
+/// r - x.
+fn difference<R: Ring>(alloc: Global, r: &R, x: &R) -> Mem<R>
+    ensures { IfOk result (λ answer. R.same answer (R.sum r.now (R.negative x.now))) }
+{
+    let mut out = r.clone(alloc)?;
+    out.sub_assign(alloc, x)?;
     Ok(out)
 }
 
@@ -88,8 +117,7 @@ fn divisor<R: Ring>(alloc: Global, points: &[R], x: &R, i: usize) -> Mem<R>
     ensures { IfOk result (λ answer. R.same answer (weight_divisor R.zero R.sum R.negative R.product R.one x.now points.now i)) }
 {
     let p = &points[i];
-    let mut difference = x.clone(alloc)?;
-    difference.sub_assign(alloc, p)?;
+    let difference = difference(alloc, x, p)?;
     let front = times_differences(alloc, difference, p, &points[..i])?;
     let out = times_differences(alloc, front, p, &points[i + 1..])?;
     Ok(out)

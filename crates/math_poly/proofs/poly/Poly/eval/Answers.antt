@@ -1,7 +1,14 @@
-use Rattle.math_theory.proofs.polynomials.Horner.{horner_step}
+use Rattle.math_poly.proofs.HornerSteps.{horner-all}
 use Rattle.math_poly.proofs.poly.Poly.eval.Goals as goal
 
-pub loop-coefficient-preserved : goal.loop-coefficient-preserved
-loop-coefficient-preserved g c = let K = g.met.K in
-    horner_step K.Object.equality K.Additive.group K.Space.spans c.loop-coefficient.yielded c.in-Some.coefficient _ _ _ _
-    c.loop-coefficient.invariant c.in_ok-scale_assign.ensures.ok c.in_ok-add_assign.ensures.ok
+pub returns-then-NEVER_REFUSES-2-clause-ok : goal.returns-then-NEVER_REFUSES-2-clause-ok
+returns-then-NEVER_REFUSES-2-clause-ok g c =
+    let K = g.met.K in
+    horner-all K.Object.equality K.Additive.group K.Space.spans c.args.r.now c.as_slice.result.now c.args.self.now c.last-item.result c.in_ok-last.last c.in_ok-out.out (cc)
+    c.in-len1-up.len_at_least c.last-item.is c.in_ok-last.ensures.ok c.in_ok-out.ensures.ok
+
+pub returns-clause-ok : goal.returns-clause-ok
+returns-clause-ok g c =
+    let K = g.met.K in
+    horner-all K.Object.equality K.Additive.group K.Space.spans c.args.r.now c.as_slice.result.now c.args.self.now c.last-item.result c.in_ok-last.last c.in_ok-out-2.out (cc)
+    c.in-len1-up.len_at_least c.last-item.is c.in_ok-last.ensures.ok c.in_ok-out-2.ensures.ok
