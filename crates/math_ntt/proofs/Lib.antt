@@ -10,3 +10,8 @@ pub mod FirstRows
 pub mod WrittenCells
 pub mod ComparedTruths
 pub mod CombinedPairs
+pub mod TransformClasses
+pub mod ColumnHalves
+pub mod TransformedHalves
+pub mod Levels
+pub mod RootInverses

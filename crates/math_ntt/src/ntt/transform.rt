@@ -14,7 +14,7 @@
 //! The way back undoes the levels from the last to the first: a + b and (a - b) w^-i are twice what a and
 //! b were made of. No level halves a cell, so that in the end each cell is multiplied once by 1 / N.
 
-ghost use Rattle.std.specs.Prelude.{◌≡◌, ◌+◌, ◌*◌, ◌<◌, ◌≤◌, ◌^◌, ℕ, IfOk, OnOk, length, slice_index_or};
+ghost use Rattle.std.specs.Prelude.{◌≡◌, ◌+◌, ◌-◌, ◌*◌, ◌<◌, ◌≤◌, ◌^◌, ℕ, IfOk, OnOk, length, slice_index_or};
 ghost use Rattle.std.specs.Int.{IsPowerOfTwo};
 ghost use Rattle.math_theory.specs.Powers.{power};
 ghost use Rattle.math_ntt.specs.CombinedCells.{AreTransformed, AreTransformedBack};
@@ -120,6 +120,15 @@ pub(super) fn interpolate_rows<F: FieldNTT>(
     Ok(())
 }
 
+// Half of 2^lg.
+fn half_of(lg: u8) -> usize
+    requires positive { 0 < lg }
+    requires small { lg < 64 }
+    ensures { result ≡ 2 ^ (lg - 1) }
+{
+    1 << (lg - 1)
+}
+
 // Transforms both halves, and combines them.
 fn transform_halves<F: FieldNTT>(
     alloc: Global,
@@ -142,7 +151,7 @@ fn transform_halves<F: FieldNTT>(
     if lg == 0 {
         return Ok(());
     }
-    let half = 1usize << (lg - 1);
+    let half = half_of(lg);
     let (low, high) = cells.split_at_mut(half * cols);
     let (below, powers) = table.split_at(half);
     transform_halves(alloc, low, cols, lg - 1, below, work)?;
@@ -173,7 +182,7 @@ fn untransform_halves<F: FieldNTT>(
     if lg == 0 {
         return Ok(());
     }
-    let half = 1usize << (lg - 1);
+    let half = half_of(lg);
     let (low, high) = cells.split_at_mut(half * cols);
     let (below, powers) = table.split_at(half);
     combine_halves::<F, false>(alloc, low, high, cols, powers, work)?;
