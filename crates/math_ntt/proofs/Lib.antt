@@ -15,3 +15,4 @@ pub mod ColumnHalves
 pub mod TransformedHalves
 pub mod Levels
 pub mod RootInverses
+pub mod ReversedRows

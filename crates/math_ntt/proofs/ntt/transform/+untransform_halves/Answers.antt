@@ -121,7 +121,7 @@ returns-clause-values g t c =
       one = g.F.Ring.one;
     } in
     let F = g.met.F in
-    let root = (λ l. g.F.Field.inverse (g.F.FieldNTT.root l)) in
+    let root : ℕ → g.row.F.Denot = (λ l. g.F.Field.inverse (g.F.FieldNTT.root l)) in
     let low : length c.combine_halves.new.low ≡ 2 ^ (c.args.lg - 1) * c.args.cols = omega (arith, c.combine_halves.auto.low, c.split_at_mut-low.ensures.front_len) in
     let high : length c.combine_halves.new.high ≡ 2 ^ (c.args.lg - 1) * c.args.cols =
     omega (arith, c.combine_halves.auto.high, c.split_at_mut-low.ensures.back_len, c.requires.size, h.cells) in
