@@ -16,3 +16,4 @@ pub mod TransformedHalves
 pub mod Levels
 pub mod RootInverses
 pub mod ReversedRows
+pub mod DomainTransforms
