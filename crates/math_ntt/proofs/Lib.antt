@@ -17,3 +17,5 @@ pub mod Levels
 pub mod RootInverses
 pub mod ReversedRows
 pub mod DomainTransforms
+pub mod ScaledCells
+pub mod PowerTables

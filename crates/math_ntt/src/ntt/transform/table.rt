@@ -45,7 +45,7 @@ fn add_entries<F: FieldNTT>(alloc: Global, table: &mut Vec<F>, i: usize, root: &
 fn add_level<F: FieldNTT>(alloc: Global, table: &mut Vec<F>, count: usize, root: &F) -> Mem<()>
     requires count { length table.old.items ≡ count + count }
     requires fits { count + count < 2 ^ 64 }
-    ensures { OnOk result (AddsLevel F.same F.zero F.product count root.now table.old.items table.new.items) }
+    ensures { OnOk result (AddsLevel F.same F.zero F.product count count root.now table.old.items table.new.items) }
 {
     for i in count..count + count {
         add_entries(alloc, table, i, root)?;
