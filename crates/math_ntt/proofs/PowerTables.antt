@@ -109,3 +109,11 @@ module _ {A : Type 0} (R : RingOf A) (E : IsEquality R.same) (G : IsGroup R.same
             | inl low ↦ subst (λ i. R.same (get_or new (2 ^ suc l + i) R.zero) (power R.one R.product w i)) (let q : i / 2 + i / 2 ≡ i = omega (arith, low) in q) (even (i / 2) half)
             | inr high ↦ subst (λ i. R.same (get_or new (2 ^ suc l + i) R.zero) (power R.one R.product w i)) (let q : i / 2 + i / 2 + 1 ≡ i = omega (arith, high) in q) (odd (i / 2) half)
           ]
+
+  pub powers-next : (l half : ℕ) (r : A) (old new : List A) → 0 < l → half ≡ 2 ^ (l - 1) → R.same r (root (l + 1)) → R.same (R.product (root (l + 1)) (root (l + 1))) (root l)
+      → ArePowersByLevel R root l old → AddsLevel R.same R.zero R.product half half r old new → ArePowersByLevel R root (l + 1) new
+  powers-next zero half r old new h half_is root_is square t a = absurd (omega (arith, h))
+  powers-next (suc l) half r old new h half_is root_is square t a =
+      let e : suc l + 1 ≡ suc (suc l) = omega arith in
+      let f : half ≡ 2 ^ l = half_is ∙ ap (λ n. 2 ^ n) (let q : suc l - 1 ≡ l = omega arith in q) in
+      rw e (powers-more l r old new (rw e at root_is) (rw e at square) t (rw f at a))
