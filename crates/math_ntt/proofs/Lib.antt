@@ -19,3 +19,4 @@ pub mod ReversedRows
 pub mod DomainTransforms
 pub mod ScaledCells
 pub mod PowerTables
+pub mod OnDomain
