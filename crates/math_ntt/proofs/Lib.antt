@@ -20,3 +20,4 @@ pub mod DomainTransforms
 pub mod ScaledCells
 pub mod PowerTables
 pub mod OnDomain
+pub mod OneColumn
