@@ -1,19 +1,19 @@
 -- The columns of two halves of a matrix, and what combining them does to a column of classes.
-use Rattle.std.proofs.Common.{◌≡◌, ◌∙◌, ℕ, zero, suc, ◌+◌, ◌*◌, ◌/◌, ◌<◌, ◌≤◌, max, Bool, true, false, List, [], ◌∷◌, ◌++◌, length, map, take, drop, get_or, refl, sym, ap, ap₂, arith}
-use Rattle.std.proofs.lemmas.List.{map-append, ext_get_or, take-take, drop-take, drop-drop, take_at, drop_at, length-map}
+use Rattle.std.proofs.Common.{◌≡◌, ◌∙◌, ℕ, zero, suc, ◌+◌, ◌*◌, ◌/◌, ◌<◌, true, false, List, ◌∷◌, ◌++◌, length, map, take, drop, get_or, refl, sym, ap, ap₂, arith}
+use Rattle.std.proofs.lemmas.List.{map-append, ext_get_or, take-take, drop-take, drop-drop, length-map}
 use Rattle.std.proofs.lemmas.Nat.{div-mul-add, mul-add-lt}
 use Rattle.math_theory.specs.Laws.{IsEquality, IsGroup, IsProduct, IsRing}
 use Rattle.math_theory.specs.OverRing as OverRing
 use Rattle.math_theory.specs.Powers.{power}
 use Rattle.math_theory.specs.Rings.{CommutativeRing}
-use Rattle.math_theory.proofs.Classes.{Class, class, class_same, same_class, ring_of_classes}
+use Rattle.math_theory.proofs.Classes.{Class, class, class_same, ring_of_classes}
 use Rattle.math_theory.proofs.ClassesOfLists.{power-class, coefficient-class}
 use Rattle.math_theory.proofs.Coefficients.{length-sum, length-difference, length-dilation, coefficient-sum, coefficient-difference, coefficient-dilation}
 use Rattle.math_base.specs.Members.{RingOf}
 use Rattle.math_ntt.specs.CombinedCells.{AreCombined}
 use Rattle.math_ntt.specs.DomainValues.{matrix_of}
 use Rattle.math_ntt.specs.Matrices.{pieces, column_of}
-use Rattle.math_ntt.proofs.MatrixRows.{length-pieces, length-column}
+use Rattle.math_ntt.proofs.MatrixRows.{length-column}
 use Rattle.math_ntt.proofs.PaddedPolynomials.{column-cell}
 
 module _ {A : Type 0} where
@@ -88,10 +88,10 @@ module _ {A : Type 0} (R : RingOf A) (E : IsEquality R.same) (G : IsGroup R.same
         by_places _ _ (length-classes_of_column n c k new_lows)
         (length-of_sum low _ (length-classes_of_column n c k lows) (length-of_dilation high (length-classes_of_column n c k highs)))
         (λ i m.
-          at-place n c k i new_lows l new_low_count ∙ class_same E _ _ (h.combined (i * c + k) (omega arith) (place i m)).sum
-          ∙ ap (λ x. C.sum (class E (get_or lows (i * c + k) R.zero)) (C.product (class E (get_or highs (i * c + k) R.zero)) x)) (factor i m)
-          ∙ sym (coefficient-sum C low (OverRing.polynomial_dilation C (class E w) high) i
-          ∙ ap₂ C.sum (low-at i) (coefficient-dilation C (class E w) high i ∙ ap (λ x. C.product x (OverRing.power C (class E w) i)) (high-at i))))
+        at-place n c k i new_lows l new_low_count ∙ class_same E _ _ (h.combined (i * c + k) (omega arith) (place i m)).sum
+        ∙ ap (λ x. C.sum (class E (get_or lows (i * c + k) R.zero)) (C.product (class E (get_or highs (i * c + k) R.zero)) x)) (factor i m)
+        ∙ sym (coefficient-sum C low (OverRing.polynomial_dilation C (class E w) high) i
+        ∙ ap₂ C.sum (low-at i) (coefficient-dilation C (class E w) high i ∙ ap (λ x. C.product x (OverRing.power C (class E w) i)) (high-at i))))
 
     pub differences-forward : AreCombined R true (λ p. get_or powers (p / c) R.zero) 0 (n * c) lows highs new_lows new_highs
         → classes_of_column n c k new_highs ≡ OverRing.polynomial_difference C low (OverRing.polynomial_dilation C (class E w) high)
@@ -99,18 +99,18 @@ module _ {A : Type 0} (R : RingOf A) (E : IsEquality R.same) (G : IsGroup R.same
         by_places _ _ (length-classes_of_column n c k new_highs)
         (length-of_difference low _ (length-classes_of_column n c k lows) (length-of_dilation high (length-classes_of_column n c k highs)))
         (λ i m.
-          at-place n c k i new_highs l new_high_count ∙ class_same E _ _ (h.combined (i * c + k) (omega arith) (place i m)).difference
-          ∙ ap (λ x. C.sum (class E (get_or lows (i * c + k) R.zero)) (C.negative (C.product (class E (get_or highs (i * c + k) R.zero)) x))) (factor i m)
-          ∙ sym (coefficient-difference C low (OverRing.polynomial_dilation C (class E w) high) i
-          ∙ ap₂ (λ x y. C.sum x (C.negative y)) (low-at i) (coefficient-dilation C (class E w) high i ∙ ap (λ x. C.product x (OverRing.power C (class E w) i)) (high-at i))))
+        at-place n c k i new_highs l new_high_count ∙ class_same E _ _ (h.combined (i * c + k) (omega arith) (place i m)).difference
+        ∙ ap (λ x. C.sum (class E (get_or lows (i * c + k) R.zero)) (C.negative (C.product (class E (get_or highs (i * c + k) R.zero)) x))) (factor i m)
+        ∙ sym (coefficient-difference C low (OverRing.polynomial_dilation C (class E w) high) i
+        ∙ ap₂ (λ x y. C.sum x (C.negative y)) (low-at i) (coefficient-dilation C (class E w) high i ∙ ap (λ x. C.product x (OverRing.power C (class E w) i)) (high-at i))))
 
     pub sums-back : AreCombined R false (λ p. get_or powers (p / c) R.zero) 0 (n * c) lows highs new_lows new_highs
         → classes_of_column n c k new_lows ≡ OverRing.polynomial_sum C low high
     sums-back h =
         by_places _ _ (length-classes_of_column n c k new_lows) (length-of_sum low high (length-classes_of_column n c k lows) (length-classes_of_column n c k highs))
         (λ i m.
-          at-place n c k i new_lows l new_low_count ∙ class_same E _ _ (h.combined (i * c + k) (omega arith) (place i m)).sum
-          ∙ sym (coefficient-sum C low high i ∙ ap₂ C.sum (low-at i) (high-at i)))
+        at-place n c k i new_lows l new_low_count ∙ class_same E _ _ (h.combined (i * c + k) (omega arith) (place i m)).sum
+        ∙ sym (coefficient-sum C low high i ∙ ap₂ C.sum (low-at i) (high-at i)))
 
     pub differences-back : AreCombined R false (λ p. get_or powers (p / c) R.zero) 0 (n * c) lows highs new_lows new_highs
         → classes_of_column n c k new_highs ≡ OverRing.polynomial_dilation C (class E w) (OverRing.polynomial_difference C low high)
@@ -118,7 +118,7 @@ module _ {A : Type 0} (R : RingOf A) (E : IsEquality R.same) (G : IsGroup R.same
         by_places _ _ (length-classes_of_column n c k new_highs)
         (length-of_dilation _ (length-of_difference low high (length-classes_of_column n c k lows) (length-classes_of_column n c k highs)))
         (λ i m.
-          at-place n c k i new_highs l new_high_count ∙ class_same E _ _ (h.combined (i * c + k) (omega arith) (place i m)).difference
-          ∙ ap (C.product (C.sum (class E (get_or lows (i * c + k) R.zero)) (C.negative (class E (get_or highs (i * c + k) R.zero))))) (factor i m)
-          ∙ sym (coefficient-dilation C (class E w) (OverRing.polynomial_difference C low high) i
-          ∙ ap (λ x. C.product x (OverRing.power C (class E w) i)) (coefficient-difference C low high i ∙ ap₂ (λ x y. C.sum x (C.negative y)) (low-at i) (high-at i))))
+        at-place n c k i new_highs l new_high_count ∙ class_same E _ _ (h.combined (i * c + k) (omega arith) (place i m)).difference
+        ∙ ap (C.product (C.sum (class E (get_or lows (i * c + k) R.zero)) (C.negative (class E (get_or highs (i * c + k) R.zero))))) (factor i m)
+        ∙ sym (coefficient-dilation C (class E w) (OverRing.polynomial_difference C low high) i
+        ∙ ap (λ x. C.product x (OverRing.power C (class E w) i)) (coefficient-difference C low high i ∙ ap₂ (λ x y. C.sum x (C.negative y)) (low-at i) (high-at i))))

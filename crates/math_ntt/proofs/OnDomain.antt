@@ -1,5 +1,5 @@
 -- What holds at the one lg of a number of rows.
-use Rattle.std.proofs.Common.{◌≡◌, ◌∙◌, inl, inr, ℕ, suc, ◌+◌, ◌*◌, ◌^◌, ◌<◌, ◌≤◌, List, sym, ap, subst, pow_mono, pow_pos, arith}
+use Rattle.std.proofs.Common.{◌≡◌, ◌∙◌, inl, inr, ℕ, suc, ◌*◌, ◌^◌, ◌<◌, ◌≤◌, List, sym, ap, subst, pow_mono, pow_pos, arith}
 use Rattle.std.proofs.lemmas.Bool.{cases_lt}
 use Rattle.math_theory.proofs.RootOrders.{power_of_two-suc}
 use Rattle.math_base.specs.Members.{RingOf}

@@ -1,8 +1,7 @@
 -- Values of one polynomial, as the only column of a matrix.
-use Rattle.std.proofs.Common.{◌≡◌, ◌∙◌, ℕ, ◌+◌, ◌*◌, ◌^◌, ◌<◌, ◌≤◌, List, length, get_or, sym, ap, subst, arith}
+use Rattle.std.proofs.Common.{◌≡◌, ◌∙◌, ℕ, ◌+◌, ◌*◌, ◌^◌, ◌<◌, List, length, get_or, ap, arith}
 use Rattle.std.proofs.lemmas.List.{ext_get_or}
 use Rattle.std.proofs.lemmas.List.FromFn.{length-map-range_with_len, get_or-map-range_with_len}
-use Rattle.math_theory.specs.Coefficients.{HaveSameCoefficients}
 use Rattle.math_theory.specs.Laws.{IsEquality, IsGroup, IsProduct, IsRing, IsField}
 use Rattle.math_theory.specs.Powers.{power, powers}
 use Rattle.math_theory.specs.RootLaws.{HasRootsOfUnity}
@@ -39,6 +38,6 @@ module _ {A : Type 0} (R : RingOf A) (E : IsEquality R.same) where
       let apart = HasCoset-of_order-same E G P L (root lg) shift (2 ^ lg) (roots.order lg most) roots.shift_is_not_zero (roots.shift_is_no_power lg most) in
       agreement-same E G P L K points a b (omega (arith, la, long)) (omega (arith, lb, long)) apart.distinct
       (λ j d l.
-        let within : j < 2 ^ lg = omega (arith, l, long) in
-        let point : get_or points j d ≡ power R.one R.product (root lg) j = get_or-map-range_with_len (power R.one R.product (root lg)) 0 (2 ^ lg) j j d within (omega arith) in
-        rw point (E.transitive _ _ _ (E.symmetric _ _ (value-at root lg a v la h j within)) (value-at root lg b v lb k j within)))
+      let within : j < 2 ^ lg = omega (arith, l, long) in
+      let point : get_or points j d ≡ power R.one R.product (root lg) j = get_or-map-range_with_len (power R.one R.product (root lg)) 0 (2 ^ lg) j j d within (omega arith) in
+      rw point (E.transitive _ _ _ (E.symmetric _ _ (value-at root lg a v la h j within)) (value-at root lg b v lb k j within)))

@@ -1,12 +1,12 @@
 -- Rows put in bit-reversed order, each pair exchanged once.
-use Rattle.std.proofs.Common.{◌≡◌, ◌≢◌, ◌∙◌, inl, inr, ℕ, zero, suc, ◌+◌, ◌-◌, ◌*◌, ◌/◌, ◌%◌, ◌^◌, ◌<◌, ◌≤◌, List, length, get_or, refl, sym, ap, subst, pow-suc, pow-add, mul_comm, w64, arith}
+use Rattle.std.proofs.Common.{◌≡◌, ◌≢◌, ◌∙◌, inl, inr, ℕ, zero, suc, ◌+◌, ◌-◌, ◌*◌, ◌/◌, ◌%◌, ◌^◌, ◌<◌, ◌≤◌, List, get_or, refl, sym, ap, subst, pow-suc, pow-add, mul_comm, w64, arith}
 use Rattle.std.specs.Int.{reverse_bits, reverse_bits_onto}
 use Rattle.std.proofs.Math.Nat.{mul-div_cancel_left}
 use Rattle.std.proofs.lemmas.Bool.{cases_lt}
 use Rattle.std.proofs.lemmas.Nat.{pow_pos, div-mul-add}
 use Rattle.math_theory.specs.Bits.{bits-zero, number}
-use Rattle.math_theory.specs.BitReversal.{bit_reversed, bit_reversed_order}
-use Rattle.math_theory.proofs.BitOrder.{bit_reversed-suc, bit_reversed-below, bit_reversed-twice}
+use Rattle.math_theory.specs.BitReversal.{bit_reversed}
+use Rattle.math_theory.proofs.BitOrder.{bit_reversed-suc, bit_reversed-below}
 use Rattle.std.proofs.Common.{reverse}
 
 -- the bits of a word in the opposite order, one after the other
@@ -67,18 +67,18 @@ module _ {A : Type 0} (count : ℕ) (other : ℕ → ℕ) (twice : (r : ℕ) →
   pub reversed-stayed : other i ≤ i → IsReversedBelow count other old now (i + 1)
   reversed-stayed l = record {
     moved = λ r m b. elim (cases_lt r i) [
-        | inl below ↦ h.moved r m below
-        | inr above ↦ let e : i ≡ r = omega (arith, above) in subst (λ x. now x ≡ old (other x)) e (stayed-here l)
-      ];
+      | inl below ↦ h.moved r m below
+      | inr above ↦ let e : i ≡ r = omega (arith, above) in subst (λ x. now x ≡ old (other x)) e (stayed-here l)
+    ];
     moved_by = λ r m b. elim (cases_lt (other r) i) [
-        | inl below ↦ h.moved_by r m below
-        | inr above ↦
-            let p : r ≡ other i = pair r m (let e : other r ≡ i = omega (arith, above) in e) in
-            elim (cases_lt r i) [
-              | inl before ↦ h.moved r m before
-              | inr after ↦ let e : i ≡ r = omega (arith, after, p) in subst (λ x. now x ≡ old (other x)) e (stayed-here l)
-            ]
-      ];
+      | inl below ↦ h.moved_by r m below
+      | inr above ↦
+          let p : r ≡ other i = pair r m (let e : other r ≡ i = omega (arith, above) in e) in
+          elim (cases_lt r i) [
+            | inl before ↦ h.moved r m before
+            | inr after ↦ let e : i ≡ r = omega (arith, after, p) in subst (λ x. now x ≡ old (other x)) e (stayed-here l)
+          ]
+    ];
     kept = λ r m a b. h.kept r m (omega arith) (omega arith);
   }
 
@@ -94,17 +94,17 @@ module _ {A : Type 0} (count : ℕ) (other : ℕ → ℕ) (twice : (r : ℕ) →
     pub reversed-exchanged : IsReversedBelow count other old new (i + 1)
     reversed-exchanged = record {
       moved = λ r m b. elim (cases_lt r i) [
-          | inl below ↦ others r (omega (arith, below)) (omega (arith, below)) ∙ h.moved r m below
-          | inr not_below ↦ let e : i ≡ r = omega (arith, not_below) in subst (λ x. new x ≡ old (other x)) e at-first
-        ];
+        | inl below ↦ others r (omega (arith, below)) (omega (arith, below)) ∙ h.moved r m below
+        | inr not_below ↦ let e : i ≡ r = omega (arith, not_below) in subst (λ x. new x ≡ old (other x)) e at-first
+      ];
       moved_by = λ r m b. elim (cases_lt (other r) i) [
-          | inl below ↦
-              others r (λ e. absurd (let f = ap other e in omega (arith, f, below))) (λ e. absurd (let f : other r ≡ i = ap other e ∙ twice i within in omega (arith, f, below)))
-              ∙ h.moved_by r m below
-          | inr not_below ↦
-              let p : r ≡ other i = pair r m (let e : other r ≡ i = omega (arith, not_below) in e) in
-              subst (λ x. new x ≡ old (other x)) (sym p) at-second
-        ];
+        | inl below ↦
+            others r (λ e. absurd (let f = ap other e in omega (arith, f, below))) (λ e. absurd (let f : other r ≡ i = ap other e ∙ twice i within in omega (arith, f, below)))
+            ∙ h.moved_by r m below
+        | inr not_below ↦
+            let p : r ≡ other i = pair r m (let e : other r ≡ i = omega (arith, not_below) in e) in
+            subst (λ x. new x ≡ old (other x)) (sym p) at-second
+      ];
       kept = λ r m a b.
           others r (λ e. absurd (omega (arith, e))) (λ e. absurd (let f : other r ≡ i = ap other e ∙ twice i within in omega (arith, f)))
           ∙ h.kept r m (omega arith) (omega arith);
@@ -130,18 +130,18 @@ module _ {A : Type 0} (d : A) (c i j : ℕ) (old : List A) where
       → ((p : ℕ) → p ≢ i * c + n → p ≢ j * c + n → get_or new p d ≡ get_or now p d) → AreExchangedBelow d c i j old new (n + 1)
   exchanged-more n now new apart within h at_first at_second others = record {
     first = λ k l. elim (cases_lt k n) [
-        | inl below ↦ others (i * c + k) (λ e. absurd (omega (arith, e, below))) (places-apart i j c k n (omega (arith, below, within)) within apart) ∙ h.first k below
-        | inr above ↦
-            let e : n ≡ k = omega (arith, l, above) in
-            subst (λ k. get_or new (i * c + k) d ≡ get_or old (j * c + k) d) e
-            (at_first ∙ h.kept (j * c + n) (λ q b. places-apart j i c n q within (omega (arith, b, within)) (λ f. apart (sym f))) (λ q b f. absurd (omega (arith, f, b))))
-      ];
+      | inl below ↦ others (i * c + k) (λ e. absurd (omega (arith, e, below))) (places-apart i j c k n (omega (arith, below, within)) within apart) ∙ h.first k below
+      | inr above ↦
+          let e : n ≡ k = omega (arith, l, above) in
+          subst (λ k. get_or new (i * c + k) d ≡ get_or old (j * c + k) d) e
+          (at_first ∙ h.kept (j * c + n) (λ q b. places-apart j i c n q within (omega (arith, b, within)) (λ f. apart (sym f))) (λ q b f. absurd (omega (arith, f, b))))
+    ];
     second = λ k l. elim (cases_lt k n) [
-        | inl below ↦ others (j * c + k) (places-apart j i c k n (omega (arith, below, within)) within (λ f. apart (sym f))) (λ e. absurd (omega (arith, e, below))) ∙ h.second k below
-        | inr above ↦
-            let e : n ≡ k = omega (arith, l, above) in
-            subst (λ k. get_or new (j * c + k) d ≡ get_or old (i * c + k) d) e
-            (at_second ∙ h.kept (i * c + n) (λ q b f. absurd (omega (arith, f, b))) (λ q b. places-apart i j c n q within (omega (arith, b, within)) apart))
-      ];
+      | inl below ↦ others (j * c + k) (places-apart j i c k n (omega (arith, below, within)) within (λ f. apart (sym f))) (λ e. absurd (omega (arith, e, below))) ∙ h.second k below
+      | inr above ↦
+          let e : n ≡ k = omega (arith, l, above) in
+          subst (λ k. get_or new (j * c + k) d ≡ get_or old (i * c + k) d) e
+          (at_second ∙ h.kept (i * c + n) (λ q b f. absurd (omega (arith, f, b))) (λ q b. places-apart i j c n q within (omega (arith, b, within)) apart))
+    ];
     kept = λ p a b. others p (a n (omega arith)) (b n (omega arith)) ∙ h.kept p (λ q m. a q (omega (arith, m))) (λ q m. b q (omega (arith, m)));
   }

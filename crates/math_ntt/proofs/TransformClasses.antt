@@ -1,5 +1,5 @@
 -- From lists of elements to lists of their classes: sums, differences, dilations and transforms go along.
-use Rattle.std.proofs.Common.{◌≡◌, ◌∙◌, ℕ, zero, suc, ◌^◌, List, [], ◌∷◌, ◌++◌, length, map, take, drop, refl, sym, ap, ap₂}
+use Rattle.std.proofs.Common.{◌≡◌, ◌∙◌, ℕ, zero, suc, ◌^◌, List, [], ◌∷◌, ◌++◌, map, take, drop, refl, sym, ap, ap₂}
 use Rattle.std.specs.List.{AllZip}
 use Rattle.std.proofs.lemmas.List.{map-append, take-map, drop-map}
 use Rattle.math_theory.specs.Coefficients.{polynomial_sum, polynomial_negative, polynomial_difference, dilation_from, polynomial_dilation}

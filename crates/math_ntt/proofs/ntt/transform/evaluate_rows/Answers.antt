@@ -1,4 +1,4 @@
-use Rattle.std.proofs.Common.{◌≡◌, ◌∙◌, length, arith}
+use Rattle.std.proofs.Common.{◌∙◌}
 use Rattle.math_base.specs.Members.{RingOf}
 use Rattle.math_ntt.proofs.DomainTransforms.{values-forward}
 use Rattle.math_ntt.proofs.ntt.transform.evaluate_rows.Goals as goal

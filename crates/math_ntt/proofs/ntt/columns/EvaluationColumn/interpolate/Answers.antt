@@ -1,6 +1,6 @@
-use Rattle.std.proofs.Common.{◌≡◌, ◌∙◌, ◌^◌, ◌++◌, ℕ, List, length, take, drop, refl, sym, ap, subst, arith}
+use Rattle.std.proofs.Common.{◌≡◌, ◌∙◌, ◌^◌, ◌++◌, length, take, drop, refl, sym, ap, arith}
 use Rattle.math_base.specs.Members.{RingOf}
-use Rattle.math_ntt.specs.DomainValues.{matrix_of, one_column, AreValuesOnDomain}
+use Rattle.math_ntt.specs.DomainValues.{matrix_of, one_column}
 use Rattle.math_theory.proofs.WholeWrites.{take-written}
 use Rattle.math_ntt.proofs.OnDomain.{values-on_domain}
 use Rattle.math_ntt.proofs.ntt.columns.EvaluationColumn.interpolate.Goals as goal

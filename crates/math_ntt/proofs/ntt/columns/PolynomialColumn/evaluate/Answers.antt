@@ -1,4 +1,4 @@
-use Rattle.std.proofs.Common.{◌≡◌, ◌∙◌, ◌^◌, ◌++◌, ℕ, List, length, take, drop, refl, sym, ap, subst, arith}
+use Rattle.std.proofs.Common.{◌≡◌, ◌∙◌, ◌^◌, ◌++◌, List, length, take, drop, refl, ap, subst, arith}
 use Rattle.math_base.specs.Members.{RingOf}
 use Rattle.math_ntt.specs.DomainValues.{matrix_of, one_column, AreValuesOnDomain}
 use Rattle.math_theory.proofs.WholeWrites.{take-written}

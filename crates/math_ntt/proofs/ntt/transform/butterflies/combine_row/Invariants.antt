@@ -1,4 +1,4 @@
-use Rattle.std.proofs.Common.{◌≡◌, ◌+◌, ◌≤◌, not, eqb}
+use Rattle.std.proofs.Common.{◌≡◌, ◌+◌, not, eqb}
 use Rattle.math_base.specs.Members.{RingOf}
 use Rattle.math_ntt.specs.CombinedCells.{AreCombined}
 use Rattle.math_ntt.proofs.ntt.transform.butterflies.combine_row.Given as goal

@@ -1,7 +1,6 @@
-use Rattle.std.proofs.Common.{◌≡◌, ◌∙◌, ◌++◌, ◌∷◌, [], ℕ, List, Bool, not, eqb, if◌then◌else◌, ap, arith}
+use Rattle.std.proofs.Common.{◌≡◌, ◌∙◌, ◌++◌, ◌∷◌, [], List, not, eqb, ap, arith}
 use Rattle.math_base.specs.Members.{RingOf}
-use Rattle.math_ntt.specs.DomainValues.{ArePowersByLevel}
-use Rattle.math_ntt.proofs.PowerTables.{powers-none, powers-first, powers-next}
+use Rattle.math_ntt.proofs.PowerTables.{powers-first, powers-next}
 use Rattle.math_ntt.proofs.RootInverses.{level_root-square}
 use Rattle.math_ntt.proofs.ntt.transform.table.powers_by_level.Goals as goal
 

@@ -1,4 +1,4 @@
-use Rattle.std.proofs.Common.{ℕ, not, eqb, if◌then◌else◌}
+use Rattle.std.proofs.Common.{not, eqb, if◌then◌else◌}
 use Rattle.math_base.specs.Members.{RingOf}
 use Rattle.math_ntt.specs.DomainValues.{ArePowersByLevel}
 use Rattle.math_ntt.proofs.ntt.transform.table.powers_by_level.Given as goal
