@@ -10,3 +10,15 @@ pub mod FirstRows
 pub mod WrittenCells
 pub mod MatrixPlaces
 pub mod ComparedTruths
+pub mod CombinedPairs
+pub mod TransformClasses
+pub mod ColumnHalves
+pub mod TransformedHalves
+pub mod Levels
+pub mod RootInverses
+pub mod ReversedRows
+pub mod DomainTransforms
+pub mod ScaledCells
+pub mod PowerTables
+pub mod OnDomain
+pub mod OneColumn

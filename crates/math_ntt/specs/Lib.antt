@@ -7,3 +7,7 @@ pub mod Bitmaps
 pub mod PolynomialRows
 pub mod Evaluations
 pub mod MatrixPlaces
+pub mod CountedWork
+pub mod DomainValues
+pub mod CombinedCells
+pub mod LevelTables
