@@ -38,7 +38,8 @@ impl<I: Ord + Drop, F: Field> Interpolator<I, F> {
     where
         P::IntoIter: Drop,
         requires { IsFiniteIterable P.into_iter_gives P.IntoIter.can_next P.IntoIter.remaining pairs }
-        ensures { IfOk result (λ m. (it : P.IntoIter) × (xs : List (I × F)) × P.into_iter_gives pairs it × Drains P.IntoIter.next_gives it xs × InterpolatesAt I.cmp F.Ring F.zero xs m) }
+        ensures { IfOk result (λ m. (it : P.IntoIter) × (xs : List (I × F)) × P.into_iter_gives pairs it
+            × Drains P.IntoIter.next_gives it xs × InterpolatesAt I.cmp F.Ring F.zero xs m) }
     {
         let zero = F::zero(alloc)?;
         let out = Self::at(alloc, pairs, &zero)?;
@@ -56,7 +57,8 @@ impl<I: Ord + Drop, F: Field> Interpolator<I, F> {
     where
         P::IntoIter: Drop,
         requires { IsFiniteIterable P.into_iter_gives P.IntoIter.can_next P.IntoIter.remaining pairs }
-        ensures { IfOk result (λ m. (it : P.IntoIter) × (xs : List (I × F)) × P.into_iter_gives pairs it × Drains P.IntoIter.next_gives it xs × InterpolatesAt I.cmp F.Ring x.now xs m) }
+        ensures { IfOk result (λ m. (it : P.IntoIter) × (xs : List (I × F)) × P.into_iter_gives pairs it
+            × Drains P.IntoIter.next_gives it xs × InterpolatesAt I.cmp F.Ring x.now xs m) }
     {
         let points = Map::from_iter_dedup(alloc, pairs)?;
         let weights = weights_at(alloc, points.values(), x)?;
@@ -78,9 +80,12 @@ impl<I: Ord + Drop, F: Field> Interpolator<I, F> {
     /// its value at the point that the weights are for.
     pub fn interpolate<K: Space<F>>(&self, alloc: Global, evals: &Map<I, K>) -> Mem<Option<K>>
         ensures keys { IfOk result (λ answer. IsSome answer ↔ HaveEqualKeys I.cmp evals.now self.now) }
-        ensures sum { IfOk result (λ answer. IfSome answer (λ v. K.same v (weighted_sum K.zero K.sum K.scaling (values_of evals.now) (values_of self.now)))) }
-        ensures value { IfOk result (λ answer. IfSome answer (λ v. (x : F) (points : List F) (a : List K) → AreWeightsAt F.Ring x points (values_of self.now) → length a ≤ length points
-            → AllZip K.same (values_of evals.now) (map (λ p. value K.Space F.Ring a p) points) → K.same v (value K.Space F.Ring a x))) }
+        ensures sum { IfOk result (λ answer. IfSome answer
+            (λ v. K.same v (weighted_sum K.zero K.sum K.scaling (values_of evals.now) (values_of self.now)))) }
+        ensures value { IfOk result (λ answer. IfSome answer (λ v. (x : F) (points : List F) (a : List K)
+            → AreWeightsAt F.Ring x points (values_of self.now) → length a ≤ length points
+            → AllZip K.same (values_of evals.now) (map (λ p. value K.Space F.Ring a p) points)
+            → K.same v (value K.Space F.Ring a x))) }
         ensures never { IsTrue K.NEVER_REFUSES → IsOk result }
     {
         if evals.keys().cmp(self.weights.keys()).is_ne() {

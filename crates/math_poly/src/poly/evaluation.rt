@@ -136,7 +136,7 @@ fn first_powers<R: Ring>(alloc: Global, shift: R, base: &R, n: usize) -> Mem<Vec
     ensures count { IfOk result (λ v. length v.items ≡ n) }
     ensures powers { IfOk result (λ v. AllZip R.same v.items (coset R.one R.product shift base.now n)) }
 {
-    let mut out = Vec::new(alloc);
+    let mut out = Vec::with_capacity(alloc, n)?;
     for power in powers(alloc, shift, base).take(n) {
         out.push(power?)?;
     }
@@ -145,7 +145,8 @@ fn first_powers<R: Ring>(alloc: Global, shift: R, base: &R, n: usize) -> Mem<Vec
 
 /// Adds shift, shift * base, shift * base^2 and so on to the sums in turn.
 fn add_powers<R: Ring>(alloc: Global, sums: &mut [R], shift: R, base: &R) -> Mem<()>
-    ensures { OnOk result (AllZip (λ terms new. R.same new (R.sum terms.0 terms.1)) (zip sums.old (coset R.one R.product shift base.now (length sums.old))) sums.new) }
+    ensures { OnOk result (AllZip (λ terms new. R.same new (R.sum terms.0 terms.1))
+        (zip sums.old (coset R.one R.product shift base.now (length sums.old))) sums.new) }
 {
     let mut terms = powers(alloc, shift, base);
     for total in sums.iter_mut() {
