@@ -22,7 +22,7 @@ impl<K: Drop> Poly<K> {
             unreachable!()
         };
         let last = last.clone(alloc)?;
-        if R::NEVER_REFUSES && K::NEVER_REFUSES {
+        if R::NEVER_REFUSES && K::NEVER_REFUSES && front.len() >= 8 {
             let out = horner_by_fours(alloc, front, last, r)?;
             return Ok(out);
         }
@@ -98,8 +98,8 @@ fn horner_step<R: Ring, K: Space<R>>(alloc: Global, out: &mut K, r: &R, coeffici
     Ok(())
 }
 
-/// The value that `horner` gives, by four coefficients at a time, which takes fewer products one after
-/// the other, but copies some coefficients.
+/// The value that `horner` gives, by four coefficients at a time. Fewer products wait for one another,
+/// but two of each four coefficients are copied, so it is for types that never refuse.
 ///
 /// The value of a + b X + c X^2 + d X^3 + X^4 p is (a + b r) + (c + d r) r^2, and to that the value of
 /// p scaled by r^4. So for each four coefficients one product waits for those of the four before.
