@@ -18,7 +18,8 @@ use Rattle.math_base.specs.Members.{RingOf}
 use Rattle.commonware_math.specs.Interpolators.{AreWeightsOfPoints, InterpolatesAt}
 
 -- the weights of the points, each with its point's key
-pub keyed-weights : {I A : Type 0} (cmp : I → I → Ordering) (R : RingOf A) (x : A) (pairs points keyed : List (I × A)) (values weights : List A) → values ≡ values_of points → HasFirstOfEachKey cmp pairs points
+pub keyed-weights : {I A : Type 0} (cmp : I → I → Ordering) (R : RingOf A) (x : A) (pairs points keyed : List (I × A)) (values weights : List A) → values ≡ values_of points
+    → HasFirstOfEachKey cmp pairs points
     → keyed ≡ zip (keys_of points) weights → AreWeightsOfPoints R x values weights → InterpolatesAt cmp R x pairs keyed
 keyed-weights cmp R x pairs points keyed values weights e first z W =
     let count : length weights ≡ length (keys_of points) = W.count ∙ ap length e ∙ length-map points (λ p. p.1) ∙ sym (length-map points (λ p. p.0)) in
@@ -34,7 +35,8 @@ AllZip-reflexive E [] = tt
 AllZip-reflexive E (x ∷ xs) = (E.reflexive x, AllZip-reflexive E xs)
 
 module _ {A : Type 0} (R : RingOf A) (E : IsEquality R.same) (G : IsGroup R.same R.zero R.sum R.negative) (P : IsProduct R.same R.product) (L : IsRing R.same R.sum R.product R.one) where
-  weights_at-respects : (x y : A) → R.same x y → (points weights : List A) → AreWeightsAt R.same R.zero R.sum R.product R.one x points weights → AreWeightsAt R.same R.zero R.sum R.product R.one y points weights
+  weights_at-respects : (x y : A) → R.same x y → (points weights : List A) → AreWeightsAt R.same R.zero R.sum R.product R.one x points weights
+      → AreWeightsAt R.same R.zero R.sum R.product R.one y points weights
   weights_at-respects x y h points weights W = record {
     lengths = W.lengths;
     give = λ a l. E.transitive _ _ _ (W.give a l) (value_over-respects E G (ring_is_module E G P L) E P x y h a a (AllZip-reflexive E a));
@@ -56,7 +58,8 @@ module _ {A : Type 0} (R : RingOf A) (E : IsEquality R.same) (G : IsGroup R.same
         only = λ d others V. W.only d others (weights_at-respects y x back points others V);
       }
 
-  pub interpolates-respects : {I : Type 0} (cmp : I → I → Ordering) (x y : A) → R.same x y → (pairs weights : List (I × A)) → InterpolatesAt cmp R x pairs weights → InterpolatesAt cmp R y pairs weights
+  pub interpolates-respects : {I : Type 0} (cmp : I → I → Ordering) (x y : A) → R.same x y → (pairs weights : List (I × A)) → InterpolatesAt cmp R x pairs weights
+      → InterpolatesAt cmp R y pairs weights
   interpolates-respects cmp x y h pairs weights W = record {
     points = W.points;
     first = W.first;
@@ -68,7 +71,8 @@ module _ {A B : Type 0} {same : A → A → Type 0} {zero_of : A} {sum : A → A
     {zero_scalar : B} {sum_scalar : B → B → B} {negative_scalar : B → B} {product : B → B → B} {one : B}
     (Es : IsEquality same_scalar) (Gs : IsGroup same_scalar zero_scalar sum_scalar negative_scalar) (Ps : IsProduct same_scalar product) (Rs : IsRing same_scalar sum_scalar product one)
     (E : IsEquality same) (G : IsGroup same zero_of sum negative) (M : IsModule same zero_of sum scaling same_scalar zero_scalar sum_scalar product one) where
-  weighted_sum-alike : (points others : List A) (weights : List B) → AllZip same points others → same (weighted_sum zero_of sum scaling points weights) (weighted_sum zero_of sum scaling others weights)
+  weighted_sum-alike : (points others : List A) (weights : List B) → AllZip same points others
+      → same (weighted_sum zero_of sum scaling points weights) (weighted_sum zero_of sum scaling others weights)
   weighted_sum-alike [] [] weights h = E.reflexive zero_of
   weighted_sum-alike [] (q ∷ others) weights h = absurd h
   weighted_sum-alike (p ∷ points) [] weights h = absurd h

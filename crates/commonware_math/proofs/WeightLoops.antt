@@ -43,7 +43,8 @@ module _ {A : Type 0} {same : A → A → Type 0} {zero_of : A} {sum : A → A �
       (E.transitive _ _ _ (P.associative start (all (drop i fs)) f) (P.respects _ _ _ _ (E.reflexive start) (P.commutative (all (drop i fs)) f)))))
 
   -- one item more is multiplied
-  pub done-next : (start after item new : A) (initial items fs : List A) (i : ℕ) → 0 < i → i ≤ length items → same after (product start (all (drop i fs))) → same new (product (get_or items (i - 1) item) after)
+  pub done-next : (start after item new : A) (initial items fs : List A) (i : ℕ) → 0 < i → i ≤ length items → same after (product start (all (drop i fs)))
+      → same new (product (get_or items (i - 1) item) after)
       → ((k : ℕ) → k < i → get_or items k zero_of ≡ get_or initial k zero_of)
       → ((k : ℕ) → i ≤ k → k < length fs → same (get_or items k zero_of) (product (get_or initial k zero_of) (product start (all (drop (suc k) fs)))))
       → (k : ℕ) → i - 1 ≤ k → k < length fs → same (get_or (set items (i - 1) new) k zero_of) (product (get_or initial k zero_of) (product start (all (drop (suc k) fs))))
@@ -58,11 +59,13 @@ module _ {A : Type 0} {same : A → A → Type 0} {zero_of : A} {sum : A → A �
       ]
 
   -- an item before is as it was
-  pub before-kept : (new : A) (initial items : List A) (i : ℕ) → ((k : ℕ) → k < i → get_or items k zero_of ≡ get_or initial k zero_of) → (k : ℕ) → k < i - 1 → get_or (set items (i - 1) new) k zero_of ≡ get_or initial k zero_of
+  pub before-kept : (new : A) (initial items : List A) (i : ℕ) → ((k : ℕ) → k < i → get_or items k zero_of ≡ get_or initial k zero_of) → (k : ℕ) → k < i - 1
+      → get_or (set items (i - 1) new) k zero_of ≡ get_or initial k zero_of
   before-kept new initial items i before k l = let o : k ≢ i - 1 = omega arith in get_or-set_other items (i - 1) k new zero_of o ∙ before k (omega arith)
 
   module _ {inverse : A → A} (F : IsField same zero_of product one inverse) where
-    factor-is : (whole inverted factor numerator : A) (ds : List A) → same whole (all ds) → same inverted (inverse whole) → same factor (product inverted numerator) → same factor (product (inverse (all ds)) numerator)
+    factor-is : (whole inverted factor numerator : A) (ds : List A) → same whole (all ds) → same inverted (inverse whole) → same factor (product inverted numerator)
+        → same factor (product (inverse (all ds)) numerator)
     factor-is whole inverted factor numerator ds w i f = E.transitive _ _ _ f (P.respects _ _ _ _ (E.transitive _ _ _ i (F.respects _ _ w)) (E.reflexive numerator))
 
     module _ (whole inverted factor numerator : A) (ds old new : List A) (w : same whole (all ds)) (i : same inverted (inverse whole)) (f : same factor (product inverted numerator))
@@ -80,7 +83,8 @@ module _ {A : Type 0} {same : A → A → Type 0} {zero_of : A} {sum : A → A �
           rw (← e) (quotient-of_zero E G P R F factor numerator ds j k zero_of (get_or new j zero_of) l z (factor-is whole inverted factor numerator ds w i f) (joined j (omega (arith, m, n))))
 
     -- one at the first place of x, and zero elsewhere
-    pub place-weights : (x : A) (points ws : List A) (k : ℕ) → IsFirstPlace same x points k → length ws ≡ length points → IsOneAt same zero_of one k ws → AreApart same points → AreWeightsAt same zero_of sum product one x points ws
+    pub place-weights : (x : A) (points ws : List A) (k : ℕ) → IsFirstPlace same x points k → length ws ≡ length points → IsOneAt same zero_of one k ws → AreApart same points
+        → AreWeightsAt same zero_of sum product one x points ws
     place-weights x points ws k first n h d =
         let here : same (get_or points k zero_of) x = rw (get_or_default points k zero_of x first.0) first.1 in
         weights_at_place E G P R F x points ws k d first.0 here n h
@@ -100,7 +104,8 @@ module _ {A : Type 0} {same : A → A → Type 0} {zero_of : A} {sum : A → A �
           weights_by_quotients E G P R F x points ws d outside (m ∙ count)
           (λ k l. E.transitive _ _ _ (P.respects _ _ _ _ (E.reflexive (get_or ws k zero_of)) (E.symmetric _ _ (each k l)))
           (E.transitive _ _ _ (quotients nonzero k (omega (arith, l, count)))
-          (E.transitive _ _ _ whole (E.transitive _ _ _ (P.respects _ _ _ _ unit (E.reflexive (root_product sum negative product one x points))) (R.identity (root_product sum negative product one x points))))))
+          (E.transitive _ _ _ whole (E.transitive _ _ _ (P.respects _ _ _ _ unit (E.reflexive (root_product sum negative product one x points)))
+          (R.identity (root_product sum negative product one x points))))))
 
       -- zeros, where two points are same
       pub quotients-repeated : ((k : ℕ) → k < length ds → same (get_or ds k zero_of) zero_of → All (λ v. same v zero_of) ws) → SomeAreSame same points → All (λ v. same v zero_of) ws

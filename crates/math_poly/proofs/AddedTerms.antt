@@ -61,7 +61,19 @@ module _ {A X S : Type 0} {same : A → A → Type 0} {zero : A} {sum : A → A 
 
   -- before the first
   pub added-none : (initial : List A) → Added start initial initial 0
-  added-none initial = record { before = []; done = []; todo = initial; given = []; initial_is = refl; sums_is = refl; before_count = refl; done_count = refl; given_count = refl; run = refl; added = tt }
+  added-none initial = record {
+    before = [];
+    done = [];
+    todo = initial;
+    given = [];
+    initial_is = refl;
+    sums_is = refl;
+    before_count = refl;
+    done_count = refl;
+    given_count = refl;
+    run = refl;
+    added = tt;
+  }
 
   -- one term more
   pub added-more : (terms terms' : S) (initial sums sums' : List A) (i : ℕ) (r : Option (Result A X)) (d t v : A) → Added terms initial sums i → i < length sums
@@ -100,4 +112,5 @@ module _ {A X S : Type 0} {same : A → A → Type 0} {zero : A} {sum : A → A 
       let none : a.todo ≡ [] = all_done a.todo (omega (arith, a.done_count, simp length-append at (ap length a.sums_is))) in
       let first : initial ≡ a.before = a.initial_is ∙ ap (λ l. a.before ++ l) none ∙ append-nil a.before in
       let last : sums ≡ a.done = a.sums_is ∙ ap (λ l. a.done ++ l) none ∙ append-nil a.done in
-      subst (λ l. AreSums same sum (zip l (coset one product shift base (length l))) sums) (sym first) (subst (λ l. AreSums same sum (zip a.before (coset one product shift base (length a.before))) l) (sym last) a.added)
+      subst (λ l. AreSums same sum (zip l (coset one product shift base (length l))) sums) (sym first)
+      (subst (λ l. AreSums same sum (zip a.before (coset one product shift base (length a.before))) l) (sym last) a.added)

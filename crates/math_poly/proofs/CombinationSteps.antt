@@ -40,7 +40,8 @@ module _ {A B : Type 0} {same : A → A → Type 0} {zero : A} {sum : A → A �
       (E.transitive _ _ _ (G.associative (weighted old) term rest) w'))
 
   -- no pair is left
-  pub combination-all : (pairs : List (B × B)) (i : ℕ) (weights : List B) (whole : A) → length pairs ≤ i → same (sum (weighted weights) (combination (drop i pairs))) whole → same (weighted weights) whole
+  pub combination-all : (pairs : List (B × B)) (i : ℕ) (weights : List B) (whole : A) → length pairs ≤ i → same (sum (weighted weights) (combination (drop i pairs))) whole
+      → same (weighted weights) whole
   combination-all pairs i weights whole h w =
       let e : drop i pairs ≡ [] = drop_of_length-le pairs h in
       let w' : same (sum (weighted weights) zero) whole = rw e at w in

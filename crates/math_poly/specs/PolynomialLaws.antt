@@ -50,9 +50,11 @@ module _ {A : Type 0} {same : A → A → Type 0} {zero_of : A} {sum : A → A �
         respects_sum = λ a b c d h k i. grw (E.transitive, E.reflexive, G.respects_sum, at a c i, h i, k i) (s _ _ (at b d i));
         respects_negative = λ a b h i. E.transitive _ _ _ (coefficient_of_negative a i) (E.transitive _ _ _ (G.respects_negative _ _ (h i)) (s _ _ (coefficient_of_negative b i)));
         commutative = λ a b i. E.transitive _ _ _ (at a b i) (E.transitive _ _ _ (G.commutative _ _) (s _ _ (at b a i)));
-        associative = λ a b c i. E.transitive _ _ _ (at (polynomial_sum sum a b) c i) (E.transitive _ _ _ (G.respects_sum _ _ _ _ (at a b i) (E.reflexive _)) (E.transitive _ _ _ (G.associative _ _ _) (s _ _ (E.transitive _ _ _ (at a (polynomial_sum sum b c) i) (G.respects_sum _ _ _ _ (E.reflexive _) (at b c i))))));
+        associative = λ a b c i. E.transitive _ _ _ (at (polynomial_sum sum a b) c i) (E.transitive _ _ _ (G.respects_sum _ _ _ _ (at a b i) (E.reflexive _))
+            (E.transitive _ _ _ (G.associative _ _ _) (s _ _ (E.transitive _ _ _ (at a (polynomial_sum sum b c) i) (G.respects_sum _ _ _ _ (E.reflexive _) (at b c i))))));
         identity = λ a i. E.transitive _ _ _ (at (zero_of ∷ []) a i) (E.transitive _ _ _ (G.respects_sum _ _ _ _ (coefficient_of_zero i) (E.reflexive _)) (G.identity _));
-        inverse = λ a i. E.transitive _ _ _ (at a (polynomial_negative negative a) i) (E.transitive _ _ _ (G.respects_sum _ _ _ _ (E.reflexive _) (coefficient_of_negative a i)) (E.transitive _ _ _ (G.inverse _) (s _ _ (coefficient_of_zero i))));
+        inverse = λ a i. E.transitive _ _ _ (at a (polynomial_negative negative a) i) (E.transitive _ _ _ (G.respects_sum _ _ _ _ (E.reflexive _) (coefficient_of_negative a i))
+            (E.transitive _ _ _ (G.inverse _) (s _ _ (coefficient_of_zero i))));
       }
 
 module _ {A B : Type 0} {same : A → A → Type 0} {zero_of : A} {sum : A → A → A} {negative : A → A} {scaling : A → B → A} {same_scalar : B → B → Type 0}
@@ -75,7 +77,8 @@ module _ {A B : Type 0} {same : A → A → Type 0} {zero_of : A} {sum : A → A
             (s _ _ (t _ _ _ (at_sum (polynomial_multiple scaling a x) (polynomial_multiple scaling b x) i) (G.respects_sum _ _ _ _ (at a x i) (at b x i))))));
         sum_of_scalars = λ a x y i. t _ _ _ (at a (sum_scalar x y) i) (t _ _ _ (M.sum_of_scalars _ x y)
             (s _ _ (t _ _ _ (at_sum (polynomial_multiple scaling a x) (polynomial_multiple scaling a y) i) (G.respects_sum _ _ _ _ (at a x i) (at a y i)))));
-        product_of_scalars = λ a x y i. t _ _ _ (at (polynomial_multiple scaling a x) y i) (t _ _ _ (M.respects_points _ _ y (at a x i)) (t _ _ _ (M.product_of_scalars _ x y) (s _ _ (at a (product x y) i))));
+        product_of_scalars = λ a x y i. t _ _ _ (at (polynomial_multiple scaling a x) y i) (t _ _ _ (M.respects_points _ _ y (at a x i))
+            (t _ _ _ (M.product_of_scalars _ x y) (s _ _ (at a (product x y) i))));
         identity = λ a i. t _ _ _ (at a one i) (M.identity _);
         annihilation = λ a i. t _ _ _ (at a zero_scalar i) (t _ _ _ (M.annihilation _) (s _ _ (coefficient_of_zero E G i)));
       }

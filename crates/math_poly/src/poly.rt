@@ -104,7 +104,9 @@ impl<K: Read + Drop> Read for Poly<K> {
         Ok(Poly { coefficients })
     }
 
-    ghost again = { λ cfg p rest h. list_again K.spelling (K.admits cfg.1) (K.scan cfg.1) (K.again cfg.1) (nonzero cfg.0) p rest h };
+    ghost again = { λ cfg p rest h. list_again K.spelling (K.admits cfg.1) (K.scan cfg.1) (K.again cfg.1)
+        (nonzero cfg.0) p rest h };
 
-    ghost apart = { λ cfg p q x y h k e. list_apart K.spelling (K.admits cfg.1) K.alike (K.apart cfg.1) (nonzero cfg.0) p q x y h k e };
+    ghost apart = { λ cfg p q x y h k e. list_apart K.spelling (K.admits cfg.1) K.alike (K.apart cfg.1) (nonzero cfg.0)
+        p q x y h k e };
 }

@@ -81,9 +81,12 @@ impl<I: Ord + Drop, F: Field> Interpolator<I, F> {
     /// its value at the point that the weights are for.
     pub fn interpolate<K: Space<F>>(&self, alloc: Global, evals: &Map<I, K>) -> Mem<Option<K>>
         ensures keys { IfOk result (λ answer. IsSome answer ↔ HaveEqualKeys I.cmp evals.now self.now) }
-        ensures sum { IfOk result (λ answer. IfSome answer (λ v. K.same v (weighted_sum K.zero K.sum K.scaling (values_of evals.now) (values_of self.now)))) }
-        ensures value { IfOk result (λ answer. IfSome answer (λ v. (x : F) (points : List F) (a : List K) → AreWeightsAt F.Ring x points (values_of self.now) → length a ≤ length points
-            → AllZip K.same (values_of evals.now) (map (λ p. value K.Space F.Ring a p) points) → K.same v (value K.Space F.Ring a x))) }
+        ensures sum { IfOk result (λ answer. IfSome answer
+            (λ v. K.same v (weighted_sum K.zero K.sum K.scaling (values_of evals.now) (values_of self.now)))) }
+        ensures value { IfOk result (λ answer. IfSome answer (λ v. (x : F) (points : List F) (a : List K)
+            → AreWeightsAt F.Ring x points (values_of self.now) → length a ≤ length points
+            → AllZip K.same (values_of evals.now) (map (λ p. value K.Space F.Ring a p) points)
+            → K.same v (value K.Space F.Ring a x))) }
         ensures never { IsTrue K.NEVER_REFUSES → IsOk result }
     {
         if evals.keys().cmp(self.weights.keys()).is_ne() {

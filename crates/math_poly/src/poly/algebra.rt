@@ -31,7 +31,7 @@ fn answers<T: Drop, L: Drop, F: Fn(&T) -> Mem<L>>(alloc: Global, items: &[T], f:
     ensures count { IfOk result (λ v. length v.items ≡ length items.now) }
     ensures each { IfOk result (λ v. AllZip (λ c d. FnReturnsAt F.Fn f c (Ok d)) items.now v.items) }
 {
-    let mut out = Vec::new(alloc);
+    let mut out = Vec::with_capacity(alloc, items.len())?;
     for item in items {
         out.push(f(item)?)?;
     }
@@ -57,7 +57,8 @@ impl<K: Additive> Poly<K> {
 
 /// Both polynomials, the one with fewer coefficients first.
 fn by_count<'a, K: Drop>(a: &'a Poly<K>, b: &'a Poly<K>) -> (&'a Poly<K>, &'a Poly<K>)
-    ensures both { ((result.0.now ≡ a.now) × (result.1.now ≡ b.now)) ⊎ ((result.0.now ≡ b.now) × (result.1.now ≡ a.now)) }
+    ensures both { ((result.0.now ≡ a.now) × (result.1.now ≡ b.now))
+        ⊎ ((result.0.now ≡ b.now) × (result.1.now ≡ a.now)) }
     ensures order { length result.0.now ≤ length result.1.now }
 {
     if a.coefficients.len() <= b.coefficients.len() {
@@ -180,7 +181,8 @@ impl<K: Additive> Additive for Poly<K> {
     /// Takes `rhs` from this polynomial, by adding its negative. The polynomial then stores as many
     /// coefficients as the one that stored more. Where it is refused, the polynomial is as it was.
     fn sub_assign(&mut self, alloc: Global, rhs: &Self) -> Mem<()>
-        ensures ok { OnOk result (HaveSameCoefficients K.same K.zero self.new (polynomial_difference K.sum K.negative self.old rhs.now)) }
+        ensures ok { OnOk result (HaveSameCoefficients K.same K.zero self.new
+            (polynomial_difference K.sum K.negative self.old rhs.now)) }
         ensures count { OnOk result (length self.new ≡ max (length self.old) (length rhs.now)) }
         ensures err { OnErr result (self.new ≡ self.old) }
     {
@@ -191,7 +193,8 @@ impl<K: Additive> Additive for Poly<K> {
 
     /// The negative, with as many stored coefficients.
     fn neg(self, alloc: Global) -> Mem<Self>
-        ensures ok { IfOk result (λ answer. HaveSameCoefficients K.same K.zero answer (polynomial_negative K.negative self)) }
+        ensures ok { IfOk result (λ answer. HaveSameCoefficients K.same K.zero answer
+            (polynomial_negative K.negative self)) }
         ensures count { IfOk result (λ answer. length answer ≡ length self) }
     {
         let out = negative_of(alloc, &self)?;
@@ -200,7 +203,8 @@ impl<K: Additive> Additive for Poly<K> {
 
     /// The sum, with as many stored coefficients as the one that stored more.
     fn add(self, alloc: Global, rhs: &Self) -> Mem<Self>
-        ensures ok { IfOk result (λ answer. HaveSameCoefficients K.same K.zero answer (polynomial_sum K.sum self rhs.now)) }
+        ensures ok { IfOk result (λ answer. HaveSameCoefficients K.same K.zero answer
+            (polynomial_sum K.sum self rhs.now)) }
         ensures count { IfOk result (λ answer. length answer ≡ max (length self) (length rhs.now)) }
     {
         let mut out = self;
@@ -210,7 +214,8 @@ impl<K: Additive> Additive for Poly<K> {
 
     /// The difference, with as many stored coefficients as the one that stored more.
     fn sub(self, alloc: Global, rhs: &Self) -> Mem<Self>
-        ensures ok { IfOk result (λ answer. HaveSameCoefficients K.same K.zero answer (polynomial_difference K.sum K.negative self rhs.now)) }
+        ensures ok { IfOk result (λ answer. HaveSameCoefficients K.same K.zero answer
+            (polynomial_difference K.sum K.negative self rhs.now)) }
         ensures count { IfOk result (λ answer. length answer ≡ max (length self) (length rhs.now)) }
     {
         let mut out = self;
@@ -241,7 +246,8 @@ impl<K: Additive> Additive for Poly<K> {
     /// The n-fold sum, n being the number that the limbs write, the lowest limb first. It is zero, with
     /// one stored coefficient, where they write 0; else it stores as many coefficients as this one.
     fn scale(&self, alloc: Global, bits_le: &[u64]) -> Mem<Self>
-        ensures ok { IfOk result (λ answer. HaveSameCoefficients K.same K.zero answer (multiple (K.zero ∷ []) (polynomial_sum K.sum) self.now (number_of_limbs bits_le.now))) }
+        ensures ok { IfOk result (λ answer. HaveSameCoefficients K.same K.zero answer
+            (multiple (K.zero ∷ []) (polynomial_sum K.sum) self.now (number_of_limbs bits_le.now))) }
         ensures count { IfOk result (λ answer. 0 < number_of_limbs bits_le.now → length answer ≡ length self.now) }
         ensures count_of_zero { IfOk result (λ answer. number_of_limbs bits_le.now ≡ 0 → length answer ≡ 1) }
     {
@@ -267,7 +273,8 @@ impl<R: Ring, K: Space<R>> Space<R> for Poly<K> {
 
     /// Scales each coefficient by `r`. Where it is refused, the polynomial is as it was.
     fn scale_assign(&mut self, alloc: Global, r: &R) -> Mem<()>
-        ensures ok { OnOk result (HaveSameCoefficients K.same K.zero self.new (polynomial_multiple K.scaling self.old r.now)) }
+        ensures ok { OnOk result (HaveSameCoefficients K.same K.zero self.new
+            (polynomial_multiple K.scaling self.old r.now)) }
         ensures count { OnOk result (length self.new ≡ length self.old) }
         ensures err { OnErr result (self.new ≡ self.old) }
     {
@@ -287,7 +294,8 @@ impl<R: Ring, K: Space<R>> Space<R> for Poly<K> {
 
     /// The polynomial scaled by `r`, with as many stored coefficients.
     fn scaled(self, alloc: Global, r: &R) -> Mem<Self>
-        ensures ok { IfOk result (λ answer. HaveSameCoefficients K.same K.zero answer (polynomial_multiple K.scaling self r.now)) }
+        ensures ok { IfOk result (λ answer. HaveSameCoefficients K.same K.zero answer
+            (polynomial_multiple K.scaling self r.now)) }
         ensures count { IfOk result (λ answer. length answer ≡ length self) }
     {
         let mut out = self;
@@ -300,12 +308,14 @@ impl<R: Ring, K: Space<R>> Space<R> for Poly<K> {
     ///
     /// Coefficient i of the sum is the weighted sum of the coefficients i.
     fn msm(alloc: Global, points: &[Self], scalars: &[R]) -> Mem<Self>
-        ensures ok { IfOk result (λ answer. HaveSameCoefficients K.same K.zero answer (weighted_sum (K.zero ∷ []) (polynomial_sum K.sum) (polynomial_multiple K.scaling) points.now scalars.now)) }
+        ensures ok { IfOk result (λ answer. HaveSameCoefficients K.same K.zero answer
+            (weighted_sum (K.zero ∷ []) (polynomial_sum K.sum) (polynomial_multiple K.scaling) points.now scalars.now)) }
         ensures count { IfOk result (λ answer. length answer ≡ greatest_count (take (length scalars.now) points.now)) }
     {
         let weighted = &points[..points.len().min(scalars.len())];
-        let mut coefficients = Vec::new(alloc);
-        for i in 0..greatest_count(weighted) {
+        let count = greatest_count(weighted);
+        let mut coefficients = Vec::with_capacity(alloc, count)?;
+        for i in 0..count {
             let column = coefficients_at(alloc, weighted, i)?;
             coefficients.push(K::msm(alloc, &column, scalars)?)?;
         }

@@ -15,10 +15,11 @@ impl<G: CryptoGroup> Poly<G> {
     pub fn commit(alloc: Global, p: Poly<G::Scalar>) -> Mem<Self>
         ensures count { IfOk result (λ q. length q ≡ length p) }
         ensures each { IfOk result (λ q. AllZip (λ scalar element. G.same element (G.scaling G.generator scalar)) p q) }
-        ensures values { IfOk result (λ q. (x : G.Scalar) → G.same (value G.Space G.Scalar.Ring q x) (G.scaling G.generator (value_in_ring G.Scalar.Ring p x))) }
+        ensures values { IfOk result (λ q. (x : G.Scalar)
+            → G.same (value G.Space G.Scalar.Ring q x) (G.scaling G.generator (value_in_ring G.Scalar.Ring p x))) }
     {
         let generator = G::generator(alloc)?;
-        let mut coefficients = Vec::new(alloc);
+        let mut coefficients = Vec::with_capacity(alloc, p.coefficients.len())?;
         for scalar in &p.coefficients {
             let mut element = generator.clone(alloc)?;
             element.scale_assign(alloc, scalar)?;

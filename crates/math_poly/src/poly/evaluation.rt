@@ -22,7 +22,7 @@ impl<K: Drop> Poly<K> {
             unreachable!()
         };
         let last = last.clone(alloc)?;
-        if R::NEVER_REFUSES && K::NEVER_REFUSES {
+        if R::NEVER_REFUSES && K::NEVER_REFUSES && front.len() >= 8 {
             let out = horner_by_fours(alloc, front, last, r)?;
             return Ok(out);
         }
@@ -98,8 +98,8 @@ fn horner_step<R: Ring, K: Space<R>>(alloc: Global, out: &mut K, r: &R, coeffici
     Ok(())
 }
 
-/// The value that `horner` gives, by four coefficients at a time, which takes fewer products one after
-/// the other, but copies some coefficients.
+/// The value that `horner` gives, by four coefficients at a time. Fewer products wait for one another,
+/// but two of each four coefficients are copied, so it is for types that never refuse.
 ///
 /// The value of a + b X + c X^2 + d X^3 + X^4 p is (a + b r) + (c + d r) r^2, and to that the value of
 /// p scaled by r^4. So for each four coefficients one product waits for those of the four before.
@@ -136,7 +136,7 @@ fn first_powers<R: Ring>(alloc: Global, shift: R, base: &R, n: usize) -> Mem<Vec
     ensures count { IfOk result (λ v. length v.items ≡ n) }
     ensures powers { IfOk result (λ v. AllZip R.same v.items (coset R.one R.product shift base.now n)) }
 {
-    let mut out = Vec::new(alloc);
+    let mut out = Vec::with_capacity(alloc, n)?;
     for power in powers(alloc, shift, base).take(n) {
         out.push(power?)?;
     }
@@ -145,7 +145,8 @@ fn first_powers<R: Ring>(alloc: Global, shift: R, base: &R, n: usize) -> Mem<Vec
 
 /// Adds shift, shift * base, shift * base^2 and so on to the sums in turn.
 fn add_powers<R: Ring>(alloc: Global, sums: &mut [R], shift: R, base: &R) -> Mem<()>
-    ensures { OnOk result (AllZip (λ terms new. R.same new (R.sum terms.0 terms.1)) (zip sums.old (coset R.one R.product shift base.now (length sums.old))) sums.new) }
+    ensures { OnOk result (AllZip (λ terms new. R.same new (R.sum terms.0 terms.1))
+        (zip sums.old (coset R.one R.product shift base.now (length sums.old))) sums.new) }
 {
     let mut terms = powers(alloc, shift, base);
     for total in sums.iter_mut() {

@@ -21,8 +21,10 @@ impl<K: Random + Drop> Poly<K> {
     ) -> Result<Self, RandomError>
         requires { degree < 2 ^ 32 - 1 }
         ensures count { IfOk result (λ p. length p ≡ degree + 1) }
-        ensures sampled { IfOk result (λ p. samples K.sample (degree + 1) (G.stream rng.old) ≡ (Some p, G.stream rng.new)) }
-        ensures refused { IfErr result (λ error. error ≡ TooManyWords → samples K.sample (degree + 1) (G.stream rng.old) ≡ (None, G.stream rng.new)) }
+        ensures sampled { IfOk result (λ p. samples K.sample (degree + 1) (G.stream rng.old) ≡
+            (Some p, G.stream rng.new)) }
+        ensures refused { IfErr result (λ error. error ≡ TooManyWords
+            → samples K.sample (degree + 1) (G.stream rng.old) ≡ (None, G.stream rng.new)) }
     {
         let constant = K::random(alloc, rng)?;
         let p = Poly::new_with_constant(alloc, rng, degree, constant)?;
@@ -42,8 +44,10 @@ impl<K: Random + Drop> Poly<K> {
         requires { degree < 2 ^ 32 - 1 }
         ensures count { IfOk result (λ p. length p ≡ degree + 1) }
         ensures constant { IfOk result (λ p. slice_get p 0 ≡ Some constant) }
-        ensures sampled { IfOk result (λ p. samples K.sample degree (G.stream rng.old) ≡ (Some (drop 1 p), G.stream rng.new)) }
-        ensures refused { IfErr result (λ error. error ≡ TooManyWords → samples K.sample degree (G.stream rng.old) ≡ (None, G.stream rng.new)) }
+        ensures sampled { IfOk result (λ p. samples K.sample degree (G.stream rng.old) ≡
+            (Some (drop 1 p), G.stream rng.new)) }
+        ensures refused { IfErr result (λ error. error ≡ TooManyWords
+            → samples K.sample degree (G.stream rng.old) ≡ (None, G.stream rng.new)) }
     {
         let mut coefficients = Vec::new(alloc);
         coefficients.push(constant)?;

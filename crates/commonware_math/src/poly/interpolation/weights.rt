@@ -19,10 +19,13 @@ use std::alloc::Global;
 /// is zero, and all weights are zero.
 pub fn weights_at<F: Field>(alloc: Global, points: &[F], x: &F) -> Mem<Vec<F>>
     ensures count { IfOk result (λ w. length w.items ≡ length points.now) }
-    ensures at_point { IfOk result (λ w. (k : ℕ) → IsFirstPlace F.same x.now points.now k → IsOneAt F.same F.zero F.one k w.items) }
-    ensures repeated { IfOk result (λ w. All (λ p. ¬ (F.same p x.now)) points.now → SomeAreSame F.same points.now → All (λ v. F.same v F.zero) w.items) }
+    ensures at_point { IfOk result (λ w. (k : ℕ) → IsFirstPlace F.same x.now points.now k
+        → IsOneAt F.same F.zero F.one k w.items) }
+    ensures repeated { IfOk result (λ w. All (λ p. ¬ (F.same p x.now)) points.now → SomeAreSame F.same points.now
+        → All (λ v. F.same v F.zero) w.items) }
     ensures weights { IfOk result (λ w. AreApart F.same points.now → AreWeightsAt F.Ring x.now points.now w.items) }
-    ensures only { IfOk result (λ w. AreApart F.same points.now → (others : List F) → AreWeightsAt F.Ring x.now points.now others → AllZip F.same others w.items) }
+    ensures only { IfOk result (λ w. AreApart F.same points.now → (others : List F)
+        → AreWeightsAt F.Ring x.now points.now others → AllZip F.same others w.items) }
 {
     if let Some(k) = first_place(alloc, points, x)? {
         let out = one_at(alloc, k, points.len())?;
@@ -30,7 +33,7 @@ pub fn weights_at<F: Field>(alloc: Global, points: &[F], x: &F) -> Mem<Vec<F>>
     }
     let one = F::one(alloc)?;
     let numerator = times_differences(alloc, one, x, points)?;
-    let mut divisors = Vec::new(alloc);
+    let mut divisors = Vec::with_capacity(alloc, points.len())?;
     for i in 0..points.len() {
         divisors.push(divisor(alloc, points, x, i)?)?;
     }
@@ -57,7 +60,7 @@ fn one_at<R: Ring>(alloc: Global, k: usize, n: usize) -> Mem<Vec<R>>
     ensures count { IfOk result (λ v. length v.items ≡ n) }
     ensures items { IfOk result (λ v. IsOneAt R.same R.zero R.one k v.items) }
 {
-    let mut out = Vec::new(alloc);
+    let mut out = Vec::with_capacity(alloc, n)?;
     for i in 0..n {
         let item = if i == k {
             R::one(alloc)?
@@ -74,7 +77,8 @@ fn one_at<R: Ring>(alloc: Global, k: usize, n: usize) -> Mem<Vec<R>>
 /// The differences from four roots are multiplied with each other first, so that for each four roots
 /// one product waits for those of the roots before.
 fn times_differences<R: Ring>(alloc: Global, start: R, r: &R, roots: &[R]) -> Mem<R>
-    ensures { IfOk result (λ answer. R.same answer (R.product start (root_product R.sum R.negative R.product R.one r.now roots.now))) }
+    ensures { IfOk result (λ answer. R.same answer
+        (R.product start (root_product R.sum R.negative R.product R.one r.now roots.now))) }
 {
     let mut out = start;
     let mut left = roots;
@@ -94,7 +98,8 @@ fn times_differences<R: Ring>(alloc: Global, start: R, r: &R, roots: &[R]) -> Me
 
 /// The product of r - x and r - y.
 fn difference_product<R: Ring>(alloc: Global, r: &R, x: &R, y: &R) -> Mem<R>
-    ensures { IfOk result (λ answer. R.same answer (R.product (R.sum r.now (R.negative x.now)) (R.sum r.now (R.negative y.now)))) }
+    ensures { IfOk result (λ answer. R.same answer
+        (R.product (R.sum r.now (R.negative x.now)) (R.sum r.now (R.negative y.now)))) }
 {
     let mut out = difference(alloc, r, x)?;
     let other = difference(alloc, r, y)?;
@@ -114,7 +119,8 @@ fn difference<R: Ring>(alloc: Global, r: &R, x: &R) -> Mem<R>
 /// x - p times the product of p - y over the other points y, where p is point i.
 fn divisor<R: Ring>(alloc: Global, points: &[R], x: &R, i: usize) -> Mem<R>
     requires { i < length points.now }
-    ensures { IfOk result (λ answer. R.same answer (weight_divisor R.zero R.sum R.negative R.product R.one x.now points.now i)) }
+    ensures { IfOk result (λ answer. R.same answer
+        (weight_divisor R.zero R.sum R.negative R.product R.one x.now points.now i)) }
 {
     let p = &points[i];
     let difference = difference(alloc, x, p)?;
@@ -130,8 +136,10 @@ fn divisor<R: Ring>(alloc: Global, points: &[R], x: &R, i: usize) -> Mem<R>
 fn quotients<F: Field>(alloc: Global, numerator: F, divisors: &[F]) -> Mem<Vec<F>>
     ensures count { IfOk result (λ v. length v.items ≡ length divisors.now) }
     ensures each { IfOk result (λ v. All (λ d. ¬ (F.same d F.zero)) divisors.now
-        → (k : ℕ) → k < length divisors.now → F.same (F.product (slice_index_or v.items k F.zero) (slice_index_or divisors.now k F.zero)) numerator) }
-    ensures zeros { IfOk result (λ v. (k : ℕ) → k < length divisors.now → F.same (slice_index_or divisors.now k F.zero) F.zero → All (λ w. F.same w F.zero) v.items) }
+        → (k : ℕ) → k < length divisors.now → F.same
+        (F.product (slice_index_or v.items k F.zero) (slice_index_or divisors.now k F.zero)) numerator) }
+    ensures zeros { IfOk result (λ v. (k : ℕ) → k < length divisors.now
+        → F.same (slice_index_or divisors.now k F.zero) F.zero → All (λ w. F.same w F.zero) v.items) }
 {
     let (mut out, whole) = products_before(alloc, divisors)?;
     let mut factor = whole.inv(alloc)?;
@@ -143,10 +151,11 @@ fn quotients<F: Field>(alloc: Global, numerator: F, divisors: &[F]) -> Mem<Vec<F
 /// For each place the product of the factors before it, and then the product of all.
 fn products_before<R: Ring>(alloc: Global, factors: &[R]) -> Mem<(Vec<R>, R)>
     ensures count { IfOk result (λ answer. length answer.0.items ≡ length factors.now) }
-    ensures before { IfOk result (λ answer. (k : ℕ) → k < length factors.now → R.same (slice_index_or answer.0.items k R.zero) (total R.one R.product (take k factors.now))) }
+    ensures before { IfOk result (λ answer. (k : ℕ) → k < length factors.now
+        → R.same (slice_index_or answer.0.items k R.zero) (total R.one R.product (take k factors.now))) }
     ensures all { IfOk result (λ answer. R.same answer.1 (total R.one R.product factors.now)) }
 {
-    let mut out = Vec::new(alloc);
+    let mut out = Vec::with_capacity(alloc, factors.len())?;
     let mut all = R::one(alloc)?;
     for factor in factors {
         let before = all.clone(alloc)?;
@@ -160,7 +169,9 @@ fn products_before<R: Ring>(alloc: Global, factors: &[R]) -> Mem<(Vec<R>, R)>
 fn times_after<R: Ring>(alloc: Global, items: &mut [R], start: R, factors: &[R]) -> Mem<()>
     requires { length items.old ≡ length factors.now }
     ensures { OnOk result ((k : ℕ) → k < length factors.now
-        → R.same (slice_index_or items.new k R.zero) (R.product (slice_index_or items.old k R.zero) (R.product start (total R.one R.product (drop (suc k) factors.now))))) }
+        → R.same (slice_index_or items.new k R.zero)
+        (R.product (slice_index_or items.old k R.zero)
+        (R.product start (total R.one R.product (drop (suc k) factors.now))))) }
 {
     let mut after = start;
     for i in (0..items.len()).rev() {

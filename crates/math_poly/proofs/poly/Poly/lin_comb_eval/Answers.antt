@@ -45,4 +45,5 @@ returns g c =
     let points : c.deref.result.now ≡ p = cc in
     let scalars : c.deref-2.result.now ≡ weights = cc in
     E.transitive _ _ _ (rw (points, scalars) at c.in_ok-out.ensures.ok)
-    (combination-all E K.Additive.group K.Space.spans R.Object.equality R.Multiplicative.commutes p c.in-Some.rest.now c.loop-pair.pair-index weights _ c.loop-pair-test.false c.loop-pair.invariant.whole)
+    (combination-all E K.Additive.group K.Space.spans R.Object.equality R.Multiplicative.commutes p c.in-Some.rest.now c.loop-pair.pair-index weights _ c.loop-pair-test.false
+    c.loop-pair.invariant.whole)

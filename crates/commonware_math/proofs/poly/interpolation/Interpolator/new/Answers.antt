@@ -9,5 +9,6 @@ returns g c =
       made.1,
       made.2,
       made.3,
-      interpolates-respects _ F.Object.equality F.Additive.group F.Multiplicative.commutes F.Ring.ring g.I.Ord.cmp c.in_ok-zero.zero g.F.Additive.zero c.in_ok-zero.ensures.ok made.1 c.in_ok-out.out made.4,
+      interpolates-respects _ F.Object.equality F.Additive.group F.Multiplicative.commutes F.Ring.ring g.I.Ord.cmp c.in_ok-zero.zero g.F.Additive.zero c.in_ok-zero.ensures.ok made.1 c.in_ok-out.out
+          made.4,
     )

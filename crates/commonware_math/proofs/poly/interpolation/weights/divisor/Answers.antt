@@ -6,6 +6,7 @@ use Rattle.commonware_math.proofs.poly.interpolation.weights.divisor.Goals as go
 pub returns : goal.returns
 returns g c =
     let R = g.met.R in
-    let point : c.index-points-i.result ≡ get_or c.args.points.now c.args.i g.R.Additive.zero = get_or_read c.args.points.now c.args.i c.index-points-i.result c.requires c.index-points-i.is g.R.Additive.zero in
+    let point : c.index-points-i.result ≡ get_or c.args.points.now c.args.i g.R.Additive.zero = get_or_read c.args.points.now c.args.i c.index-points-i.result c.requires c.index-points-i.is
+    g.R.Additive.zero in
     divisor-joined R.Object.equality R.Additive.group R.Multiplicative.commutes R.Ring.ring c.args.x.now c.index-points-i.result c.args.x.now c.in_ok-difference.difference c.in_ok-front.front
     c.in_ok-out.out c.args.points.now c.args.i point (R.Object.equality.reflexive c.args.x.now) c.in_ok-difference.ensures c.in_ok-front.ensures (rw (add-one, take_rest) at c.in_ok-out.ensures)

@@ -14,8 +14,10 @@ loop-factor-preserved g c =
     record {
       count = rw pushed (omega (arith, length-append out (before ∷ []), c.loop-factor.invariant.count));
       before = rw pushed
-          (each_place_next g.R.Additive.zero (λ k a. g.R.Object.same a (total g.R.Ring.one g.R.Multiplicative.product (take k c.args.factors.now))) out c.loop-factor.factor-index before c.loop-factor.invariant.count
+          (each_place_next g.R.Additive.zero (λ k a. g.R.Object.same a (total g.R.Ring.one g.R.Multiplicative.product (take k c.args.factors.now))) out c.loop-factor.factor-index before
+          c.loop-factor.invariant.count
           c.loop-factor.invariant.before (R.Object.equality.transitive _ _ _ c.in_ok-before.ensures.ok c.loop-factor.invariant.all));
-      all = before-next R.Object.equality R.Additive.group R.Multiplicative.commutes R.Ring.ring c.loop-factor.all c.mul_assign.new.self c.factor-item.result c.args.factors.now c.loop-factor.factor-index
+      all = before-next R.Object.equality R.Additive.group R.Multiplicative.commutes R.Ring.ring c.loop-factor.all c.mul_assign.new.self c.factor-item.result c.args.factors.now
+          c.loop-factor.factor-index
           c.loop-factor-test.true c.factor-item.is c.loop-factor.invariant.all c.in_ok-mul_assign.ensures.ok;
     }

@@ -11,7 +11,8 @@ returns-clause-each g c =
     let kept : length new ≡ length old = c.times_after.auto.items ∙ ap length c.deref_mut.ensures.value in
     let written : take c.in_ok-out.out.len (new ++ drop (length new) old) ≡ new = take-written c.in_ok-out.out.len old new c.in_ok-out.out.ok.0 kept in
     rw written
-    (quotients-times F.Object.equality F.Additive.group F.Multiplicative.commutes F.Ring.ring F.Field.field c.in_ok-out.whole c.in_ok-factor.factor c.mul_assign.new.self c.args.numerator c.args.divisors.now old new
+    (quotients-times F.Object.equality F.Additive.group F.Multiplicative.commutes F.Ring.ring F.Field.field c.in_ok-out.whole c.in_ok-factor.factor c.mul_assign.new.self c.args.numerator
+    c.args.divisors.now old new
     c.in_ok-out.ensures.all c.in_ok-factor.ensures.ok c.in_ok-mul_assign.ensures.ok c.in_ok-out.ensures.before (rw c.deref_mut.ensures.value at c.in_ok-times_after.ensures))
 
 pub returns-clause-zeros : goal.returns-clause-zeros
@@ -22,5 +23,7 @@ returns-clause-zeros g c =
     let kept : length new ≡ length old = c.times_after.auto.items ∙ ap length c.deref_mut.ensures.value in
     let written : take c.in_ok-out.out.len (new ++ drop (length new) old) ≡ new = take-written c.in_ok-out.out.len old new c.in_ok-out.out.ok.0 kept in
     rw written
-    (quotients-zero F.Object.equality F.Additive.group F.Multiplicative.commutes F.Ring.ring F.Field.field c.in_ok-out.whole c.in_ok-factor.factor c.mul_assign.new.self c.args.numerator c.args.divisors.now old new
-    c.in_ok-out.ensures.all c.in_ok-factor.ensures.ok c.in_ok-mul_assign.ensures.ok c.in_ok-out.ensures.before (rw c.deref_mut.ensures.value at c.in_ok-times_after.ensures) (kept ∙ c.in_ok-out.ensures.count))
+    (quotients-zero F.Object.equality F.Additive.group F.Multiplicative.commutes F.Ring.ring F.Field.field c.in_ok-out.whole c.in_ok-factor.factor c.mul_assign.new.self c.args.numerator
+    c.args.divisors.now old new
+    c.in_ok-out.ensures.all c.in_ok-factor.ensures.ok c.in_ok-mul_assign.ensures.ok c.in_ok-out.ensures.before (rw c.deref_mut.ensures.value at c.in_ok-times_after.ensures)
+    (kept ∙ c.in_ok-out.ensures.count))

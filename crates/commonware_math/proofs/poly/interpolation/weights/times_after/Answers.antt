@@ -22,6 +22,7 @@ loop-i-preserved g c =
       after = after-next E G P R.Ring.ring c.args.start c.loop-i.after c.mul_assign-in-loop-i.new.self c.index-factors-i.result c.args.factors.now c.loop-i.i (omega arith) (omega arith)
           c.index-factors-i.is invariant.after c.in_ok-mul_assign-2.ensures.ok;
       before = before-kept E G P R.Ring.ring c.mul_assign.new.self c.args.items.now c.loop-i.items c.loop-i.i invariant.before;
-      done = done-next E G P R.Ring.ring c.args.start c.loop-i.after c.index-items-i.result c.mul_assign.new.self c.args.items.now c.loop-i.items c.args.factors.now c.loop-i.i (omega arith) (omega arith)
+      done = done-next E G P R.Ring.ring c.args.start c.loop-i.after c.index-items-i.result c.mul_assign.new.self c.args.items.now c.loop-i.items c.args.factors.now c.loop-i.i (omega arith)
+          (omega arith)
           invariant.after c.in_ok-mul_assign.ensures.ok invariant.before invariant.done;
     }

@@ -16,7 +16,8 @@ returns-then-not-branch-clause-ok g c =
     let order = same_in_either_order zero g.met.K.Object.equality _ _ _ _ c.by_count.ensures.both in
     let shorter : c.deref-c-items.result.now ≡ c.by_count.result.0.now = c.deref-c-items.ensures.value ∙ c.shorter.view_is in
     let here : c.c-item.result ≡ coefficient zero c.by_count.result.0.now c.loop-i.i = rw (← shorter) (get_or_read _ _ _ c.loop-i-test.true c.c-item.is zero) in
-    let there : c.index.result.now ≡ coefficient zero c.by_count.result.1.now c.loop-i.i = rw (← c.longer.view_is) (get_or_read c.longer.inside.coefficients.items c.loop-i.i _ (search rules) c.index.ensures zero) in
+    let there : c.index.result.now ≡ coefficient zero c.by_count.result.1.now c.loop-i.i = rw (← c.longer.view_is)
+    (get_or_read c.longer.inside.coefficients.items c.loop-i.i _ (search rules) c.index.ensures zero) in
     (λ e. absurd (cc e), λ h. sym c.if-not-branch.true ∙ c.in_ok-equals.ensures.ok.1 (rw (here, there) (order.1 h c.loop-i.i)))
 
 pub loop-i-preserved : goal.loop-i-preserved

@@ -23,7 +23,7 @@ loop-i-preserved g c =
 
 pub invariant_of-result : goal.invariant_of-result
 invariant_of-result g c =
-    let positive : 0 < c.greatest_count-i-end.result = rw c.greatest_count-i-end.ensures.greatest (greatest_count_positive (take c.min.result c.args.points.now)) in
+    let positive : 0 < c.greatest_count-count.result = rw c.greatest_count-count.ensures.greatest (greatest_count_positive (take c.min.result c.args.points.now)) in
     (omega arith, omega arith)
 
 pub returns-clause-ok : goal.returns-clause-ok
@@ -37,5 +37,5 @@ returns-clause-ok g c =
     let whole : weighted_sum (zero ∷ []) (polynomial_sum sum) (polynomial_multiple scaling) (take c.min.result points) scalars
     ≡ weighted_sum (zero ∷ []) (polynomial_sum sum) (polynomial_multiple scaling) points scalars =
     rw weighted (weighted_sum-take (zero ∷ []) (polynomial_sum sum) (polynomial_multiple scaling) points scalars) in
-    let ended : c.loop-i.i ≡ greatest_count (take (length scalars) points) = rw (← weighted, ← c.greatest_count-i-end.ensures.greatest) (omega arith) in
+    let ended : c.loop-i.i ≡ greatest_count (take (length scalars) points) = rw (← weighted, ← c.greatest_count-count.ensures.greatest) (omega arith) in
     same_by_count zero g.met.K.Object.equality _ _ c.loop-i.i c.loop-i.invariant.count (length-weighted_sum zero sum scaling points scalars ∙ sym ended) (rw whole at c.loop-i.invariant.coefficients)
