@@ -5,7 +5,8 @@
 //! a run show as allocations.
 
 ghost use Rattle.std.specs.Prelude.{◌≡◌, IfOk, false};
-ghost use Rattle.math_base.specs.Elements.{residue, same, sum, negative, product, inverse, root_of, shift_of, half_of, sample_of};
+ghost use Rattle.math_base.specs.Elements.{residue, same, sum, negative, product, inverse};
+ghost use Rattle.math_base.specs.Elements.{root_of, shift_of, half_of, sample_of};
 ghost use Rattle.math_samples.specs.Hashes.{element_of};
 ghost use Rattle.math_base.specs.ElementLaws.{equality, group, commutes, ring};
 ghost use Rattle.math_base.specs.ElementRootLaws.{field, roots};
@@ -19,6 +20,7 @@ use math_base::fields::goldilocks::F;
 use rand_core::{CryptoRng, Rng};
 use std::alloc::Global;
 use std::marker::Model;
+use std::ptr;
 
 /// An element in a box.
 #[derive(Debug, Drop)]
@@ -52,7 +54,7 @@ impl Boxed<F> {
 
     /// Where the box lies.
     pub fn place(&self) -> *const F {
-        &*self.element
+        ptr::from_ref(&*self.element)
     }
 }
 

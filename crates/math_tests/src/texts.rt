@@ -74,12 +74,12 @@ fn bitmaps_and_vectors(rt: HostRuntime) -> Result<(), Fail> {
         printed.as_str(),
         "PolynomialVector { coefficients: 000000000000000A \n }"
     );
-    let mut values = EvaluationVector::empty(alloc, 1, 1)?;
-    values.fill_row(alloc, 1, &[F::from(10)])?;
+    let mut values = EvaluationVector::empty(alloc, 0, 1)?;
+    values.fill_row(alloc, 0, &[F::from(10)])?;
     let printed = format!(in alloc; "{values:?}")?;
     assert_eq!(rt;
         printed.as_str(),
-        "EvaluationVector { matrix: 0000000000000000 \n000000000000000A \n, filled: VanishingPoints { lg_size: 1, words: [2] } }"
+        "EvaluationVector { matrix: 000000000000000A \n, filled: VanishingPoints { lg_size: 0, words: [1] } }"
     );
     Ok(())
 }

@@ -51,7 +51,7 @@ fn is_right<R: Element>(
                 return Err(fault);
             }
             answer.text.clear();
-            write!(answer.text, "{fault}")?;
+            write!(answer.text, " {fault}")?;
             answer.is(alloc, row.answer)
         }
     }
