@@ -9,6 +9,7 @@ pub mod PaddedPolynomials
 pub mod FirstRows
 pub mod WrittenCells
 pub mod ComparedTruths
+pub mod Members
 pub mod CombinedPairs
 pub mod TransformClasses
 pub mod ColumnHalves
