@@ -10,6 +10,7 @@ pub mod FirstRows
 pub mod WrittenCells
 pub mod MatrixPlaces
 pub mod ComparedTruths
+pub mod Members
 pub mod CombinedPairs
 pub mod TransformClasses
 pub mod ColumnHalves

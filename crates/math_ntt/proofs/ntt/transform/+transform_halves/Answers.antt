@@ -1,5 +1,5 @@
 use Rattle.std.proofs.Common.{◌≡◌, ◌+◌, ◌-◌, ◌*◌, ◌^◌, length, ap, rules, arith}
-use Rattle.math_base.specs.Members.{RingOf}
+use Rattle.math_ntt.proofs.Members.{ring_members}
 use Rattle.math_ntt.proofs.Levels.{Halved, halved, adds-part, adds-then, powers-below, transformed-level}
 use Rattle.math_ntt.proofs.ntt.transform.+transform_halves.Goals as goal
 
@@ -7,16 +7,7 @@ pub transform_halves-requires : goal.transform_halves-requires
 transform_halves-requires g t c κs within =
     let h : Halved c.args.lg c.args.cols = halved c.args.lg c.args.cols c.if-lg-eq0.false in
     let hc : c.size_of-half.result * c.args.cols ≡ 2 ^ (c.args.lg - 1) * c.args.cols = ap (λ n. n * c.args.cols) c.size_of-half.ensures in
-    let R : RingOf g.row.F.Denot = record {
-      product = g.F.Multiplicative.product;
-      debug_output = g.F.Debug.debug_output;
-      same = g.F.Object.same;
-      NEVER_REFUSES = g.F.Object.NEVER_REFUSES;
-      zero = g.F.Additive.zero;
-      sum = g.F.Additive.sum;
-      negative = g.F.Additive.negative;
-      one = g.F.Ring.one;
-    } in (
+    let R = ring_members g.F.Multiplicative.product g.F.Debug.debug_output g.F.Object.same g.F.Object.NEVER_REFUSES g.F.Additive.zero g.F.Additive.sum g.F.Additive.negative g.F.Ring.one in (
       omega arith,
       (
         search rules,
@@ -40,16 +31,7 @@ pub transform_halves-requires-2 : goal.transform_halves-requires-2
 transform_halves-requires-2 g t c κs within =
     let h : Halved c.args.lg c.args.cols = halved c.args.lg c.args.cols c.if-lg-eq0.false in
     let hc : c.size_of-half.result * c.args.cols ≡ 2 ^ (c.args.lg - 1) * c.args.cols = ap (λ n. n * c.args.cols) c.size_of-half.ensures in
-    let R : RingOf g.row.F.Denot = record {
-      product = g.F.Multiplicative.product;
-      debug_output = g.F.Debug.debug_output;
-      same = g.F.Object.same;
-      NEVER_REFUSES = g.F.Object.NEVER_REFUSES;
-      zero = g.F.Additive.zero;
-      sum = g.F.Additive.sum;
-      negative = g.F.Additive.negative;
-      one = g.F.Ring.one;
-    } in (
+    let R = ring_members g.F.Multiplicative.product g.F.Debug.debug_output g.F.Object.same g.F.Object.NEVER_REFUSES g.F.Additive.zero g.F.Additive.sum g.F.Additive.negative g.F.Ring.one in (
       omega arith,
       (
         search rules,
@@ -129,16 +111,7 @@ pub returns-clause-values : goal.returns-clause-values
 returns-clause-values g t c =
     let h : Halved c.args.lg c.args.cols = halved c.args.lg c.args.cols c.if-lg-eq0.false in
     let hc : c.size_of-half.result * c.args.cols ≡ 2 ^ (c.args.lg - 1) * c.args.cols = ap (λ n. n * c.args.cols) c.size_of-half.ensures in
-    let R : RingOf g.row.F.Denot = record {
-      product = g.F.Multiplicative.product;
-      debug_output = g.F.Debug.debug_output;
-      same = g.F.Object.same;
-      NEVER_REFUSES = g.F.Object.NEVER_REFUSES;
-      zero = g.F.Additive.zero;
-      sum = g.F.Additive.sum;
-      negative = g.F.Additive.negative;
-      one = g.F.Ring.one;
-    } in
+    let R = ring_members g.F.Multiplicative.product g.F.Debug.debug_output g.F.Object.same g.F.Object.NEVER_REFUSES g.F.Additive.zero g.F.Additive.sum g.F.Additive.negative g.F.Ring.one in
     let F = g.met.F in
     let low : length c.transform_halves.new.cells ≡ 2 ^ (c.args.lg - 1) * c.args.cols = omega (arith, c.in_ok-transform_halves.ensures.size, c.split_at_mut-low.ensures.front_len) in
     let high : length c.transform_halves-2.new.cells ≡ 2 ^ (c.args.lg - 1) * c.args.cols =

@@ -1,5 +1,5 @@
 use Rattle.std.proofs.Common.{◌≡◌, ◌+◌, ◌-◌, ◌*◌, ◌^◌, ◌≤◌, ℕ, suc, length, ap, rules, arith}
-use Rattle.math_base.specs.Members.{RingOf}
+use Rattle.math_ntt.proofs.Members.{ring_members}
 use Rattle.math_ntt.proofs.Levels.{Halved, halved, adds-part, adds-then, powers-below, transformed_back-level}
 use Rattle.math_ntt.proofs.RootInverses.{inverse_square-same}
 use Rattle.math_ntt.proofs.ntt.transform.+untransform_halves.Goals as goal
@@ -8,16 +8,7 @@ pub untransform_halves-requires : goal.untransform_halves-requires
 untransform_halves-requires g t c κs within =
     let h : Halved c.args.lg c.args.cols = halved c.args.lg c.args.cols c.if-lg-eq0.false in
     let hc : c.size_of-half.result * c.args.cols ≡ 2 ^ (c.args.lg - 1) * c.args.cols = ap (λ n. n * c.args.cols) c.size_of-half.ensures in
-    let R : RingOf g.row.F.Denot = record {
-      product = g.F.Multiplicative.product;
-      debug_output = g.F.Debug.debug_output;
-      same = g.F.Object.same;
-      NEVER_REFUSES = g.F.Object.NEVER_REFUSES;
-      zero = g.F.Additive.zero;
-      sum = g.F.Additive.sum;
-      negative = g.F.Additive.negative;
-      one = g.F.Ring.one;
-    } in
+    let R = ring_members g.F.Multiplicative.product g.F.Debug.debug_output g.F.Object.same g.F.Object.NEVER_REFUSES g.F.Additive.zero g.F.Additive.sum g.F.Additive.negative g.F.Ring.one in
     let lp : length c.split_at.result.1.now ≡ 2 ^ (c.args.lg - 1) = omega (arith, c.split_at.ensures.back_len, c.requires.table.count, h.powers, c.size_of-half.ensures) in
     let lpc : length c.split_at.result.1.now * c.args.cols ≡ 2 ^ (c.args.lg - 1) * c.args.cols = ap (λ n. n * c.args.cols) lp in (
       omega arith,
@@ -43,16 +34,7 @@ pub untransform_halves-requires-2 : goal.untransform_halves-requires-2
 untransform_halves-requires-2 g t c κs within =
     let h : Halved c.args.lg c.args.cols = halved c.args.lg c.args.cols c.if-lg-eq0.false in
     let hc : c.size_of-half.result * c.args.cols ≡ 2 ^ (c.args.lg - 1) * c.args.cols = ap (λ n. n * c.args.cols) c.size_of-half.ensures in
-    let R : RingOf g.row.F.Denot = record {
-      product = g.F.Multiplicative.product;
-      debug_output = g.F.Debug.debug_output;
-      same = g.F.Object.same;
-      NEVER_REFUSES = g.F.Object.NEVER_REFUSES;
-      zero = g.F.Additive.zero;
-      sum = g.F.Additive.sum;
-      negative = g.F.Additive.negative;
-      one = g.F.Ring.one;
-    } in
+    let R = ring_members g.F.Multiplicative.product g.F.Debug.debug_output g.F.Object.same g.F.Object.NEVER_REFUSES g.F.Additive.zero g.F.Additive.sum g.F.Additive.negative g.F.Ring.one in
     let lp : length c.split_at.result.1.now ≡ 2 ^ (c.args.lg - 1) = omega (arith, c.split_at.ensures.back_len, c.requires.table.count, h.powers, c.size_of-half.ensures) in
     let lpc : length c.split_at.result.1.now * c.args.cols ≡ 2 ^ (c.args.lg - 1) * c.args.cols = ap (λ n. n * c.args.cols) lp in (
       omega arith,
@@ -139,16 +121,7 @@ pub returns-clause-values : goal.returns-clause-values
 returns-clause-values g t c =
     let h : Halved c.args.lg c.args.cols = halved c.args.lg c.args.cols c.if-lg-eq0.false in
     let hc : c.size_of-half.result * c.args.cols ≡ 2 ^ (c.args.lg - 1) * c.args.cols = ap (λ n. n * c.args.cols) c.size_of-half.ensures in
-    let R : RingOf g.row.F.Denot = record {
-      product = g.F.Multiplicative.product;
-      debug_output = g.F.Debug.debug_output;
-      same = g.F.Object.same;
-      NEVER_REFUSES = g.F.Object.NEVER_REFUSES;
-      zero = g.F.Additive.zero;
-      sum = g.F.Additive.sum;
-      negative = g.F.Additive.negative;
-      one = g.F.Ring.one;
-    } in
+    let R = ring_members g.F.Multiplicative.product g.F.Debug.debug_output g.F.Object.same g.F.Object.NEVER_REFUSES g.F.Additive.zero g.F.Additive.sum g.F.Additive.negative g.F.Ring.one in
     let F = g.met.F in
     let root : ℕ → g.row.F.Denot = (λ l. g.F.Field.inverse (g.F.FieldNTT.root l)) in
     let low : length c.combine_halves.new.low ≡ 2 ^ (c.args.lg - 1) * c.args.cols = omega (arith, c.combine_halves.auto.low, c.split_at_mut-low.ensures.front_len) in

@@ -1,5 +1,5 @@
 use Rattle.std.proofs.Common.{◌≡◌, ◌∙◌, ◌*◌, ◌^◌, length, arith}
-use Rattle.math_base.specs.Members.{RingOf}
+use Rattle.math_ntt.proofs.Members.{ring_members}
 use Rattle.math_ntt.proofs.DomainTransforms.{values-back}
 use Rattle.math_ntt.proofs.RootInverses.{root-inverse}
 use Rattle.math_ntt.proofs.ScaledCells.{halved-no_times, scaled-by_one}
@@ -7,16 +7,7 @@ use Rattle.math_ntt.proofs.ntt.transform.interpolate_rows.Goals as goal
 
 pub returns-in_ok-scale-clause-values : goal.returns-in_ok-scale-clause-values
 returns-in_ok-scale-clause-values g c =
-    let R : RingOf g.row.F.Denot = record {
-      product = g.F.Multiplicative.product;
-      debug_output = g.F.Debug.debug_output;
-      same = g.F.Object.same;
-      NEVER_REFUSES = g.F.Object.NEVER_REFUSES;
-      zero = g.F.Additive.zero;
-      sum = g.F.Additive.sum;
-      negative = g.F.Additive.negative;
-      one = g.F.Ring.one;
-    } in
+    let R = ring_members g.F.Multiplicative.product g.F.Debug.debug_output g.F.Object.same g.F.Object.NEVER_REFUSES g.F.Additive.zero g.F.Additive.sum g.F.Additive.negative g.F.Ring.one in
     let F = g.met.F in
     let order = F.FieldNTT.roots.order c.args.lg c.requires.domain in
     let unit = root-inverse F.Object.equality F.Additive.group F.Multiplicative.commutes F.Ring.ring F.Field.field _ _ order in
@@ -29,16 +20,7 @@ returns-in_ok-scale-clause-values g c =
 
 pub returns-else-lg-gt0-clause-values : goal.returns-else-lg-gt0-clause-values
 returns-else-lg-gt0-clause-values g c =
-    let R : RingOf g.row.F.Denot = record {
-      product = g.F.Multiplicative.product;
-      debug_output = g.F.Debug.debug_output;
-      same = g.F.Object.same;
-      NEVER_REFUSES = g.F.Object.NEVER_REFUSES;
-      zero = g.F.Additive.zero;
-      sum = g.F.Additive.sum;
-      negative = g.F.Additive.negative;
-      one = g.F.Ring.one;
-    } in
+    let R = ring_members g.F.Multiplicative.product g.F.Debug.debug_output g.F.Object.same g.F.Object.NEVER_REFUSES g.F.Additive.zero g.F.Additive.sum g.F.Additive.negative g.F.Ring.one in
     let F = g.met.F in
     let order = F.FieldNTT.roots.order c.args.lg c.requires.domain in
     let unit = root-inverse F.Object.equality F.Additive.group F.Multiplicative.commutes F.Ring.ring F.Field.field _ _ order in

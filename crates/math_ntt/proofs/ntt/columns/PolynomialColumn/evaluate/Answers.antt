@@ -1,5 +1,5 @@
 use Rattle.std.proofs.Common.{◌≡◌, ◌∙◌, ◌^◌, ◌++◌, List, length, take, drop, refl, ap, subst, arith}
-use Rattle.math_base.specs.Members.{RingOf}
+use Rattle.math_ntt.proofs.Members.{ring_members}
 use Rattle.math_ntt.specs.DomainValues.{matrix_of, one_column, AreValuesOnDomain}
 use Rattle.math_base.proofs.WholeWrites.{take-written}
 use Rattle.math_ntt.proofs.OnDomain.{values-on_domain}
@@ -7,16 +7,7 @@ use Rattle.math_ntt.proofs.ntt.columns.PolynomialColumn.evaluate.Goals as goal
 
 pub returns-clause-values : goal.returns-clause-values
 returns-clause-values g c =
-    let R : RingOf g.row.F.Denot = record {
-      product = g.F.Multiplicative.product;
-      debug_output = g.F.Debug.debug_output;
-      same = g.F.Object.same;
-      NEVER_REFUSES = g.F.Object.NEVER_REFUSES;
-      zero = g.F.Additive.zero;
-      sum = g.F.Additive.sum;
-      negative = g.F.Additive.negative;
-      one = g.F.Ring.one;
-    } in
+    let R = ring_members g.F.Multiplicative.product g.F.Debug.debug_output g.F.Object.same g.F.Object.NEVER_REFUSES g.F.Additive.zero g.F.Additive.sum g.F.Additive.negative g.F.Ring.one in
     let new = c.evaluate_rows.new.cells in
     let vec = c.self.inside.coefficients in
     let kept : length new ≡ length vec.items = c.evaluate_rows.auto.cells ∙ ap length c.deref_mut.ensures.value in

@@ -1,5 +1,5 @@
 use Rattle.std.proofs.Common.{◌≡◌, ◌∙◌, ◌+◌, ◌*◌, ◌^◌, ◌++◌, ℕ, length, take, drop, refl, ap, subst}
-use Rattle.math_base.specs.Members.{RingOf}
+use Rattle.math_ntt.proofs.Members.{ring_members}
 use Rattle.math_ntt.specs.CountedWork.{AddsAtMost}
 use Rattle.math_ntt.specs.DomainValues.{matrix_of, AreValuesOnDomain}
 use Rattle.math_ntt.specs.Matrices.{MatrixOf}
@@ -29,16 +29,7 @@ returns-clause-bounded g c = λ lg h.
 
 pub returns-clause-values : goal.returns-clause-values
 returns-clause-values g c =
-    let R : RingOf g.row.F.Denot = record {
-      product = g.F.Multiplicative.product;
-      debug_output = g.F.Debug.debug_output;
-      same = g.F.Object.same;
-      NEVER_REFUSES = g.F.Object.NEVER_REFUSES;
-      zero = g.F.Additive.zero;
-      sum = g.F.Additive.sum;
-      negative = g.F.Additive.negative;
-      one = g.F.Ring.one;
-    } in
+    let R = ring_members g.F.Multiplicative.product g.F.Debug.debug_output g.F.Object.same g.F.Object.NEVER_REFUSES g.F.Additive.zero g.F.Additive.sum g.F.Additive.negative g.F.Ring.one in
     let new = c.evaluate_rows.new.cells in
     let vec = c.matrix.inside.cells in
     let written : take vec.len (new ++ drop (length new) vec.items) ≡ new = take-written vec.len vec.items new vec.ok.0 (c.evaluate_rows.auto.cells ∙ ap length c.deref_mut.ensures.value) in
