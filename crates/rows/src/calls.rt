@@ -10,6 +10,7 @@ mod maps;
 mod matrices;
 mod polynomials;
 mod sampling;
+mod transforms;
 mod vectors;
 
 use crate::answer::Answer;
@@ -34,6 +35,7 @@ fn at_any<R: Element>(alloc: Global, row: Row<'_>, answer: &mut Answer<R>) -> Re
             || interpolation::run(alloc, call, arguments, answer)?
             || matrices::run(alloc, call, arguments, answer)?
             || vectors::run(alloc, call, arguments, answer)?
+            || transforms::run(alloc, call, arguments, answer)?
             || goldilocks::run(alloc, call, arguments, &mut answer.text)?
             || encodings::run(alloc, call, arguments, &mut answer.text)?
             || maps::run(alloc, call, arguments, &mut answer.text)?

@@ -58,6 +58,10 @@ module _ {A : Type 0} (R : CommutativeRing A) where
   pub coefficient-difference : (p q : List A) (i : ℕ) → coefficient R.zero (polynomial_difference R.sum R.negative p q) i ≡ R.sum (coefficient R.zero p i) (R.negative (coefficient R.zero q i))
   coefficient-difference p q i = coefficient-sum p (polynomial_negative R.negative q) i ∙ ap (R.sum (coefficient R.zero p i)) (coefficient-negative q i)
 
+  pub coefficient-multiple : (p : List A) (s : A) (i : ℕ)
+      → coefficient R.zero (polynomial_multiple R.product p s) i ≡ R.product (coefficient R.zero p i) s
+  coefficient-multiple p s i = ap (get_or (polynomial_multiple R.product p s) i) (sym (zero-product R s)) ∙ get_or-map (λ c. R.product c s) p i R.zero
+
   coefficient-dilation_from : (s : A) (k : ℕ) (p : List A) (i : ℕ)
       → coefficient R.zero (dilation_from R.product R.one R.product s k p) i ≡ R.product (coefficient R.zero p i) (OverRing.power R s (k + i))
   coefficient-dilation_from s k [] i = sym (zero-product R (OverRing.power R s (k + i)))

@@ -1,5 +1,8 @@
 //! Vectors of polynomials and of evaluations.
 
+ghost use Rattle.std.specs.Prelude.{IfOk, IfSome};
+ghost use Rattle.std.specs.Int.{IsNextPowerOfTwo};
+
 use super::matrices::{matrix, put_matrix};
 use crate::answer::{Answer, put, put_firsts};
 use crate::fault::Fault;
@@ -36,11 +39,13 @@ fn polynomials<R: Element>(
 }
 
 /// The columns as polynomials of n coefficients at least, where the number of cells fits.
-fn padded<R: Element>(
+pub fn padded<R: Element>(
     alloc: Global,
     m: &Matrix<R>,
     n: usize,
-) -> Result<Option<PolynomialVector<R>>, Fault> {
+) -> Result<Option<PolynomialVector<R>>, Fault>
+    ensures { IfOk result (λ answer. IfSome answer (λ v. IsNextPowerOfTwo n v.rows)) }
+{
     let Some(rows) = n.checked_next_power_of_two() else {
         return Err(Fault::OutOfRange("too many rows"));
     };
