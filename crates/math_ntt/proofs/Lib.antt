@@ -9,3 +9,7 @@ pub mod PaddedPolynomials
 pub mod FirstRows
 pub mod WrittenCells
 pub mod ComparedTruths
+pub mod WrittenRows
+pub mod MissingPlaces
+pub mod RootProductCounts
+pub mod PowersOfTwo

@@ -8,3 +8,6 @@ pub mod PolynomialRows
 pub mod Evaluations
 pub mod CountedWork
 pub mod DomainValues
+pub mod RowProducts
+pub mod MissingPoints
+pub mod RecoveryWork

@@ -3,7 +3,9 @@
 mod evaluations;
 mod matrix;
 mod polynomials;
+mod row_products;
 mod transform;
+mod vanishing;
 mod vanishing_points;
 mod work;
 

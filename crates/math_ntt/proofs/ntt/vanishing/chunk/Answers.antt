@@ -1,0 +1,51 @@
+use Rattle.std.proofs.Common.{rules, ◌≡◌, ◌∙◌, ◌+◌, ◌*◌, ◌^◌, ◌<◌, ◌≤◌, ℕ, Bool, true, false, List, length, replicate, ap, sym, vec_len, arith}
+use Rattle.math_theory.specs.Recovery.{count_true}
+use Rattle.math_theory.proofs.BuiltPolynomials.{value-zeros_after}
+use Rattle.math_theory.proofs.BuiltVanishing.{VanishesAt-none, VanishesAt-all, VanishesAt-product}
+use Rattle.math_ntt.specs.MissingPoints.{count_false, every}
+use Rattle.math_ntt.proofs.MissingPlaces.{length-every, count_both, count_false-within, all_filled, all_missing}
+use Rattle.math_ntt.proofs.PowersOfTwo.{power_of_two-few}
+use Rattle.math_ntt.proofs.RootProductCounts.{within-points, none-missing}
+use Rattle.math_ntt.proofs.ntt.vanishing.chunk.Goals as goal
+
+pub returns-then-missing-eq0-clause-vanishes : goal.returns-then-missing-eq0-clause-vanishes
+returns-then-missing-eq0-clause-vanishes g c =
+    let F = g.met.F in
+    let places = every c.args.start c.args.stride (2 ^ c.args.lg) c.args.points.now in
+    let few : c.count_missing-missing.result ≡ count_false places = rw c.domain_size-count.ensures at c.count_missing-missing.ensures in
+    VanishesAt-none F.Object.equality F.Additive.group F.Multiplicative.commutes F.Ring.ring F.Field.field (g.F.FieldNTT.root c.args.lg) (2 ^ c.args.lg) places
+    (all_filled places (2 ^ c.args.lg) (length-every c.args.start c.args.stride c.args.points.now (2 ^ c.args.lg)) (sym few ∙ c.if-missing-eq0.true))
+
+pub returns-then-missing-eq0-clause-exact : goal.returns-then-missing-eq0-clause-exact
+returns-then-missing-eq0-clause-exact g c =
+    let places = every c.args.start c.args.stride (2 ^ c.args.lg) c.args.points.now in
+    let few : c.count_missing-missing.result ≡ count_false places = rw c.domain_size-count.ensures at c.count_missing-missing.ensures in
+    λ _. none-missing c.args.work.now.root_products (count_false places) (sym few ∙ c.if-missing-eq0.true)
+
+pub returns-then-missing-count-clause-vanishes : goal.returns-then-missing-count-clause-vanishes
+returns-then-missing-count-clause-vanishes g c =
+    let F = g.met.F in
+    let places = every c.args.start c.args.stride (2 ^ c.args.lg) c.args.points.now in
+    let few : c.count_missing-missing.result ≡ count_false places = rw c.domain_size-count.ensures at c.count_missing-missing.ensures in
+    let long = length-every c.args.start c.args.stride c.args.points.now (2 ^ c.args.lg) in
+    let size = c.domain_size-count.ensures in
+    let all = c.if-missing-count.true in
+    VanishesAt-all F.Object.equality F.Additive.group F.Multiplicative.commutes F.Ring.ring F.Field.field (g.F.FieldNTT.root c.args.lg) c.args.lg places
+    (all_missing places (2 ^ c.args.lg) long (omega (arith, count_both places))) (F.FieldNTT.roots.order c.args.lg c.requires.domain)
+
+pub returns-then-missing-count-clause-everywhere : goal.returns-then-missing-count-clause-everywhere
+returns-then-missing-count-clause-everywhere g c = λ _.
+    let places = every c.args.start c.args.stride (2 ^ c.args.lg) c.args.points.now in
+    let few : c.count_missing-missing.result ≡ count_false places = rw c.domain_size-count.ensures at c.count_missing-missing.ensures in
+    let long = length-every c.args.start c.args.stride c.args.points.now (2 ^ c.args.lg) in
+    let size = c.domain_size-count.ensures in
+    let all = c.if-missing-count.true in
+    omega (arith, count_both places)
+
+pub returns-then-missing-count-clause-exact : goal.returns-then-missing-count-clause-exact
+returns-then-missing-count-clause-exact g c = λ l.
+    let places = every c.args.start c.args.stride (2 ^ c.args.lg) c.args.points.now in
+    let few : c.count_missing-missing.result ≡ count_false places = rw c.domain_size-count.ensures at c.count_missing-missing.ensures in
+    let size = c.domain_size-count.ensures in
+    let all = c.if-missing-count.true in
+    absurd (omega arith)
