@@ -13,3 +13,10 @@ pub mod WrittenRows
 pub mod MissingPlaces
 pub mod RootProductCounts
 pub mod PowersOfTwo
+pub mod CombinedPairs
+pub mod TransformClasses
+pub mod ColumnHalves
+pub mod TransformedHalves
+pub mod Levels
+pub mod RootInverses
+pub mod ReversedRows

@@ -37,7 +37,7 @@ next_power_of_two-once n p q h k =
 
 module _ {A : Type 0} {same : A → A → Type 0} (E : IsEquality same) (zero_of : A) where
   -- coefficient i of column k is the cell in row i, also past the last row, where there is none
-  column-cell : (m : MatrixOf A) (k i : ℕ) → k < m.cols → length m.cells ≡ m.rows * m.cols → get_or (column_of zero_of m k) i zero_of ≡ cell_of zero_of m i k
+  pub column-cell : (m : MatrixOf A) (k i : ℕ) → k < m.cols → length m.cells ≡ m.rows * m.cols → get_or (column_of zero_of m k) i zero_of ≡ cell_of zero_of m i k
   column-cell m k i l e =
       elim (cases_lt i m.rows) [
         | inl within ↦

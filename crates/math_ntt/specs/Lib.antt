@@ -11,3 +11,5 @@ pub mod DomainValues
 pub mod RowProducts
 pub mod MissingPoints
 pub mod RecoveryWork
+pub mod CombinedCells
+pub mod LevelTables

@@ -1,0 +1,93 @@
+-- One level of a transform: the sizes of its halves, what it counts, its powers, and its cells.
+use Rattle.std.proofs.Common.{◌≡◌, ◌≢◌, ◌∙◌, ℕ, zero, suc, ◌+◌, ◌-◌, ◌*◌, ◌/◌, ◌^◌, ◌<◌, ◌≤◌, true, false, List, ◌++◌, length, take, drop, get_or, refl, sym, ap, subst, length-drop, arith}
+use Rattle.std.proofs.Math.Pow.{pow_mono}
+use Rattle.std.proofs.lemmas.List.{length-take-le, get_or-take, get_or-drop}
+use Rattle.math_theory.specs.Laws.{IsEquality, IsGroup, IsProduct, IsRing}
+use Rattle.math_theory.specs.Powers.{power}
+use Rattle.math_theory.proofs.RootOrders.{power_of_two-suc}
+use Rattle.math_base.specs.Members.{RingOf}
+use Rattle.math_ntt.specs.CombinedCells.{AreCombined, AreTransformed, AreTransformedBack}
+use Rattle.math_ntt.specs.CountedWork.{WorkOf, AddsAtMost}
+use Rattle.math_ntt.specs.DomainValues.{matrix_of, ArePowersByLevel}
+use Rattle.math_ntt.proofs.TransformedHalves.{transformed-halves, transformed_back-halves}
+
+-- the cells of both halves are all cells, and their butterflies and those of the level are all
+pub record Halved (lg c : ℕ) : Type 0 where
+  pub positive : suc (lg - 1) ≡ lg
+  pub powers : 2 ^ lg ≡ 2 ^ (lg - 1) + 2 ^ (lg - 1)
+  pub cells : 2 ^ lg * c ≡ 2 ^ (lg - 1) * c + 2 ^ (lg - 1) * c
+  pub count : c * 2 ^ lg * lg ≡ c * 2 ^ (lg - 1) * (lg - 1) + c * 2 ^ (lg - 1) * (lg - 1) + 2 * (2 ^ (lg - 1) * c)
+
+count-of_halves : (n l c m : ℕ) → m ≡ n + n → c * m * suc l ≡ c * n * l + c * n * l + 2 * (n * c)
+count-of_halves n l c m e = rw e (omega arith)
+
+pub halved : (lg c : ℕ) → lg ≢ 0 → Halved lg c
+halved lg c h =
+    let positive : suc (lg - 1) ≡ lg = omega arith in
+    let powers : 2 ^ lg ≡ 2 ^ (lg - 1) + 2 ^ (lg - 1) = ap (λ n. 2 ^ n) (sym positive) ∙ power_of_two-suc (lg - 1) in
+    record {
+      positive = positive;
+      powers = powers;
+      cells = ap (λ n. n * c) powers ∙ omega arith;
+      count = ap (λ n. c * 2 ^ lg * n) (sym positive) ∙ count-of_halves (2 ^ (lg - 1)) (lg - 1) c (2 ^ lg) powers;
+    }
+
+-- what is added is added at most, where it is part of more
+pub adds-part : (m n : ℕ) (u v : WorkOf) → m ≤ n → AddsAtMost m u v → AddsAtMost n u v
+adds-part m n u v h k = record { no_fewer = k.no_fewer; no_more = omega (arith, k.no_more); root_products = k.root_products }
+
+pub adds-then : (m n : ℕ) (u v w : WorkOf) → AddsAtMost m u v → AddsAtMost n v w → AddsAtMost (m + n) u w
+adds-then m n u v w h k = record { no_fewer = omega (arith, h.no_fewer, k.no_fewer); no_more = omega (arith, h.no_more, k.no_more); root_products = k.root_products ∙ h.root_products }
+
+module _ {A : Type 0} (R : RingOf A) (root : ℕ → A) (lg half : ℕ) (table : List A) (positive : lg ≢ 0) (half_is : half ≡ 2 ^ (lg - 1)) (t : ArePowersByLevel R root lg table) where
+  -- the first half of the table is that of the levels below
+  pub powers-below : (below : List A) → below ≡ take half table → ArePowersByLevel R root (lg - 1) below
+  powers-below below e =
+      let h = halved lg 0 positive in
+      rw (e, half_is) record {
+        count = length-take-le (2 ^ (lg - 1)) table (omega (arith, t.count, h.powers));
+        powers = λ l i a b.
+            let up : 2 ^ suc l ≤ 2 ^ (lg - 1) = pow_mono (let q : suc l ≤ lg - 1 = omega arith in q) in
+            rw (get_or-take (2 ^ (lg - 1)) table (2 ^ l + i) R.zero (omega (arith, up, power_of_two-suc l))) (t.powers l i (omega arith) b);
+      }
+
+  -- the other half has the powers of this level
+  pub powers-level : (powers : List A) → powers ≡ drop half table → (i : ℕ) → i < 2 ^ (lg - 1) → R.same (get_or powers i R.zero) (power R.one R.product (root (suc (lg - 1))) i)
+  powers-level powers e i b =
+      rw (e, half_is, get_or-drop (2 ^ (lg - 1)) table i R.zero) (t.powers (lg - 1) i (omega arith) b)
+
+  pub length-level : (powers : List A) → length powers + half ≡ length table → length powers ≡ 2 ^ (lg - 1)
+  length-level powers e = let h = halved lg 0 positive in omega (arith, t.count, h.powers)
+
+module _ {A : Type 0} (R : RingOf A) (E : IsEquality R.same) (G : IsGroup R.same R.zero R.sum R.negative) (P : IsProduct R.same R.product) (L : IsRing R.same R.sum R.product R.one)
+    (root : ℕ → A) (lg half c : ℕ) (table powers cells : List A) (positive : lg ≢ 0) (half_is : half ≡ 2 ^ (lg - 1))
+    (square : R.same (R.product (root (suc (lg - 1))) (root (suc (lg - 1)))) (root (lg - 1)))
+    (t : ArePowersByLevel R root lg table) (powers_is : powers ≡ drop half table) (powers_count : length powers + half ≡ length table)
+    (lows highs : List A) (lows_are : lows ≡ take (half * c) cells) (highs_are : highs ≡ drop (half * c) cells) where
+  abbrev n : ℕ
+  n = 2 ^ (lg - 1)
+
+  at_half : half * c ≡ n * c
+  at_half = ap (λ m. m * c) half_is
+
+  at_level : length powers * c ≡ n * c
+  at_level = ap (λ m. m * c) (length-level R root lg half table positive half_is t powers powers_count)
+
+  pub transformed-level : (low high new_low new_high : List A) → length low ≡ n * c → length high ≡ n * c → length new_low ≡ n * c → length new_high ≡ n * c
+      → AreTransformed R (lg - 1) (root (lg - 1)) (matrix_of n c lows) (matrix_of n c low) → AreTransformed R (lg - 1) (root (lg - 1)) (matrix_of n c highs) (matrix_of n c high)
+      → AreCombined R true (λ p. get_or powers (p / c) R.zero) 0 (length powers * c) low high new_low new_high
+      → AreTransformed R lg (root lg) (matrix_of (2 ^ lg) c cells) (matrix_of (2 ^ lg) c (new_low ++ new_high))
+  transformed-level low high new_low new_high a b d e first second h =
+      subst (λ m. AreTransformed R m (root m) (matrix_of (2 ^ m) c cells) (matrix_of (2 ^ m) c (new_low ++ new_high))) (halved lg c positive).positive
+      (transformed-halves R E G P L (lg - 1) c (root (suc (lg - 1))) (root (lg - 1)) square powers (powers-level R root lg half table positive half_is t powers powers_is)
+      cells low high new_low new_high a b d e (rw (lows_are, at_half) at first) (rw (highs_are, at_half) at second) (rw at_level at h))
+
+  pub transformed_back-level : (mid_low mid_high new_low new_high : List A) → length cells ≡ 2 ^ lg * c → length mid_low ≡ n * c → length mid_high ≡ n * c → length new_low ≡ n * c
+      → AreCombined R false (λ p. get_or powers (p / c) R.zero) 0 (length powers * c) lows highs mid_low mid_high
+      → AreTransformedBack R (lg - 1) (root (lg - 1)) (matrix_of n c mid_low) (matrix_of n c new_low) → AreTransformedBack R (lg - 1) (root (lg - 1)) (matrix_of n c mid_high) (matrix_of n c new_high)
+      → AreTransformedBack R lg (root lg) (matrix_of (2 ^ lg) c cells) (matrix_of (2 ^ lg) c (new_low ++ new_high))
+  transformed_back-level mid_low mid_high new_low new_high whole a b d h first second =
+      let up : length cells ≡ 2 ^ suc (lg - 1) * c = whole ∙ ap (λ m. 2 ^ m * c) (sym (halved lg c positive).positive) in
+      subst (λ m. AreTransformedBack R m (root m) (matrix_of (2 ^ m) c cells) (matrix_of (2 ^ m) c (new_low ++ new_high))) (halved lg c positive).positive
+      (transformed_back-halves R E G P L (lg - 1) c (root (suc (lg - 1))) (root (lg - 1)) square powers (powers-level R root lg half table positive half_is t powers powers_is)
+      cells mid_low mid_high new_low new_high up a b d (rw (lows_are, highs_are, at_half, at_level) at h) first second)

@@ -1,0 +1,104 @@
+-- Rows put in bit-reversed order, each pair exchanged once.
+use Rattle.std.proofs.Common.{◌≡◌, ◌≢◌, ◌∙◌, inl, inr, ℕ, zero, suc, ◌+◌, ◌-◌, ◌*◌, ◌/◌, ◌%◌, ◌^◌, ◌<◌, ◌≤◌, List, length, get_or, refl, sym, ap, subst, pow-suc, arith}
+use Rattle.std.specs.Int.{reverse_bits_onto}
+use Rattle.std.proofs.Math.Nat.{mul-div_cancel_left}
+use Rattle.std.proofs.lemmas.Bool.{cases_lt}
+use Rattle.std.proofs.lemmas.Nat.{pow_pos}
+use Rattle.math_theory.specs.Bits.{bits-zero, number}
+use Rattle.math_theory.specs.BitReversal.{bit_reversed, bit_reversed_order}
+use Rattle.math_theory.proofs.BitOrder.{bit_reversed-suc, bit_reversed-below, bit_reversed-twice}
+use Rattle.std.proofs.Common.{reverse}
+
+-- the bits of a word in the opposite order, one after the other
+onto : (k n a : ℕ) → reverse_bits_onto k n a ≡ a * 2 ^ k + bit_reversed k n
+onto zero n a = let e : bit_reversed 0 n ≡ 0 = ap (λ t. number (reverse t)) (bits-zero n) in omega (arith, e)
+onto (suc k) n a =
+    let p : 2 ^ suc k ≡ 2 ^ k * 2 = pow-suc 2 k in
+    onto k (n / 2) (a * 2 + n % 2) ∙ omega (arith, bit_reversed-suc k n, ap (λ t. a * t) p)
+
+reversed-zero : (k : ℕ) → bit_reversed k 0 ≡ 0
+reversed-zero zero = ap (λ t. number (reverse t)) (bits-zero 0)
+reversed-zero (suc k) = bit_reversed-suc k 0 ∙ omega (arith, reversed-zero k)
+
+-- with m zero bits above the lg bits
+reversed-more : (lg m i : ℕ) → i < 2 ^ lg → bit_reversed (lg + m) i ≡ 2 ^ m * bit_reversed lg i
+reversed-more zero m i h =
+    let z : i ≡ 0 = omega arith in
+    let n : 0 + m ≡ m = omega arith in
+    rw (z, n) (reversed-zero m ∙ omega (arith, reversed-zero 0))
+reversed-more (suc lg) m i h =
+    let n : suc lg + m ≡ suc (lg + m) = omega arith in
+    let half : i / 2 < 2 ^ lg = omega (arith, pow-suc 2 lg) in
+    let p : 2 ^ (lg + m) ≡ 2 ^ m * 2 ^ lg = ? in
+    ap (λ t. bit_reversed t i) n ∙ bit_reversed-suc (lg + m) i ∙ omega (arith, reversed-more lg m (i / 2) half, bit_reversed-suc lg i, ap (λ t. (i % 2) * t) p, ap (λ t. 2 ^ m * t) (bit_reversed-suc lg i))
+
+pub reversed-shifted : (lg i : ℕ) → lg ≤ 64 → i < 2 ^ lg → reverse_bits_onto 64 i 0 / 2 ^ (64 - lg) ≡ bit_reversed lg i
+reversed-shifted lg i h l =
+    let e : lg + (64 - lg) ≡ 64 = omega arith in
+    let q : reverse_bits_onto 64 i 0 ≡ 2 ^ (64 - lg) * bit_reversed lg i =
+    onto 64 i 0 ∙ omega arith ∙ ap (λ t. bit_reversed t i) (sym e) ∙ reversed-more lg (64 - lg) i l in
+    ap (λ t. t / 2 ^ (64 - lg)) q ∙ mul-div_cancel_left _ (pow_pos (64 - lg))
+
+-- what holds once the rows below i have their places
+pub record IsReversedBelow {A : Type 0} (count : ℕ) (other : ℕ → ℕ) (old new : ℕ → A) (i : ℕ) : Type 0 where
+  pub moved : (r : ℕ) → r < count → r < i → new r ≡ old (other r)
+  pub moved_by : (r : ℕ) → r < count → other r < i → new r ≡ old (other r)
+  pub kept : (r : ℕ) → r < count → i ≤ r → i ≤ other r → new r ≡ old r
+
+module _ {A : Type 0} (count : ℕ) (other : ℕ → ℕ) (twice : (r : ℕ) → r < count → other (other r) ≡ r) (old now : ℕ → A) (i : ℕ) (within : i < count) (h : IsReversedBelow count other old now i) where
+  pair : (r : ℕ) → r < count → other r ≡ i → r ≡ other i
+  pair r l e = sym (twice r l) ∙ ap other e
+
+  stayed-here : other i ≤ i → now i ≡ old (other i)
+  stayed-here l =
+      elim (cases_lt (other i) i) [
+        | inl below ↦ h.moved_by i within below
+        | inr above ↦ let e : other i ≡ i = omega (arith, above) in h.kept i within (omega arith) (omega arith) ∙ ap old (sym e)
+      ]
+
+  -- row i has its place
+  pub reversed-stayed : other i ≤ i → IsReversedBelow count other old now (i + 1)
+  reversed-stayed l = record {
+    moved = λ r m b. elim (cases_lt r i) [
+        | inl below ↦ h.moved r m below
+        | inr above ↦ let e : i ≡ r = omega (arith, above) in subst (λ x. now x ≡ old (other x)) e (stayed-here l)
+      ];
+    moved_by = λ r m b. elim (cases_lt (other r) i) [
+        | inl below ↦ h.moved_by r m below
+        | inr above ↦
+            let p : r ≡ other i = pair r m (let e : other r ≡ i = omega (arith, above) in e) in
+            elim (cases_lt r i) [
+              | inl before ↦ h.moved r m before
+              | inr after ↦ let e : i ≡ r = omega (arith, after, p) in subst (λ x. now x ≡ old (other x)) e (stayed-here l)
+            ]
+      ];
+    kept = λ r m a b. h.kept r m (omega arith) (omega arith);
+  }
+
+  module _ (new : ℕ → A) (above : i < other i) (within_other : other i < count) (first : new i ≡ now (other i)) (second : new (other i) ≡ now i)
+      (others : (r : ℕ) → r ≢ i → r ≢ other i → new r ≡ now r) where
+    at-first : new i ≡ old (other i)
+    at-first = first ∙ h.kept (other i) within_other (omega arith) (omega (arith, twice i within))
+
+    at-second : new (other i) ≡ old (other (other i))
+    at-second = second ∙ h.kept i within (omega arith) (omega arith) ∙ ap old (sym (twice i within))
+
+    -- rows i and other i are exchanged
+    pub reversed-exchanged : IsReversedBelow count other old new (i + 1)
+    reversed-exchanged = record {
+      moved = λ r m b. elim (cases_lt r i) [
+          | inl below ↦ others r (omega (arith, below)) (omega (arith, below)) ∙ h.moved r m below
+          | inr not_below ↦ let e : i ≡ r = omega (arith, not_below) in subst (λ x. new x ≡ old (other x)) e at-first
+        ];
+      moved_by = λ r m b. elim (cases_lt (other r) i) [
+          | inl below ↦
+              others r (λ e. absurd (let f = ap other e in omega (arith, f, below))) (λ e. absurd (let f : other r ≡ i = ap other e ∙ twice i within in omega (arith, f, below)))
+              ∙ h.moved_by r m below
+          | inr not_below ↦
+              let p : r ≡ other i = pair r m (let e : other r ≡ i = omega (arith, not_below) in e) in
+              subst (λ x. new x ≡ old (other x)) (sym p) at-second
+        ];
+      kept = λ r m a b.
+          others r (λ e. absurd (omega (arith, e))) (λ e. absurd (let f : other r ≡ i = ap other e ∙ twice i within in omega (arith, f)))
+          ∙ h.kept r m (omega arith) (omega arith);
+    }

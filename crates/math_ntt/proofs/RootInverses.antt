@@ -1,0 +1,38 @@
+-- The inverses of roots of unity.
+use Rattle.std.proofs.Common.{◌≡◌, ◌≢◌, ◌∙◌, ℕ, zero, suc, ◌-◌, ◌<◌, ◌^◌, List, [], ◌∷◌, refl, sym, ap, ap₂, arith}
+use Rattle.math_theory.specs.Domains.{HasExactOrder}
+use Rattle.math_theory.specs.Laws.{IsEquality, IsGroup, IsProduct, IsRing, IsField}
+use Rattle.math_theory.specs.OverRing as OverRing
+use Rattle.math_theory.specs.Powers.{power, power-suc}
+use Rattle.math_theory.specs.Rings.{CommutativeRing, Field}
+use Rattle.math_theory.proofs.Classes.{Class, class, class_same, same_class, field_of_classes}
+use Rattle.math_theory.proofs.ClassesOfLists.{power-class}
+use Rattle.math_theory.proofs.Normal.{combine, ◌⊗◌, ◌⊕◌, 𝟙, v0, v1}
+use Rattle.math_theory.proofs.RingLaws.{product-one_right, product-zero}
+
+module _ {A : Type 0} (F : Field A) where
+  nonzero : (r : A) (n : ℕ) → 0 < n → OverRing.power F.ring r n ≡ F.one → r ≢ F.zero
+  nonzero r zero h e z = absurd (omega (arith, h))
+  nonzero r (suc n) h e z = F.one_apart (sym e ∙ power-suc F.one F.product r n ∙ ap (F.product (OverRing.power F.ring r n)) z ∙ product-zero F.ring (OverRing.power F.ring r n))
+
+  inverse-square : (r s : A) → r ≢ F.zero → s ≢ F.zero → F.product r r ≡ s → F.product (F.inverse r) (F.inverse r) ≡ F.inverse s
+  inverse-square r s h k e =
+      let x = F.product (F.inverse r) (F.inverse r) in
+      let turn : F.product x s ≡ F.one =
+      ap (F.product x) (sym e)
+      ∙ combine F.ring (r ∷ F.inverse r ∷ []) ((v1 ⊗ v1) ⊗ (v0 ⊗ v0)) 𝟙 ((v0 ⊗ v1) ⊕ 𝟙) (v0 ⊗ v1) 𝟙 (F.product_inverse r h) refl in
+      sym (product-one_right F.ring x) ∙ ap (F.product x) (sym (F.product_inverse s k)) ∙ sym (F.product_assoc x s (F.inverse s))
+      ∙ ap (λ y. F.product y (F.inverse s)) turn ∙ F.product_one (F.inverse s)
+
+module _ {A : Type 0} {same : A → A → Type 0} {zero_of : A} {sum : A → A → A} {negative : A → A} {product : A → A → A} {one : A} {inverse : A → A}
+    (E : IsEquality same) (G : IsGroup same zero_of sum negative) (P : IsProduct same product) (R : IsRing same sum product one) (K : IsField same zero_of product one inverse) where
+  nonzero-class : (r : A) (n : ℕ) → HasExactOrder same one product r n → class E r ≡ class E zero_of → ⊥
+  nonzero-class r n o = nonzero (field_of_classes E G P R K) (class E r) n o.positive (power-class E G P R r n ∙ class_same E _ _ o.power_is_one)
+
+  -- the inverse of a root squared is that of its square
+  pub inverse_square-same : (r s : A) (m n : ℕ) → HasExactOrder same one product r m → HasExactOrder same one product s n → same (product r r) s → same (product (inverse r) (inverse r)) (inverse s)
+  inverse_square-same r s m n o p e =
+      same_class E _ _ (inverse-square (field_of_classes E G P R K) (class E r) (class E s) (nonzero-class r m o) (nonzero-class s n p) (class_same E _ _ e))
+
+  pub root-inverse : (r : A) (n : ℕ) → HasExactOrder same one product r n → same (product r (inverse r)) one
+  root-inverse r n o = K.inverts r (λ z. nonzero-class r n o (class_same E _ _ z))
