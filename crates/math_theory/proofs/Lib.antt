@@ -63,3 +63,4 @@ pub mod FractionLaws
 pub mod BuiltPolynomials
 pub mod BuiltVanishing
 pub mod MergedPieces
+pub mod RecoveredColumns
