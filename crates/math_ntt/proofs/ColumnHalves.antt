@@ -88,10 +88,10 @@ module _ {A : Type 0} (R : RingOf A) (E : IsEquality R.same) (G : IsGroup R.same
         by_places _ _ (length-classes_of_column n c k new_lows)
         (length-of_sum low _ (length-classes_of_column n c k lows) (length-of_dilation high (length-classes_of_column n c k highs)))
         (λ i m.
-          at-place n c k i new_lows l new_low_count ∙ class_same E _ _ (h.combined (i * c + k) (omega arith) (place i m)).sum
-          ∙ ap (λ x. C.sum (class E (get_or lows (i * c + k) R.zero)) (C.product (class E (get_or highs (i * c + k) R.zero)) x)) (factor i m)
-          ∙ sym (coefficient-sum C low (OverRing.polynomial_dilation C (class E w) high) i
-          ∙ ap₂ C.sum (low-at i) (coefficient-dilation C (class E w) high i ∙ ap (λ x. C.product x (OverRing.power C (class E w) i)) (high-at i))))
+        at-place n c k i new_lows l new_low_count ∙ class_same E _ _ (h.combined (i * c + k) (omega arith) (place i m)).sum
+        ∙ ap (λ x. C.sum (class E (get_or lows (i * c + k) R.zero)) (C.product (class E (get_or highs (i * c + k) R.zero)) x)) (factor i m)
+        ∙ sym (coefficient-sum C low (OverRing.polynomial_dilation C (class E w) high) i
+        ∙ ap₂ C.sum (low-at i) (coefficient-dilation C (class E w) high i ∙ ap (λ x. C.product x (OverRing.power C (class E w) i)) (high-at i))))
 
     pub differences-forward : AreCombined R true (λ p. get_or powers (p / c) R.zero) 0 (n * c) lows highs new_lows new_highs
         → classes_of_column n c k new_highs ≡ OverRing.polynomial_difference C low (OverRing.polynomial_dilation C (class E w) high)
@@ -99,18 +99,18 @@ module _ {A : Type 0} (R : RingOf A) (E : IsEquality R.same) (G : IsGroup R.same
         by_places _ _ (length-classes_of_column n c k new_highs)
         (length-of_difference low _ (length-classes_of_column n c k lows) (length-of_dilation high (length-classes_of_column n c k highs)))
         (λ i m.
-          at-place n c k i new_highs l new_high_count ∙ class_same E _ _ (h.combined (i * c + k) (omega arith) (place i m)).difference
-          ∙ ap (λ x. C.sum (class E (get_or lows (i * c + k) R.zero)) (C.negative (C.product (class E (get_or highs (i * c + k) R.zero)) x))) (factor i m)
-          ∙ sym (coefficient-difference C low (OverRing.polynomial_dilation C (class E w) high) i
-          ∙ ap₂ (λ x y. C.sum x (C.negative y)) (low-at i) (coefficient-dilation C (class E w) high i ∙ ap (λ x. C.product x (OverRing.power C (class E w) i)) (high-at i))))
+        at-place n c k i new_highs l new_high_count ∙ class_same E _ _ (h.combined (i * c + k) (omega arith) (place i m)).difference
+        ∙ ap (λ x. C.sum (class E (get_or lows (i * c + k) R.zero)) (C.negative (C.product (class E (get_or highs (i * c + k) R.zero)) x))) (factor i m)
+        ∙ sym (coefficient-difference C low (OverRing.polynomial_dilation C (class E w) high) i
+        ∙ ap₂ (λ x y. C.sum x (C.negative y)) (low-at i) (coefficient-dilation C (class E w) high i ∙ ap (λ x. C.product x (OverRing.power C (class E w) i)) (high-at i))))
 
     pub sums-back : AreCombined R false (λ p. get_or powers (p / c) R.zero) 0 (n * c) lows highs new_lows new_highs
         → classes_of_column n c k new_lows ≡ OverRing.polynomial_sum C low high
     sums-back h =
         by_places _ _ (length-classes_of_column n c k new_lows) (length-of_sum low high (length-classes_of_column n c k lows) (length-classes_of_column n c k highs))
         (λ i m.
-          at-place n c k i new_lows l new_low_count ∙ class_same E _ _ (h.combined (i * c + k) (omega arith) (place i m)).sum
-          ∙ sym (coefficient-sum C low high i ∙ ap₂ C.sum (low-at i) (high-at i)))
+        at-place n c k i new_lows l new_low_count ∙ class_same E _ _ (h.combined (i * c + k) (omega arith) (place i m)).sum
+        ∙ sym (coefficient-sum C low high i ∙ ap₂ C.sum (low-at i) (high-at i)))
 
     pub differences-back : AreCombined R false (λ p. get_or powers (p / c) R.zero) 0 (n * c) lows highs new_lows new_highs
         → classes_of_column n c k new_highs ≡ OverRing.polynomial_dilation C (class E w) (OverRing.polynomial_difference C low high)
@@ -118,7 +118,7 @@ module _ {A : Type 0} (R : RingOf A) (E : IsEquality R.same) (G : IsGroup R.same
         by_places _ _ (length-classes_of_column n c k new_highs)
         (length-of_dilation _ (length-of_difference low high (length-classes_of_column n c k lows) (length-classes_of_column n c k highs)))
         (λ i m.
-          at-place n c k i new_highs l new_high_count ∙ class_same E _ _ (h.combined (i * c + k) (omega arith) (place i m)).difference
-          ∙ ap (C.product (C.sum (class E (get_or lows (i * c + k) R.zero)) (C.negative (class E (get_or highs (i * c + k) R.zero))))) (factor i m)
-          ∙ sym (coefficient-dilation C (class E w) (OverRing.polynomial_difference C low high) i
-          ∙ ap (λ x. C.product x (OverRing.power C (class E w) i)) (coefficient-difference C low high i ∙ ap₂ (λ x y. C.sum x (C.negative y)) (low-at i) (high-at i))))
+        at-place n c k i new_highs l new_high_count ∙ class_same E _ _ (h.combined (i * c + k) (omega arith) (place i m)).difference
+        ∙ ap (C.product (C.sum (class E (get_or lows (i * c + k) R.zero)) (C.negative (class E (get_or highs (i * c + k) R.zero))))) (factor i m)
+        ∙ sym (coefficient-dilation C (class E w) (OverRing.polynomial_difference C low high) i
+        ∙ ap (λ x. C.product x (OverRing.power C (class E w) i)) (coefficient-difference C low high i ∙ ap₂ (λ x y. C.sum x (C.negative y)) (low-at i) (high-at i))))

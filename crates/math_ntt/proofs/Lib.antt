@@ -20,3 +20,5 @@ pub mod TransformedHalves
 pub mod Levels
 pub mod RootInverses
 pub mod ReversedRows
+pub mod DomainSteps
+pub mod SharedInverses

@@ -60,18 +60,18 @@ module _ {A : Type 0} (count : ℕ) (other : ℕ → ℕ) (twice : (r : ℕ) →
   pub reversed-stayed : other i ≤ i → IsReversedBelow count other old now (i + 1)
   reversed-stayed l = record {
     moved = λ r m b. elim (cases_lt r i) [
-        | inl below ↦ h.moved r m below
-        | inr above ↦ let e : i ≡ r = omega (arith, above) in subst (λ x. now x ≡ old (other x)) e (stayed-here l)
-      ];
+      | inl below ↦ h.moved r m below
+      | inr above ↦ let e : i ≡ r = omega (arith, above) in subst (λ x. now x ≡ old (other x)) e (stayed-here l)
+    ];
     moved_by = λ r m b. elim (cases_lt (other r) i) [
-        | inl below ↦ h.moved_by r m below
-        | inr above ↦
-            let p : r ≡ other i = pair r m (let e : other r ≡ i = omega (arith, above) in e) in
-            elim (cases_lt r i) [
-              | inl before ↦ h.moved r m before
-              | inr after ↦ let e : i ≡ r = omega (arith, after, p) in subst (λ x. now x ≡ old (other x)) e (stayed-here l)
-            ]
-      ];
+      | inl below ↦ h.moved_by r m below
+      | inr above ↦
+          let p : r ≡ other i = pair r m (let e : other r ≡ i = omega (arith, above) in e) in
+          elim (cases_lt r i) [
+            | inl before ↦ h.moved r m before
+            | inr after ↦ let e : i ≡ r = omega (arith, after, p) in subst (λ x. now x ≡ old (other x)) e (stayed-here l)
+          ]
+    ];
     kept = λ r m a b. h.kept r m (omega arith) (omega arith);
   }
 
@@ -87,17 +87,17 @@ module _ {A : Type 0} (count : ℕ) (other : ℕ → ℕ) (twice : (r : ℕ) →
     pub reversed-exchanged : IsReversedBelow count other old new (i + 1)
     reversed-exchanged = record {
       moved = λ r m b. elim (cases_lt r i) [
-          | inl below ↦ others r (omega (arith, below)) (omega (arith, below)) ∙ h.moved r m below
-          | inr not_below ↦ let e : i ≡ r = omega (arith, not_below) in subst (λ x. new x ≡ old (other x)) e at-first
-        ];
+        | inl below ↦ others r (omega (arith, below)) (omega (arith, below)) ∙ h.moved r m below
+        | inr not_below ↦ let e : i ≡ r = omega (arith, not_below) in subst (λ x. new x ≡ old (other x)) e at-first
+      ];
       moved_by = λ r m b. elim (cases_lt (other r) i) [
-          | inl below ↦
-              others r (λ e. absurd (let f = ap other e in omega (arith, f, below))) (λ e. absurd (let f : other r ≡ i = ap other e ∙ twice i within in omega (arith, f, below)))
-              ∙ h.moved_by r m below
-          | inr not_below ↦
-              let p : r ≡ other i = pair r m (let e : other r ≡ i = omega (arith, not_below) in e) in
-              subst (λ x. new x ≡ old (other x)) (sym p) at-second
-        ];
+        | inl below ↦
+            others r (λ e. absurd (let f = ap other e in omega (arith, f, below))) (λ e. absurd (let f : other r ≡ i = ap other e ∙ twice i within in omega (arith, f, below)))
+            ∙ h.moved_by r m below
+        | inr not_below ↦
+            let p : r ≡ other i = pair r m (let e : other r ≡ i = omega (arith, not_below) in e) in
+            subst (λ x. new x ≡ old (other x)) (sym p) at-second
+      ];
       kept = λ r m a b.
           others r (λ e. absurd (omega (arith, e))) (λ e. absurd (let f : other r ≡ i = ap other e ∙ twice i within in omega (arith, f)))
           ∙ h.kept r m (omega arith) (omega arith);

@@ -51,8 +51,8 @@ module _ {A : Type 0} (R : RingOf A) (E : IsEquality R.same) (G : IsGroup R.same
         → AreTransformed R (suc l) w (matrix_of (2 ^ suc l) c cells) (matrix_of (2 ^ suc l) c (new_low ++ new_high))
     transformed-halves first second h k m =
         let half = λ (part done : List A) (t : AreTransformed R l v (matrix_of (2 ^ l) c part) (matrix_of (2 ^ l) c done)).
-            classes-same E _ _ (t k m) ∙ transform-class E G P L l v (column_of R.zero (matrix_of (2 ^ l) c part) k)
-            ∙ ap (λ x. DomainsOverRing.transform C l x (column (2 ^ l) c k part)) root in
+        classes-same E _ _ (t k m) ∙ transform-class E G P L l v (column_of R.zero (matrix_of (2 ^ l) c part) k)
+        ∙ ap (λ x. DomainsOverRing.transform C l x (column (2 ^ l) c k part)) root in
         let both = λ (x y : List (Class E)). OverRing.polynomial_sum C x (OverRing.polynomial_dilation C (class E w) y) ++ OverRing.polynomial_difference C x (OverRing.polynomial_dilation C (class E w) y) in
         same-classes E _ _
         (column-joined l c k new_low new_high new_low_count
@@ -80,8 +80,8 @@ module _ {A : Type 0} (R : RingOf A) (E : IsEquality R.same) (G : IsGroup R.same
         let root : class E v ≡ C.product (class E w) (class E w) = sym (class_same E _ _ square) in
         let back = λ (x : List (Class E)). DomainsOverRing.inverse_transform C l (C.product (class E w) (class E w)) x in
         let half = λ (part done : List A) (t : AreTransformedBack R l v (matrix_of (2 ^ l) c part) (matrix_of (2 ^ l) c done)).
-            classes-same E _ _ (t k m) ∙ inverse_transform-class E G P L l v (column_of R.zero (matrix_of (2 ^ l) c part) k)
-            ∙ ap (λ x. DomainsOverRing.inverse_transform C l x (column (2 ^ l) c k part)) root in
+        classes-same E _ _ (t k m) ∙ inverse_transform-class E G P L l v (column_of R.zero (matrix_of (2 ^ l) c part) k)
+        ∙ ap (λ x. DomainsOverRing.inverse_transform C l x (column (2 ^ l) c k part)) root in
         same-classes E _ _
         (column-joined l c k new_low new_high new_low_count
         ∙ ap₂ (λ x y. x ++ y)

@@ -13,3 +13,4 @@ pub mod MissingPoints
 pub mod RecoveryWork
 pub mod CombinedCells
 pub mod LevelTables
+pub mod RecoveredRows

@@ -4,6 +4,8 @@ mod columns;
 mod evaluations;
 mod matrix;
 mod polynomials;
+mod quotients;
+mod recovery;
 mod row_products;
 mod transform;
 mod vanishing;

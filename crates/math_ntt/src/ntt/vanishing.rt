@@ -202,8 +202,37 @@ fn with_multiple<F: Ring>(alloc: Global, low: Vec<F>, factor: &F) -> Mem<Vec<F>>
     Ok(all)
 }
 
-/// The product of two polynomials of half as many coefficients as the domain has points: its values are the products of
-/// their values.
+/// Turns the coefficients of two polynomials into those of the polynomial whose values on the domain are the products of
+/// theirs, which stand where the first ones stood.
+fn multiply_values<F: FieldNTT>(
+    alloc: Global,
+    left: &mut [F],
+    right: &mut [F],
+    lg: u8,
+    evaluation: &[F],
+    interpolation: &[F],
+    work: &mut Work,
+) -> Mem<()>
+    requires domain { lg ≤ F.MAX_LG_ROOT_ORDER }
+    requires small { lg < 64 }
+    requires left { length left.old ≡ 2 ^ lg }
+    requires right { length right.old ≡ 2 ^ lg }
+    requires evaluation { ArePowersByLevel F.Ring F.root lg evaluation.now }
+    requires interpolation { ArePowersByLevel F.Ring (λ l. F.inverse (F.root l)) lg interpolation.now }
+    requires room { 2 * work.old.butterflies + 3 * 2 ^ lg * lg < 2 ^ 129 }
+    ensures size { length left.new ≡ length left.old }
+    ensures values { OnOk result ((i : ℕ) → i < 2 ^ lg → let x = power F.one F.product (F.root lg) i in
+        F.same (value_in_ring F.Ring left.new x) (F.product (value_in_ring F.Ring left.old x) (value_in_ring F.Ring right.old x))) }
+    ensures bounded { AddsAtMost (3 * 2 ^ lg * lg) work.old work.new }
+{
+    evaluate_rows(alloc, left, 1, lg, evaluation, work)?;
+    evaluate_rows(alloc, right, 1, lg, evaluation, work)?;
+    multiply_rows(alloc, left, 1, right)?;
+    interpolate_rows(alloc, left, 1, lg, interpolation, work)?;
+    Ok(())
+}
+
+/// The product of two polynomials of half as many coefficients as the domain has points: it is had from its values.
 fn multiplied<F: FieldNTT>(
     alloc: Global,
     left: Vec<F>,
@@ -220,19 +249,24 @@ fn multiplied<F: FieldNTT>(
     requires right { vec_len right ≡ 2 ^ (lg - 1) }
     requires evaluation { ArePowersByLevel F.Ring F.root lg evaluation.now }
     requires interpolation { ArePowersByLevel F.Ring (λ l. F.inverse (F.root l)) lg interpolation.now }
-    requires room { work.old.butterflies + 3 * 2 ^ lg * lg < 2 ^ 128 }
+    requires room { 2 * work.old.butterflies + 3 * 2 ^ lg * lg < 2 ^ 129 }
     ensures length { IfOk result (λ p. vec_len p ≡ 2 ^ lg) }
     ensures values { IfOk result (λ p. (r : F) → F.same (value_in_ring F.Ring p.items r) (F.product (value_in_ring F.Ring left.items r) (value_in_ring F.Ring right.items r))) }
     ensures bounded { AddsAtMost (3 * 2 ^ lg * lg) work.old work.new }
 {
     let n = domain_size(lg);
-    let mut left = filled_up(alloc, left, n)?;
-    let mut right = filled_up(alloc, right, n)?;
-    evaluate_rows(alloc, &mut left, 1, lg, evaluation, work)?;
-    evaluate_rows(alloc, &mut right, 1, lg, evaluation, work)?;
-    multiply_rows(alloc, &mut left, 1, &right)?;
-    interpolate_rows(alloc, &mut left, 1, lg, interpolation, work)?;
-    Ok(left)
+    let mut product = filled_up(alloc, left, n)?;
+    let mut other = filled_up(alloc, right, n)?;
+    multiply_values(
+        alloc,
+        &mut product,
+        &mut other,
+        lg,
+        evaluation,
+        interpolation,
+        work,
+    )?;
+    Ok(product)
 }
 
 /// p(X) q(X / w), up to its sign, for pieces p and q of 2^(lg - 1) points, w being the root of order 2^lg.
@@ -255,7 +289,7 @@ fn merged<F: FieldNTT>(
     requires right { HasLength (2 ^ (lg - 1)) right }
     requires evaluation { ArePowersByLevel F.Ring F.root lg evaluation.now }
     requires interpolation { ArePowersByLevel F.Ring (λ l. F.inverse (F.root l)) lg interpolation.now }
-    requires room { work.old.butterflies + 3 * 2 ^ lg * lg < 2 ^ 128 }
+    requires room { 2 * work.old.butterflies + 3 * 2 ^ lg * lg < 2 ^ 129 }
     ensures length { IfOk result (λ piece. HasLength (2 ^ lg) piece) }
     ensures merged { IfOk result (λ piece. IsMerged F.Ring (F.inverse (F.root lg)) (piece_value F.Ring (2 ^ (lg - 1)) left) (piece_value F.Ring (2 ^ (lg - 1)) right) (piece_value F.Ring (2 ^ lg) piece)) }
     ensures everywhere { IfOk result (λ piece. IsEverywhere piece → IsEverywhere left × IsEverywhere right) }
