@@ -45,7 +45,7 @@ module _ {A : Type 0} (R : RingOf A) (E : IsEquality R.same) (G : IsGroup R.same
   pub length-classes_of_column : (n c k : ℕ) (xs : List A) → length (classes_of_column n c k xs) ≡ n
   length-classes_of_column n c k xs = length-map (column_of R.zero (matrix_of n c xs) k) (class E) ∙ length-column R.zero (matrix_of n c xs) k
 
-  at-place : (n c k i : ℕ) (xs : List A) → k < c → length xs ≡ n * c → get_or (classes_of_column n c k xs) i C.zero ≡ class E (get_or xs (i * c + k) R.zero)
+  pub at-place : (n c k i : ℕ) (xs : List A) → k < c → length xs ≡ n * c → get_or (classes_of_column n c k xs) i C.zero ≡ class E (get_or xs (i * c + k) R.zero)
   at-place n c k i xs l e = coefficient-class E G P L (column_of R.zero (matrix_of n c xs) k) i ∙ ap (class E) (column-cell E R.zero (matrix_of n c xs) k i l e)
 
   module _ (w : A) (n c k : ℕ) (powers lows highs new_lows new_highs : List A) (l : k < c)

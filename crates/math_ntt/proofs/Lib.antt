@@ -22,3 +22,6 @@ pub mod RootInverses
 pub mod ReversedRows
 pub mod DomainSteps
 pub mod SharedInverses
+pub mod DomainTransforms
+pub mod ScaledCells
+pub mod PowerTables

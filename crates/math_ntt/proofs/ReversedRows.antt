@@ -1,9 +1,9 @@
 -- Rows put in bit-reversed order, each pair exchanged once.
-use Rattle.std.proofs.Common.{◌≡◌, ◌≢◌, ◌∙◌, inl, inr, ℕ, zero, suc, ◌+◌, ◌-◌, ◌*◌, ◌/◌, ◌%◌, ◌^◌, ◌<◌, ◌≤◌, List, length, get_or, refl, sym, ap, subst, pow-suc, arith}
-use Rattle.std.specs.Int.{reverse_bits_onto}
+use Rattle.std.proofs.Common.{◌≡◌, ◌≢◌, ◌∙◌, inl, inr, ℕ, zero, suc, ◌+◌, ◌-◌, ◌*◌, ◌/◌, ◌%◌, ◌^◌, ◌<◌, ◌≤◌, List, length, get_or, refl, sym, ap, subst, pow-suc, pow-add, mul_comm, w64, arith}
+use Rattle.std.specs.Int.{reverse_bits, reverse_bits_onto}
 use Rattle.std.proofs.Math.Nat.{mul-div_cancel_left}
 use Rattle.std.proofs.lemmas.Bool.{cases_lt}
-use Rattle.std.proofs.lemmas.Nat.{pow_pos}
+use Rattle.std.proofs.lemmas.Nat.{pow_pos, div-mul-add}
 use Rattle.math_theory.specs.Bits.{bits-zero, number}
 use Rattle.math_theory.specs.BitReversal.{bit_reversed, bit_reversed_order}
 use Rattle.math_theory.proofs.BitOrder.{bit_reversed-suc, bit_reversed-below, bit_reversed-twice}
@@ -11,6 +11,7 @@ use Rattle.std.proofs.Common.{reverse}
 
 -- the bits of a word in the opposite order, one after the other
 onto : (k n a : ℕ) → reverse_bits_onto k n a ≡ a * 2 ^ k + bit_reversed k n
+unfolding reverse_bits_onto
 onto zero n a = let e : bit_reversed 0 n ≡ 0 = ap (λ t. number (reverse t)) (bits-zero n) in omega (arith, e)
 onto (suc k) n a =
     let p : 2 ^ suc k ≡ 2 ^ k * 2 = pow-suc 2 k in
@@ -25,19 +26,25 @@ reversed-more : (lg m i : ℕ) → i < 2 ^ lg → bit_reversed (lg + m) i ≡ 2 
 reversed-more zero m i h =
     let z : i ≡ 0 = omega arith in
     let n : 0 + m ≡ m = omega arith in
-    rw (z, n) (reversed-zero m ∙ omega (arith, reversed-zero 0))
+    rw (z, n) (reversed-zero m ∙ omega (arith, ap (λ t. 2 ^ m * t) (reversed-zero 0)))
 reversed-more (suc lg) m i h =
     let n : suc lg + m ≡ suc (lg + m) = omega arith in
     let half : i / 2 < 2 ^ lg = omega (arith, pow-suc 2 lg) in
-    let p : 2 ^ (lg + m) ≡ 2 ^ m * 2 ^ lg = ? in
+    let p : 2 ^ (lg + m) ≡ 2 ^ m * 2 ^ lg = pow-add 2 lg m ∙ mul_comm (2 ^ lg) (2 ^ m) in
     ap (λ t. bit_reversed t i) n ∙ bit_reversed-suc (lg + m) i ∙ omega (arith, reversed-more lg m (i / 2) half, bit_reversed-suc lg i, ap (λ t. (i % 2) * t) p, ap (λ t. 2 ^ m * t) (bit_reversed-suc lg i))
 
-pub reversed-shifted : (lg i : ℕ) → lg ≤ 64 → i < 2 ^ lg → reverse_bits_onto 64 i 0 / 2 ^ (64 - lg) ≡ bit_reversed lg i
+pub reversed-shifted : (lg i : ℕ) → lg ≤ 64 → i < 2 ^ lg → reverse_bits w64 i / 2 ^ (64 - lg) ≡ bit_reversed lg i
 reversed-shifted lg i h l =
     let e : lg + (64 - lg) ≡ 64 = omega arith in
     let q : reverse_bits_onto 64 i 0 ≡ 2 ^ (64 - lg) * bit_reversed lg i =
     onto 64 i 0 ∙ omega arith ∙ ap (λ t. bit_reversed t i) (sym e) ∙ reversed-more lg (64 - lg) i l in
     ap (λ t. t / 2 ^ (64 - lg)) q ∙ mul-div_cancel_left _ (pow_pos (64 - lg))
+
+pub reversed-single : (lg i : ℕ) → lg ≤ 0 → i < 2 ^ lg → bit_reversed lg i ≡ i
+reversed-single lg i h l =
+    let z : lg ≡ 0 = omega arith in
+    let one : 2 ^ lg ≡ 1 = ap (λ n. 2 ^ n) z in
+    omega (arith, one, bit_reversed-below lg i)
 
 -- what holds once the rows below i have their places
 pub record IsReversedBelow {A : Type 0} (count : ℕ) (other : ℕ → ℕ) (old new : ℕ → A) (i : ℕ) : Type 0 where
@@ -102,3 +109,39 @@ module _ {A : Type 0} (count : ℕ) (other : ℕ → ℕ) (twice : (r : ℕ) →
           others r (λ e. absurd (omega (arith, e))) (λ e. absurd (let f : other r ≡ i = ap other e ∙ twice i within in omega (arith, f)))
           ∙ h.kept r m (omega arith) (omega arith);
     }
+
+-- cells of different rows stand at different places
+pub places-apart : (r i c a b : ℕ) → a < c → b < c → r ≢ i → r * c + a ≢ i * c + b
+places-apart r i c a b l m h e = h (sym (div-mul-add r c a l) ∙ ap (λ p. p / c) e ∙ div-mul-add i c b m)
+
+-- the first n cells of rows i and j are exchanged
+pub record AreExchangedBelow {A : Type 0} (d : A) (c i j : ℕ) (old new : List A) (n : ℕ) : Type 0 where
+  pub first : (k : ℕ) → k < n → get_or new (i * c + k) d ≡ get_or old (j * c + k) d
+  pub second : (k : ℕ) → k < n → get_or new (j * c + k) d ≡ get_or old (i * c + k) d
+  pub kept : (p : ℕ) → ((k : ℕ) → k < n → p ≢ i * c + k) → ((k : ℕ) → k < n → p ≢ j * c + k) → get_or new p d ≡ get_or old p d
+
+module _ {A : Type 0} (d : A) (c i j : ℕ) (old : List A) where
+  pub exchanged-none : AreExchangedBelow d c i j old old 0
+  exchanged-none = record { first = λ k l. absurd (omega arith); second = λ k l. absurd (omega arith); kept = λ p h k. refl }
+
+  -- and the next cells of both
+  pub exchanged-more : (n : ℕ) (now new : List A) → i ≢ j → n < c → AreExchangedBelow d c i j old now n
+      → get_or new (i * c + n) d ≡ get_or now (j * c + n) d → get_or new (j * c + n) d ≡ get_or now (i * c + n) d
+      → ((p : ℕ) → p ≢ i * c + n → p ≢ j * c + n → get_or new p d ≡ get_or now p d) → AreExchangedBelow d c i j old new (n + 1)
+  exchanged-more n now new apart within h at_first at_second others = record {
+    first = λ k l. elim (cases_lt k n) [
+        | inl below ↦ others (i * c + k) (λ e. absurd (omega (arith, e, below))) (places-apart i j c k n (omega (arith, below, within)) within apart) ∙ h.first k below
+        | inr above ↦
+            let e : n ≡ k = omega (arith, l, above) in
+            subst (λ k. get_or new (i * c + k) d ≡ get_or old (j * c + k) d) e
+            (at_first ∙ h.kept (j * c + n) (λ q b. places-apart j i c n q within (omega (arith, b, within)) (λ f. apart (sym f))) (λ q b f. absurd (omega (arith, f, b))))
+      ];
+    second = λ k l. elim (cases_lt k n) [
+        | inl below ↦ others (j * c + k) (places-apart j i c k n (omega (arith, below, within)) within (λ f. apart (sym f))) (λ e. absurd (omega (arith, e, below))) ∙ h.second k below
+        | inr above ↦
+            let e : n ≡ k = omega (arith, l, above) in
+            subst (λ k. get_or new (j * c + k) d ≡ get_or old (i * c + k) d) e
+            (at_second ∙ h.kept (i * c + n) (λ q b f. absurd (omega (arith, f, b))) (λ q b. places-apart i j c n q within (omega (arith, b, within)) apart))
+      ];
+    kept = λ p a b. others p (a n (omega arith)) (b n (omega arith)) ∙ h.kept p (λ q m. a q (omega (arith, m))) (λ q m. b q (omega (arith, m)));
+  }

@@ -1,9 +1,10 @@
 -- The inverses of roots of unity.
-use Rattle.std.proofs.Common.{◌≡◌, ◌≢◌, ◌∙◌, ℕ, zero, suc, ◌-◌, ◌<◌, ◌^◌, List, [], ◌∷◌, refl, sym, ap, ap₂, arith}
+use Rattle.std.proofs.Common.{◌≡◌, ◌≢◌, ◌∙◌, ℕ, zero, suc, ◌+◌, ◌<◌, ◌≤◌, ◌^◌, Bool, true, false, if◌then◌else◌, [], ◌∷◌, refl, sym, ap, add-one, arith}
 use Rattle.math_theory.specs.Domains.{HasExactOrder}
 use Rattle.math_theory.specs.Laws.{IsEquality, IsGroup, IsProduct, IsRing, IsField}
 use Rattle.math_theory.specs.OverRing as OverRing
 use Rattle.math_theory.specs.Powers.{power, power-suc}
+use Rattle.math_theory.specs.RootLaws.{HasRootsOfUnity}
 use Rattle.math_theory.specs.Rings.{CommutativeRing, Field}
 use Rattle.math_theory.proofs.Classes.{Class, class, class_same, same_class, field_of_classes}
 use Rattle.math_theory.proofs.ClassesOfLists.{power-class}
@@ -36,3 +37,10 @@ module _ {A : Type 0} {same : A → A → Type 0} {zero_of : A} {sum : A → A �
 
   pub root-inverse : (r : A) (n : ℕ) → HasExactOrder same one product r n → same (product r (inverse r)) one
   root-inverse r n o = K.inverts r (λ z. nonzero-class r n o (class_same E _ _ z))
+
+  -- the roots of all levels, or their inverses: each is the square of the next
+  pub level_root-square : {root : ℕ → A} {shift : A} {half : A → A} {greatest : ℕ} → HasRootsOfUnity same zero_of sum product one greatest root shift half → (forward : Bool) (l : ℕ) → l + 1 ≤ greatest
+      → same (product (if forward then root (l + 1) else inverse (root (l + 1))) (if forward then root (l + 1) else inverse (root (l + 1)))) (if forward then root l else inverse (root l))
+  level_root-square roots true l h = rw (add-one l) (roots.square l (omega arith))
+  level_root-square roots false l h =
+      rw (add-one l) (inverse_square-same _ _ _ _ (roots.order (suc l) (omega arith)) (roots.order l (omega arith)) (roots.square l (omega arith)))

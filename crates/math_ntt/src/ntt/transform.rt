@@ -41,6 +41,14 @@ pub(super) fn lg_of(count: usize) -> u8
     count.trailing_zeros() as u8
 }
 
+// 2^lg.
+fn size_of(lg: u8) -> usize
+    requires { lg < 64 }
+    ensures { result ≡ 2 ^ lg }
+{
+    1 << lg
+}
+
 /// The table for `evaluate_rows` at 2^lg rows: 2^lg entries, the powers of the roots of all levels.
 pub(super) fn evaluation_table<F: FieldNTT>(alloc: Global, lg: u8) -> Mem<Vec<F>>
     requires domain { lg ≤ F.MAX_LG_ROOT_ORDER }
@@ -120,15 +128,6 @@ pub(super) fn interpolate_rows<F: FieldNTT>(
     Ok(())
 }
 
-// Half of 2^lg.
-fn half_of(lg: u8) -> usize
-    requires positive { 0 < lg }
-    requires small { lg < 64 }
-    ensures { result ≡ 2 ^ (lg - 1) }
-{
-    1 << (lg - 1)
-}
-
 // Transforms both halves, and combines them.
 fn transform_halves<F: FieldNTT>(
     alloc: Global,
@@ -151,7 +150,7 @@ fn transform_halves<F: FieldNTT>(
     if lg == 0 {
         return Ok(());
     }
-    let half = half_of(lg);
+    let half = size_of(lg - 1);
     let (low, high) = cells.split_at_mut(half * cols);
     let (below, powers) = table.split_at(half);
     transform_halves(alloc, low, cols, lg - 1, below, work)?;
@@ -182,7 +181,7 @@ fn untransform_halves<F: FieldNTT>(
     if lg == 0 {
         return Ok(());
     }
-    let half = half_of(lg);
+    let half = size_of(lg - 1);
     let (low, high) = cells.split_at_mut(half * cols);
     let (below, powers) = table.split_at(half);
     combine_halves::<F, false>(alloc, low, high, cols, powers, work)?;

@@ -6,6 +6,7 @@ ghost use Rattle.math_ntt.specs.CombinedCells.{AreRowsReversed};
 ghost use Rattle.math_ntt.specs.DomainValues.{matrix_of};
 ghost use Rattle.math_ntt.specs.Matrices.{cell_of};
 
+use super::size_of;
 use math_base::algebra::Additive;
 
 // The number whose lg bits are those of i in the opposite order.
@@ -42,7 +43,7 @@ pub(super) fn reverse_rows<F: Additive>(cells: &mut [F], cols: usize, lg: u8)
     ensures { AreRowsReversed F.zero lg (matrix_of (2 ^ lg) cols cells.old) (matrix_of (2 ^ lg) cols cells.new) }
 {
     if lg > 0 {
-        let rows = 1usize << lg;
+        let rows = size_of(lg);
         for i in 0..rows {
             let j = reversed(i, lg);
             if i < j {

@@ -9,6 +9,7 @@ ghost use Rattle.std.specs.Prelude.{◌≡◌, ◌+◌, ◌*◌, ◌<◌, ◌≤
 ghost use Rattle.math_ntt.specs.DomainValues.{ArePowersByLevel};
 ghost use Rattle.math_ntt.specs.LevelTables.{AddsEntries, AddsLevel};
 
+use super::size_of;
 use math_base::algebra::{Field, FieldNTT, Mem, Multiplicative, Object, Ring};
 use std::alloc::Global;
 
@@ -44,7 +45,7 @@ fn add_entries<F: FieldNTT>(alloc: Global, table: &mut Vec<F>, i: usize, root: &
 fn add_level<F: FieldNTT>(alloc: Global, table: &mut Vec<F>, count: usize, root: &F) -> Mem<()>
     requires count { length table.old.items ≡ count + count }
     requires fits { count + count < 2 ^ 64 }
-    ensures { OnOk result (AddsLevel F.same F.zero F.product count root.now table.old.items table.new.items) }
+    ensures { OnOk result (AddsLevel F.same F.zero F.product count count root.now table.old.items table.new.items) }
 {
     for i in count..count + count {
         add_entries(alloc, table, i, root)?;
@@ -62,13 +63,13 @@ pub(super) fn powers_by_level<F: FieldNTT, const FORWARD: bool>(
     requires small { lg < 64 }
     ensures { IfOk result (λ table. ArePowersByLevel F.Ring (λ l. if FORWARD then F.root l else F.inverse (F.root l)) lg table.items) }
 {
-    let mut table = Vec::with_capacity(alloc, 1usize << lg)?;
+    let mut table = Vec::with_capacity(alloc, size_of(lg))?;
     table.push(F::one(alloc)?)?;
     if lg > 0 {
         table.push(F::one(alloc)?)?;
         for l in 1..lg {
             let root = level_root::<F, FORWARD>(alloc, l + 1)?;
-            add_level(alloc, &mut table, 1usize << (l - 1), &root)?;
+            add_level(alloc, &mut table, size_of(l - 1), &root)?;
         }
     }
     Ok(table)

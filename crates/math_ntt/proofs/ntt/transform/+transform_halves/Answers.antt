@@ -7,7 +7,7 @@ use Rattle.math_ntt.proofs.ntt.transform.+transform_halves.Goals as goal
 pub transform_halves-requires : goal.transform_halves-requires
 transform_halves-requires g t c κs within =
     let h : Halved c.args.lg c.args.cols = halved c.args.lg c.args.cols c.if-lg-eq0.false in
-    let hc : c.half_of-half.result * c.args.cols ≡ 2 ^ (c.args.lg - 1) * c.args.cols = ap (λ n. n * c.args.cols) c.half_of-half.ensures in
+    let hc : c.size_of-half.result * c.args.cols ≡ 2 ^ (c.args.lg - 1) * c.args.cols = ap (λ n. n * c.args.cols) c.size_of-half.ensures in
     let R : RingOf g.row.F.Denot = record {
       product = g.F.Multiplicative.product;
       debug_output = g.F.Debug.debug_output;
@@ -36,11 +36,15 @@ transform_halves-requires g t c κs within =
         ),
       ),
     )
+    } in
+    (omega arith, (search rules, (omega arith, (omega arith, (omega (arith, c.split_at_mut-low.ensures.front_len, h.cells), (
+      powers-below R g.F.FieldNTT.root c.args.lg c.size_of-half.result c.args.table.now c.if-lg-eq0.false c.size_of-half.ensures c.requires.table c.split_at.result.0.now c.split_at.ensures.front,
+      omega (arith, h.count, c.requires.room)))))))
 
 pub transform_halves-requires-2 : goal.transform_halves-requires-2
 transform_halves-requires-2 g t c κs within =
     let h : Halved c.args.lg c.args.cols = halved c.args.lg c.args.cols c.if-lg-eq0.false in
-    let hc : c.half_of-half.result * c.args.cols ≡ 2 ^ (c.args.lg - 1) * c.args.cols = ap (λ n. n * c.args.cols) c.half_of-half.ensures in
+    let hc : c.size_of-half.result * c.args.cols ≡ 2 ^ (c.args.lg - 1) * c.args.cols = ap (λ n. n * c.args.cols) c.size_of-half.ensures in
     let R : RingOf g.row.F.Denot = record {
       product = g.F.Multiplicative.product;
       debug_output = g.F.Debug.debug_output;
@@ -69,27 +73,31 @@ transform_halves-requires-2 g t c κs within =
         ),
       ),
     )
+    } in
+    (omega arith, (search rules, (omega arith, (omega arith, (omega (arith, c.split_at_mut-low.ensures.back_len, c.requires.size, h.cells), (
+      powers-below R g.F.FieldNTT.root c.args.lg c.size_of-half.result c.args.table.now c.if-lg-eq0.false c.size_of-half.ensures c.requires.table c.split_at.result.0.now c.split_at.ensures.front,
+      omega (arith, h.count, c.requires.room, c.in_ok-transform_halves.ensures.counted)))))))
 
 pub combine_halves-requires-clause-low : goal.combine_halves-requires-clause-low
 combine_halves-requires-clause-low g t c =
     let h : Halved c.args.lg c.args.cols = halved c.args.lg c.args.cols c.if-lg-eq0.false in
-    let hc : c.half_of-half.result * c.args.cols ≡ 2 ^ (c.args.lg - 1) * c.args.cols = ap (λ n. n * c.args.cols) c.half_of-half.ensures in
-    let lp : length c.split_at.result.1.now ≡ 2 ^ (c.args.lg - 1) = omega (arith, c.split_at.ensures.back_len, c.requires.table.count, h.powers, c.half_of-half.ensures) in
+    let hc : c.size_of-half.result * c.args.cols ≡ 2 ^ (c.args.lg - 1) * c.args.cols = ap (λ n. n * c.args.cols) c.size_of-half.ensures in
+    let lp : length c.split_at.result.1.now ≡ 2 ^ (c.args.lg - 1) = omega (arith, c.split_at.ensures.back_len, c.requires.table.count, h.powers, c.size_of-half.ensures) in
     let lpc : length c.split_at.result.1.now * c.args.cols ≡ 2 ^ (c.args.lg - 1) * c.args.cols = ap (λ n. n * c.args.cols) lp in
     omega (arith, c.in_ok-transform_halves.ensures.size, c.split_at_mut-low.ensures.front_len)
 
 pub combine_halves-requires-clause-high : goal.combine_halves-requires-clause-high
 combine_halves-requires-clause-high g t c =
     let h : Halved c.args.lg c.args.cols = halved c.args.lg c.args.cols c.if-lg-eq0.false in
-    let hc : c.half_of-half.result * c.args.cols ≡ 2 ^ (c.args.lg - 1) * c.args.cols = ap (λ n. n * c.args.cols) c.half_of-half.ensures in
-    let lp : length c.split_at.result.1.now ≡ 2 ^ (c.args.lg - 1) = omega (arith, c.split_at.ensures.back_len, c.requires.table.count, h.powers, c.half_of-half.ensures) in
+    let hc : c.size_of-half.result * c.args.cols ≡ 2 ^ (c.args.lg - 1) * c.args.cols = ap (λ n. n * c.args.cols) c.size_of-half.ensures in
+    let lp : length c.split_at.result.1.now ≡ 2 ^ (c.args.lg - 1) = omega (arith, c.split_at.ensures.back_len, c.requires.table.count, h.powers, c.size_of-half.ensures) in
     let lpc : length c.split_at.result.1.now * c.args.cols ≡ 2 ^ (c.args.lg - 1) * c.args.cols = ap (λ n. n * c.args.cols) lp in
     omega (arith, c.in_ok-transform_halves-2.ensures.size, c.split_at_mut-low.ensures.back_len, c.requires.size, h.cells)
 
 pub combine_halves-requires-clause-room : goal.combine_halves-requires-clause-room
 combine_halves-requires-clause-room g t c =
     let h : Halved c.args.lg c.args.cols = halved c.args.lg c.args.cols c.if-lg-eq0.false in
-    let lp : length c.split_at.result.1.now ≡ 2 ^ (c.args.lg - 1) = omega (arith, c.split_at.ensures.back_len, c.requires.table.count, h.powers, c.half_of-half.ensures) in
+    let lp : length c.split_at.result.1.now ≡ 2 ^ (c.args.lg - 1) = omega (arith, c.split_at.ensures.back_len, c.requires.table.count, h.powers, c.size_of-half.ensures) in
     let lpc : length c.split_at.result.1.now * c.args.cols ≡ 2 ^ (c.args.lg - 1) * c.args.cols = ap (λ n. n * c.args.cols) lp in
     omega (arith, h.count, c.requires.room, c.in_ok-transform_halves.ensures.counted, c.in_ok-transform_halves-2.ensures.counted)
 
@@ -106,7 +114,7 @@ returns-in_err-transform_halves-2-clause-bounded g t c =
 pub returns-in_err-combine_halves-clause-bounded : goal.returns-in_err-combine_halves-clause-bounded
 returns-in_err-combine_halves-clause-bounded g t c =
     let h : Halved c.args.lg c.args.cols = halved c.args.lg c.args.cols c.if-lg-eq0.false in
-    let lp : length c.split_at.result.1.now ≡ 2 ^ (c.args.lg - 1) = omega (arith, c.split_at.ensures.back_len, c.requires.table.count, h.powers, c.half_of-half.ensures) in
+    let lp : length c.split_at.result.1.now ≡ 2 ^ (c.args.lg - 1) = omega (arith, c.split_at.ensures.back_len, c.requires.table.count, h.powers, c.size_of-half.ensures) in
     let lpc : length c.split_at.result.1.now * c.args.cols ≡ 2 ^ (c.args.lg - 1) * c.args.cols = ap (λ n. n * c.args.cols) lp in
     adds-part (c.args.cols * 2 ^ (c.args.lg - 1) * (c.args.lg - 1) + c.args.cols * 2 ^ (c.args.lg - 1) * (c.args.lg - 1) + 2 * (length c.split_at.result.1.now * c.args.cols)) _ _ _ (omega (arith, h.count))
     (adds-then _ _ _ _ _ (adds-then _ _ _ _ _ c.in_ok-transform_halves.ensures.bounded c.in_ok-transform_halves-2.ensures.bounded) c.in_err-combine_halves.ensures.bounded)
@@ -114,14 +122,14 @@ returns-in_err-combine_halves-clause-bounded g t c =
 pub returns-clause-counted : goal.returns-clause-counted
 returns-clause-counted g t c =
     let h : Halved c.args.lg c.args.cols = halved c.args.lg c.args.cols c.if-lg-eq0.false in
-    let lp : length c.split_at.result.1.now ≡ 2 ^ (c.args.lg - 1) = omega (arith, c.split_at.ensures.back_len, c.requires.table.count, h.powers, c.half_of-half.ensures) in
+    let lp : length c.split_at.result.1.now ≡ 2 ^ (c.args.lg - 1) = omega (arith, c.split_at.ensures.back_len, c.requires.table.count, h.powers, c.size_of-half.ensures) in
     let lpc : length c.split_at.result.1.now * c.args.cols ≡ 2 ^ (c.args.lg - 1) * c.args.cols = ap (λ n. n * c.args.cols) lp in
     omega (arith, h.count, c.in_ok-transform_halves.ensures.counted, c.in_ok-transform_halves-2.ensures.counted, c.in_ok-combine_halves.ensures.counted)
 
 pub returns-clause-bounded : goal.returns-clause-bounded
 returns-clause-bounded g t c =
     let h : Halved c.args.lg c.args.cols = halved c.args.lg c.args.cols c.if-lg-eq0.false in
-    let lp : length c.split_at.result.1.now ≡ 2 ^ (c.args.lg - 1) = omega (arith, c.split_at.ensures.back_len, c.requires.table.count, h.powers, c.half_of-half.ensures) in
+    let lp : length c.split_at.result.1.now ≡ 2 ^ (c.args.lg - 1) = omega (arith, c.split_at.ensures.back_len, c.requires.table.count, h.powers, c.size_of-half.ensures) in
     let lpc : length c.split_at.result.1.now * c.args.cols ≡ 2 ^ (c.args.lg - 1) * c.args.cols = ap (λ n. n * c.args.cols) lp in
     adds-part (c.args.cols * 2 ^ (c.args.lg - 1) * (c.args.lg - 1) + c.args.cols * 2 ^ (c.args.lg - 1) * (c.args.lg - 1) + 2 * (length c.split_at.result.1.now * c.args.cols)) _ _ _ (omega (arith, h.count))
     (adds-then _ _ _ _ _ (adds-then _ _ _ _ _ c.in_ok-transform_halves.ensures.bounded c.in_ok-transform_halves-2.ensures.bounded) c.in_ok-combine_halves.ensures.bounded)
@@ -129,7 +137,7 @@ returns-clause-bounded g t c =
 pub returns-clause-values : goal.returns-clause-values
 returns-clause-values g t c =
     let h : Halved c.args.lg c.args.cols = halved c.args.lg c.args.cols c.if-lg-eq0.false in
-    let hc : c.half_of-half.result * c.args.cols ≡ 2 ^ (c.args.lg - 1) * c.args.cols = ap (λ n. n * c.args.cols) c.half_of-half.ensures in
+    let hc : c.size_of-half.result * c.args.cols ≡ 2 ^ (c.args.lg - 1) * c.args.cols = ap (λ n. n * c.args.cols) c.size_of-half.ensures in
     let R : RingOf g.row.F.Denot = record {
       product = g.F.Multiplicative.product;
       debug_output = g.F.Debug.debug_output;
@@ -144,8 +152,8 @@ returns-clause-values g t c =
     let low : length c.transform_halves.new.cells ≡ 2 ^ (c.args.lg - 1) * c.args.cols = omega (arith, c.in_ok-transform_halves.ensures.size, c.split_at_mut-low.ensures.front_len) in
     let high : length c.transform_halves-2.new.cells ≡ 2 ^ (c.args.lg - 1) * c.args.cols =
     omega (arith, c.in_ok-transform_halves-2.ensures.size, c.split_at_mut-low.ensures.back_len, c.requires.size, h.cells) in
-    transformed-level R F.Object.equality F.Additive.group F.Multiplicative.commutes F.Ring.ring g.F.FieldNTT.root c.args.lg c.half_of-half.result c.args.cols
-    c.args.table.now c.split_at.result.1.now c.args.cells.now c.if-lg-eq0.false c.half_of-half.ensures (F.FieldNTT.roots.square (c.args.lg - 1) (omega arith))
+    transformed-level R F.Object.equality F.Additive.group F.Multiplicative.commutes F.Ring.ring g.F.FieldNTT.root c.args.lg c.size_of-half.result c.args.cols
+    c.args.table.now c.split_at.result.1.now c.args.cells.now c.if-lg-eq0.false c.size_of-half.ensures (F.FieldNTT.roots.square (c.args.lg - 1) (omega arith))
     c.requires.table c.split_at.ensures.back c.split_at.ensures.back_len c.split_at_mut-low.result.0.now c.split_at_mut-low.result.1.now
     c.split_at_mut-low.ensures.front c.split_at_mut-low.ensures.back c.transform_halves.new.cells c.transform_halves-2.new.cells c.combine_halves.new.low c.combine_halves.new.high
     low high (omega (arith, c.combine_halves.auto.low)) (omega (arith, c.combine_halves.auto.high))

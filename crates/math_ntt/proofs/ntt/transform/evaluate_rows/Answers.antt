@@ -1,6 +1,22 @@
-use Rattle.math_ntt.proofs.TransformClasses.{transform-class}
-use Rattle.math_ntt.proofs.ColumnHalves.{sums-forward}
+use Rattle.std.proofs.Common.{◌≡◌, ◌∙◌, length, arith}
+use Rattle.math_base.specs.Members.{RingOf}
+use Rattle.math_ntt.proofs.DomainTransforms.{values-forward}
 use Rattle.math_ntt.proofs.ntt.transform.evaluate_rows.Goals as goal
 
 pub returns-clause-values : goal.returns-clause-values
-returns-clause-values g c = ?
+returns-clause-values g c =
+    let R : RingOf g.row.F.Denot = record {
+      product = g.F.Multiplicative.product;
+      debug_output = g.F.Debug.debug_output;
+      same = g.F.Object.same;
+      NEVER_REFUSES = g.F.Object.NEVER_REFUSES;
+      zero = g.F.Additive.zero;
+      sum = g.F.Additive.sum;
+      negative = g.F.Additive.negative;
+      one = g.F.Ring.one;
+    } in
+    let F = g.met.F in
+    values-forward R F.Object.equality F.Additive.group F.Multiplicative.commutes F.Ring.ring g.F.Field.inverse F.Field.field c.args.lg c.args.cols (g.F.FieldNTT.root c.args.lg)
+    (F.FieldNTT.roots.order c.args.lg c.requires.domain) c.args.cells.now c.reverse_rows.new.cells c.transform_halves.new.cells
+    c.requires.size (c.reverse_rows.auto.cells ∙ c.requires.size) (c.transform_halves.auto.cells ∙ c.reverse_rows.auto.cells ∙ c.requires.size)
+    c.reverse_rows.ensures c.in_ok-transform_halves.ensures.values
