@@ -17,25 +17,6 @@ transform_halves-requires g t c κs within =
       sum = g.F.Additive.sum;
       negative = g.F.Additive.negative;
       one = g.F.Ring.one;
-    } in (
-      omega arith,
-      (
-        search rules,
-        (
-          omega arith,
-          (
-            omega arith,
-            (
-              omega (arith, c.split_at_mut-low.ensures.front_len, h.cells),
-              (
-                powers-below R g.F.FieldNTT.root c.args.lg c.half_of-half.result c.args.table.now c.if-lg-eq0.false c.half_of-half.ensures c.requires.table c.split_at.result.0.now c.split_at.ensures.front,
-                omega (arith, h.count, c.requires.room),
-              ),
-            ),
-          ),
-        ),
-      ),
-    )
     } in
     (omega arith, (search rules, (omega arith, (omega arith, (omega (arith, c.split_at_mut-low.ensures.front_len, h.cells), (
       powers-below R g.F.FieldNTT.root c.args.lg c.size_of-half.result c.args.table.now c.if-lg-eq0.false c.size_of-half.ensures c.requires.table c.split_at.result.0.now c.split_at.ensures.front,
@@ -54,25 +35,6 @@ transform_halves-requires-2 g t c κs within =
       sum = g.F.Additive.sum;
       negative = g.F.Additive.negative;
       one = g.F.Ring.one;
-    } in (
-      omega arith,
-      (
-        search rules,
-        (
-          omega arith,
-          (
-            omega arith,
-            (
-              omega (arith, c.split_at_mut-low.ensures.back_len, c.requires.size, h.cells),
-              (
-                powers-below R g.F.FieldNTT.root c.args.lg c.half_of-half.result c.args.table.now c.if-lg-eq0.false c.half_of-half.ensures c.requires.table c.split_at.result.0.now c.split_at.ensures.front,
-                omega (arith, h.count, c.requires.room, c.in_ok-transform_halves.ensures.counted),
-              ),
-            ),
-          ),
-        ),
-      ),
-    )
     } in
     (omega arith, (search rules, (omega arith, (omega arith, (omega (arith, c.split_at_mut-low.ensures.back_len, c.requires.size, h.cells), (
       powers-below R g.F.FieldNTT.root c.args.lg c.size_of-half.result c.args.table.now c.if-lg-eq0.false c.size_of-half.ensures c.requires.table c.split_at.result.0.now c.split_at.ensures.front,

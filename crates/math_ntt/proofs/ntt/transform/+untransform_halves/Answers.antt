@@ -19,26 +19,6 @@ untransform_halves-requires g t c κs within =
       negative = g.F.Additive.negative;
       one = g.F.Ring.one;
     } in
-    let lp : length c.split_at.result.1.now ≡ 2 ^ (c.args.lg - 1) = omega (arith, c.split_at.ensures.back_len, c.requires.table.count, h.powers, c.half_of-half.ensures) in
-    let lpc : length c.split_at.result.1.now * c.args.cols ≡ 2 ^ (c.args.lg - 1) * c.args.cols = ap (λ n. n * c.args.cols) lp in (
-      omega arith,
-      (
-        search rules,
-        (
-          omega arith,
-          (
-            omega arith,
-            (
-              omega (arith, c.combine_halves.auto.low, c.split_at_mut-low.ensures.front_len, h.cells),
-              (
-                powers-below R (λ l. g.F.Field.inverse (g.F.FieldNTT.root l)) c.args.lg c.half_of-half.result c.args.table.now c.if-lg-eq0.false c.half_of-half.ensures c.requires.table c.split_at.result.0.now c.split_at.ensures.front,
-                omega (arith, h.count, c.requires.room, c.in_ok-combine_halves.ensures.counted, lpc),
-              ),
-            ),
-          ),
-        ),
-      ),
-    )
     let lp : length c.split_at.result.1.now ≡ 2 ^ (c.args.lg - 1) = omega (arith, c.split_at.ensures.back_len, c.requires.table.count, h.powers, c.size_of-half.ensures) in
     let lpc : length c.split_at.result.1.now * c.args.cols ≡ 2 ^ (c.args.lg - 1) * c.args.cols = ap (λ n. n * c.args.cols) lp in
     (omega arith, (search rules, (omega arith, (omega arith, (omega (arith, c.combine_halves.auto.low, c.split_at_mut-low.ensures.front_len, h.cells), (
@@ -59,26 +39,6 @@ untransform_halves-requires-2 g t c κs within =
       negative = g.F.Additive.negative;
       one = g.F.Ring.one;
     } in
-    let lp : length c.split_at.result.1.now ≡ 2 ^ (c.args.lg - 1) = omega (arith, c.split_at.ensures.back_len, c.requires.table.count, h.powers, c.half_of-half.ensures) in
-    let lpc : length c.split_at.result.1.now * c.args.cols ≡ 2 ^ (c.args.lg - 1) * c.args.cols = ap (λ n. n * c.args.cols) lp in (
-      omega arith,
-      (
-        search rules,
-        (
-          omega arith,
-          (
-            omega arith,
-            (
-              omega (arith, c.combine_halves.auto.high, c.split_at_mut-low.ensures.back_len, c.requires.size, h.cells),
-              (
-                powers-below R (λ l. g.F.Field.inverse (g.F.FieldNTT.root l)) c.args.lg c.half_of-half.result c.args.table.now c.if-lg-eq0.false c.half_of-half.ensures c.requires.table c.split_at.result.0.now c.split_at.ensures.front,
-                omega (arith, h.count, c.requires.room, c.in_ok-combine_halves.ensures.counted, c.in_ok-untransform_halves.ensures.counted, lpc),
-              ),
-            ),
-          ),
-        ),
-      ),
-    )
     let lp : length c.split_at.result.1.now ≡ 2 ^ (c.args.lg - 1) = omega (arith, c.split_at.ensures.back_len, c.requires.table.count, h.powers, c.size_of-half.ensures) in
     let lpc : length c.split_at.result.1.now * c.args.cols ≡ 2 ^ (c.args.lg - 1) * c.args.cols = ap (λ n. n * c.args.cols) lp in
     (omega arith, (search rules, (omega arith, (omega arith, (omega (arith, c.combine_halves.auto.high, c.split_at_mut-low.ensures.back_len, c.requires.size, h.cells), (
