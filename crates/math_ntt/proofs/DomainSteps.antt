@@ -101,3 +101,13 @@ module _ {A : Type 0} (R : RingOf A) (E : IsEquality R.same) (G : IsGroup R.same
       (E.transitive _ _ _
       (combine_same E G P L (get_or values (i * c + k) R.zero ∷ get_or inverses i R.zero ∷ get_or divisors i R.zero ∷ []) ((v0 ⊗ v1) ⊗ v2) v0 v0 (v1 ⊗ v2) 𝟙 (hi i l) refl)
       (hv i k l m))
+
+-- coefficients times the powers of s: the value at r is that at s r
+pub value-moved : {A : Type 0} (R : RingOf A) (E : IsEquality R.same) (G : IsGroup R.same R.zero R.sum R.negative) (P : IsProduct R.same R.product) (L : IsRing R.same R.sum R.product R.one) (s : A) (n : ℕ) (p moved back : List A)
+    → length p ≡ n → length moved ≡ length p → length back ≡ n → ((i : ℕ) → i < n → R.same (get_or back i R.zero) (power R.one R.product s i)) → AreRowProducts R (length back) 1 (λ i. get_or back i R.zero) p moved
+    → (r : A) → R.same (value_in_ring R moved r) (value_in_ring R p (R.product s r))
+value-moved R E G P L s n p moved back lp lm lb hb h r =
+    value-dilated E G P L r s p moved lm
+    (λ j l. let place : j * 1 + 0 ≡ j = omega arith in
+    let here : R.same (get_or moved (j * 1 + 0) R.zero) (R.product (get_or p (j * 1 + 0) R.zero) (get_or back j R.zero)) = h j 0 (omega (arith, l, lp, lb)) (omega arith) in
+    E.transitive _ _ _ (rw place at here) (P.respects _ _ _ _ (E.reflexive (get_or p j R.zero)) (hb j (omega (arith, l, lp)))))

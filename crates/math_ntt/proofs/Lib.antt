@@ -25,3 +25,4 @@ pub mod SharedInverses
 pub mod DomainTransforms
 pub mod ScaledCells
 pub mod PowerTables
+pub mod RecoveryCounts

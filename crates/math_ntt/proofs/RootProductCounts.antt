@@ -1,5 +1,7 @@
 -- How many root products the polynomial of v missing points takes: one for each coefficient that there is before each factor, v (v + 1) / 2 in all.
 use Rattle.std.proofs.Common.{◌≡◌, ℕ, ◌+◌, ◌*◌, ◌<◌, ◌≤◌, ◌^◌, arith, mul-le-mul}
+use Rattle.math_ntt.specs.CountedWork.{WorkOf}
+use Rattle.math_ntt.specs.RecoveryWork.{AddsWithin}
 
 pub triangle-next : (v : ℕ) → (v + 1) * (v + 1 + 1) ≡ v * (v + 1) + 2 * (v + 1)
 triangle-next v = grind arith
@@ -32,3 +34,11 @@ within-points y start v n l h k =
 
 pub none-missing : (x v : ℕ) → v ≡ 0 → 2 * x ≡ 2 * x + v * (v + 1)
 none-missing x v e = rw e (omega arith)
+
+pub chunk-bounded : (u v : WorkOf) (m n : ℕ) → m < n → n ≤ 256 → v.butterflies ≡ u.butterflies → u.root_products ≤ v.root_products → 2 * v.root_products ≤ 2 * u.root_products + m * (m + 1) → AddsWithin 0 (128 * n) u v
+chunk-bounded u v m n l h b f k = record {
+  no_fewer = omega (arith, b);
+  no_more = omega (arith, b);
+  no_fewer_products = f;
+  no_more_products = within-points v.root_products u.root_products m n l h k;
+}

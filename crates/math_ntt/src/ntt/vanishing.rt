@@ -369,8 +369,8 @@ fn tree<F: FieldNTT>(
     requires fits { length points.now < 2 ^ 64 }
     requires evaluation { ArePowersByLevel F.Ring F.root lg evaluation.now }
     requires interpolation { ArePowersByLevel F.Ring (λ l. F.inverse (F.root l)) lg interpolation.now }
-    requires room { work.old.butterflies + 2 ^ 80 < 2 ^ 128 }
-    requires product_room { work.old.root_products + 2 ^ 80 < 2 ^ 128 }
+    requires room { 2 * work.old.butterflies + 2 ^ lg * lg * (3 * lg - 1) < 2 ^ 129 }
+    requires product_room { work.old.root_products + 128 * 2 ^ lg + 2 ^ 16 < 2 ^ 128 }
     ensures length { IfOk result (λ piece. HasLength (2 ^ lg) piece) }
     ensures vanishes { IfOk result (λ piece. VanishesAtFalse F.Ring (F.root lg) (every start stride (2 ^ lg) points.now) (piece_value F.Ring (2 ^ lg) piece)) }
     ensures everywhere { IfOk result (λ piece. IsEverywhere piece → count_true (every start stride (2 ^ lg) points.now) ≡ 0) }
