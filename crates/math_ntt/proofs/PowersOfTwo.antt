@@ -17,3 +17,10 @@ power_of_two-few n h = power_of_two-rises n 8 h
 
 pub power_of_two-word : (n : ℕ) → n < 64 → 2 ^ n ≤ 2 ^ 63
 power_of_two-word n h = power_of_two-rises n 63 (omega arith)
+
+-- equal powers have equal exponents
+pub power_of_two-same : (m n : ℕ) → 2 ^ m ≡ 2 ^ n → m ≡ n
+power_of_two-same m n e =
+    let no_less : ¬ (m < n) = λ l. let up : 2 ^ suc m ≤ 2 ^ n = power_of_two-rises (suc m) n (omega arith) in omega (arith, pow-suc 2 m, pow_pos m) in
+    let no_more : ¬ (n < m) = λ l. let up : 2 ^ suc n ≤ 2 ^ m = power_of_two-rises (suc n) m (omega arith) in omega (arith, pow-suc 2 n, pow_pos n) in
+    omega (arith, no_less, no_more)

@@ -33,3 +33,15 @@ pub returns-in-Somewhere-clause-vanishes : goal.returns-in-Somewhere-clause-vani
 returns-in-Somewhere-clause-vanishes g c =
     let whole = every-whole c.args.points.now (2 ^ c.args.lg) c.requires.points in
     rw (c.in-Somewhere.is, whole) at c.in_ok-piece.ensures.vanishes
+
+pub returns-in_ok-one-in-Nowhere-clause-exact : goal.returns-in_ok-one-in-Nowhere-clause-exact
+returns-in_ok-one-in-Nowhere-clause-exact g c = λ small.
+    let whole = every-whole c.args.points.now (2 ^ c.args.lg) c.requires.points in
+    let few : count_false c.args.points.now < 2 ^ c.args.lg = omega (arith, count_both c.args.points.now) in
+    (rw whole at c.in_ok-piece.ensures.exact) (search rules) few
+
+pub returns-in-Somewhere-clause-exact : goal.returns-in-Somewhere-clause-exact
+returns-in-Somewhere-clause-exact g c = λ small.
+    let whole = every-whole c.args.points.now (2 ^ c.args.lg) c.requires.points in
+    let few : count_false c.args.points.now < 2 ^ c.args.lg = omega (arith, count_both c.args.points.now) in
+    (rw whole at c.in_ok-piece.ensures.exact) (search rules) few
