@@ -1,19 +1,19 @@
 -- The columns of two halves of a matrix, and what combining them does to a column of classes.
-use Rattle.std.proofs.Common.{◌≡◌, ◌∙◌, ℕ, zero, suc, ◌+◌, ◌*◌, ◌/◌, ◌<◌, ◌≤◌, max, Bool, true, false, List, [], ◌∷◌, ◌++◌, length, map, take, drop, get_or, refl, sym, ap, ap₂, arith}
-use Rattle.std.proofs.lemmas.List.{map-append, ext_get_or, take-take, drop-take, drop-drop, take_at, drop_at, length-map}
+use Rattle.std.proofs.Common.{◌≡◌, ◌∙◌, ℕ, zero, suc, ◌+◌, ◌*◌, ◌/◌, ◌<◌, true, false, List, ◌∷◌, ◌++◌, length, map, take, drop, get_or, refl, sym, ap, ap₂, arith}
+use Rattle.std.proofs.lemmas.List.{map-append, ext_get_or, take-take, drop-take, drop-drop, length-map}
 use Rattle.std.proofs.lemmas.Nat.{div-mul-add, mul-add-lt}
 use Rattle.math_theory.specs.Laws.{IsEquality, IsGroup, IsProduct, IsRing}
 use Rattle.math_theory.specs.OverRing as OverRing
 use Rattle.math_theory.specs.Powers.{power}
 use Rattle.math_theory.specs.Rings.{CommutativeRing}
-use Rattle.math_theory.proofs.Classes.{Class, class, class_same, same_class, ring_of_classes}
+use Rattle.math_theory.proofs.Classes.{Class, class, class_same, ring_of_classes}
 use Rattle.math_theory.proofs.ClassesOfLists.{power-class, coefficient-class}
 use Rattle.math_theory.proofs.Coefficients.{length-sum, length-difference, length-dilation, coefficient-sum, coefficient-difference, coefficient-dilation}
 use Rattle.math_base.specs.Members.{RingOf}
 use Rattle.math_ntt.specs.CombinedCells.{AreCombined}
 use Rattle.math_ntt.specs.DomainValues.{matrix_of}
 use Rattle.math_ntt.specs.Matrices.{pieces, column_of}
-use Rattle.math_ntt.proofs.MatrixRows.{length-pieces, length-column}
+use Rattle.math_ntt.proofs.MatrixRows.{length-column}
 use Rattle.math_ntt.proofs.PaddedPolynomials.{column-cell}
 
 module _ {A : Type 0} where

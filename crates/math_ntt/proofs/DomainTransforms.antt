@@ -1,5 +1,5 @@
 -- From the transform of the columns to values at the powers of the root, and back.
-use Rattle.std.proofs.Common.{◌≡◌, ◌∙◌, ℕ, suc, ◌+◌, ◌*◌, ◌^◌, ◌<◌, List, [], ◌∷◌, length, map, get_or, refl, sym, ap, ap₂, arith}
+use Rattle.std.proofs.Common.{◌≡◌, ◌∙◌, ℕ, ◌+◌, ◌*◌, ◌^◌, ◌<◌, List, length, get_or, sym, ap, arith}
 use Rattle.std.proofs.lemmas.List.{ext_get_or, length-map, get_or-map}
 use Rattle.std.proofs.lemmas.List.FromFn.{length-map-range_with_len, get_or-map-range_with_len}
 use Rattle.std.proofs.lemmas.Nat.{mul-add-lt}
@@ -11,7 +11,7 @@ use Rattle.math_theory.specs.OverRing as OverRing
 use Rattle.math_theory.specs.Powers.{power}
 use Rattle.math_theory.specs.Rings.{CommutativeRing}
 use Rattle.math_theory.specs.Values as Values
-use Rattle.math_theory.proofs.BitOrder.{bit_reversed-below, bit_reversed_order-twice, get_or-bit_reversed_order, length-bit_reversed_order}
+use Rattle.math_theory.proofs.BitOrder.{bit_reversed_order-twice, get_or-bit_reversed_order, length-bit_reversed_order}
 use Rattle.math_theory.proofs.CarriedDomains.{HasExactOrder-classes}
 use Rattle.math_theory.proofs.Classes.{Class, class, class_same, same_class, ring_of_classes, field_of_classes}
 use Rattle.math_theory.proofs.ClassesOfLists.{power-class, value-class}
@@ -59,13 +59,14 @@ module _ {A : Type 0} (R : RingOf A) (E : IsEquality R.same) (G : IsGroup R.same
       ≡ class E (Values.value R.zero R.sum R.product R.one (power R.one R.product w j) (column_of R.zero (matrix_of n c xs) k))
   value-of_column k j xs = ap (λ x. OverRing.value C x (column k xs)) (power-class E G P L w j) ∙ value-class E G P L (power R.one R.product w j) (column_of R.zero (matrix_of n c xs) k)
 
-  column-reversed : (k : ℕ) (xs ys : List A) → k < c → length xs ≡ n * c → length ys ≡ n * c → AreRowsReversed R.zero lg (matrix_of n c xs) (matrix_of n c ys) → column k ys ≡ bit_reversed_order lg (column k xs)
+  column-reversed : (k : ℕ) (xs ys : List A) → k < c → length xs ≡ n * c → length ys ≡ n * c
+      → AreRowsReversed R.zero lg (matrix_of n c xs) (matrix_of n c ys) → column k ys ≡ bit_reversed_order lg (column k xs)
   column-reversed k xs ys l a b h =
       ext_get_or C.zero (column k ys) (bit_reversed_order lg (column k xs)) (count k ys ∙ sym (length-bit_reversed_order lg (column k xs) (count k xs)))
       (λ i m.
-        let within : i < n = omega (arith, m, count k ys) in
-        at-place R E G P L n c k i ys l b ∙ ap (class E) (h i k within l) ∙ sym (at-place R E G P L n c k (bit_reversed lg i) xs l a)
-        ∙ sym (get_or-bit_reversed_order C.zero lg (column k xs) i (count k xs) within))
+      let within : i < n = omega (arith, m, count k ys) in
+      at-place R E G P L n c k i ys l b ∙ ap (class E) (h i k within l) ∙ sym (at-place R E G P L n c k (bit_reversed lg i) xs l a)
+      ∙ sym (get_or-bit_reversed_order C.zero lg (column k xs) i (count k xs) within))
 
   -- rows in bit-reversed order, transformed, are the values
   pub values-forward : (cells mid new : List A) → length cells ≡ n * c → length mid ≡ n * c → length new ≡ n * c
@@ -100,9 +101,9 @@ module _ {A : Type 0} (R : RingOf A) (E : IsEquality R.same) (G : IsGroup R.same
       ext_get_or C.zero (column k new) (OverRing.polynomial_multiple C (column k turned) (class E f))
       (count k new ∙ sym (length-map (column k turned) (λ y. C.product y (class E f)) ∙ count k turned))
       (λ i q.
-        let place : i * c + k < length turned = let z = mul-add-lt i c k n (let r : i < n = omega (arith, q, count k new) in r) m in omega (arith, z, d) in
-        at-place R E G P L n c k i new m e ∙ class_same E _ _ (scaled (i * c + k) place)
-        ∙ ap (λ y. C.product y (class E f)) (sym (at-place R E G P L n c k i turned m d)) ∙ sym (coefficient-multiple C (column k turned) (class E f) i)) in
+      let place : i * c + k < length turned = let z = mul-add-lt i c k n (let r : i < n = omega (arith, q, count k new) in r) m in omega (arith, z, d) in
+      at-place R E G P L n c k i new m e ∙ class_same E _ _ (scaled (i * c + k) place)
+      ∙ ap (λ y. C.product y (class E f)) (sym (at-place R E G P L n c k i turned m d)) ∙ sym (coefficient-multiple C (column k turned) (class E f) i)) in
       let turned_value : OverRing.value C x (column k turned) ≡ C.product (get_or (column k cells) j C.zero) t =
       sym (value-at (column k turned) j l)
       ∙ ap (λ y. get_or y j C.zero)
@@ -110,8 +111,8 @@ module _ {A : Type 0} (R : RingOf A) (E : IsEquality R.same) (G : IsGroup R.same
       ∙ coefficient-multiple C (column k cells) t j in
       same_class E _ _
       (sym
-        (sym (value-of_column k j new) ∙ ap (OverRing.value C x) new_is ∙ value-multiple C x (column k turned) (class E f)
-        ∙ ap (λ y. C.product y (class E f)) turned_value ∙ C.product_assoc (get_or (column k cells) j C.zero) t (class E f)
-        ∙ ap (C.product (get_or (column k cells) j C.zero)) (C.product_comm t (class E f) ∙ inverse_is)
-        ∙ C.product_comm (get_or (column k cells) j C.zero) C.one ∙ C.product_one (get_or (column k cells) j C.zero)
-        ∙ at-place R E G P L n c k j cells m a))
+      (sym (value-of_column k j new) ∙ ap (OverRing.value C x) new_is ∙ value-multiple C x (column k turned) (class E f)
+      ∙ ap (λ y. C.product y (class E f)) turned_value ∙ C.product_assoc (get_or (column k cells) j C.zero) t (class E f)
+      ∙ ap (C.product (get_or (column k cells) j C.zero)) (C.product_comm t (class E f) ∙ inverse_is)
+      ∙ C.product_comm (get_or (column k cells) j C.zero) C.one ∙ C.product_one (get_or (column k cells) j C.zero)
+      ∙ at-place R E G P L n c k j cells m a))

@@ -1,6 +1,10 @@
 -- One level of a transform: the sizes of its halves, what it counts, its powers, and its cells.
-use Rattle.std.proofs.Common.{◌≡◌, ◌≢◌, ◌∙◌, ℕ, zero, suc, ◌+◌, ◌-◌, ◌*◌, ◌/◌, ◌^◌, ◌<◌, ◌≤◌, true, false, List, ◌++◌, length, take, drop, get_or, refl, sym, ap, subst, length-drop, arith}
+use Rattle.std.proofs.Common.{◌≡◌, ◌≢◌, ◌∙◌, ℕ, suc, ◌+◌, ◌-◌, ◌*◌, ◌/◌, ◌^◌, ◌<◌, ◌≤◌, true, false, List, ◌++◌, length, take, drop, get_or, sym, ap, subst, inl, inr, w64, arith}
+use Rattle.std.specs.Int.{trailing_zeros, bit_at}
 use Rattle.std.proofs.Math.Pow.{pow_mono}
+use Rattle.std.proofs.lemmas.Bool.{cases_lt}
+use Rattle.std.proofs.lemmas.Nat.{pow_pos}
+use Rattle.std.proofs.lemmas.Nat.Bits.{bit_at-trailing_zeros, bit_at-pow_other}
 use Rattle.std.proofs.lemmas.List.{length-take-le, get_or-take, get_or-drop}
 use Rattle.math_theory.specs.Laws.{IsEquality, IsGroup, IsProduct, IsRing}
 use Rattle.math_theory.specs.Powers.{power}
@@ -10,6 +14,20 @@ use Rattle.math_ntt.specs.CombinedCells.{AreCombined, AreTransformed, AreTransfo
 use Rattle.math_ntt.specs.CountedWork.{WorkOf, AddsAtMost}
 use Rattle.math_ntt.specs.DomainValues.{matrix_of, ArePowersByLevel}
 use Rattle.math_ntt.proofs.TransformedHalves.{transformed-halves, transformed_back-halves}
+
+-- the lowest bit of a power of two that is set
+pub lg-of_power : (k n : ℕ) → n ≡ 2 ^ k → n < 2 ^ 64 → trailing_zeros w64 n ≡ k
+lg-of_power k n e l =
+    let found = bit_at-trailing_zeros w64 n (rw e (pow_pos k)) l in
+    let one : bit_at (2 ^ k) (trailing_zeros w64 n) ≡ 1 = ap (λ m. bit_at m (trailing_zeros w64 n)) (sym e) ∙ found.1 in
+    elim (cases_lt (trailing_zeros w64 n) k) [
+      | inl below ↦ absurd (omega (arith, one, bit_at-pow_other k (trailing_zeros w64 n) (omega (arith, below))))
+      | inr above ↦
+          elim (cases_lt k (trailing_zeros w64 n)) [
+            | inl over ↦ absurd (omega (arith, one, bit_at-pow_other k (trailing_zeros w64 n) (omega (arith, over))))
+            | inr at ↦ omega (arith, above, at)
+          ]
+    ]
 
 -- the cells of both halves are all cells, and their butterflies and those of the level are all
 pub record Halved (lg c : ℕ) : Type 0 where

@@ -13,6 +13,7 @@ pub mod WrittenRows
 pub mod MissingPlaces
 pub mod RootProductCounts
 pub mod PowersOfTwo
+pub mod Members
 pub mod CombinedPairs
 pub mod TransformClasses
 pub mod ColumnHalves
@@ -26,3 +27,5 @@ pub mod DomainTransforms
 pub mod ScaledCells
 pub mod PowerTables
 pub mod RecoveryCounts
+pub mod OnDomain
+pub mod OneColumn

@@ -1,5 +1,5 @@
 -- Tables of powers of roots, a level more at a time.
-use Rattle.std.proofs.Common.{◌≡◌, ◌≢◌, ◌∙◌, inl, inr, ℕ, zero, suc, ◌+◌, ◌-◌, ◌*◌, ◌/◌, ◌%◌, ◌^◌, ◌<◌, ◌≤◌, ◌⊎◌, List, [], ◌∷◌, ◌++◌, length, get_or, refl, sym, ap, ap₂, subst, length-append, add-one, arith}
+use Rattle.std.proofs.Common.{◌≡◌, ◌∙◌, inl, inr, ℕ, zero, suc, ◌+◌, ◌-◌, ◌/◌, ◌%◌, ◌^◌, ◌<◌, ◌≤◌, List, [], ◌∷◌, ◌++◌, length, get_or, refl, sym, ap, ap₂, subst, length-append, add-one, arith}
 use Rattle.std.proofs.Math.Pow.{pow_mono}
 use Rattle.std.proofs.lemmas.Bool.{cases_lt}
 use Rattle.std.proofs.lemmas.List.{get_or_default, get_or_append_left, get_or-append-add}
@@ -30,24 +30,25 @@ module _ {A : Type 0} (same : A → A → Type 0) (zero_of : A) (product : A →
         count = length-append now pair ∙ omega (arith, h.count);
         kept = λ p m. kept_now p (omega (arith, h.count)) ∙ h.kept p m;
         even_same = λ i m. elim (cases_lt i n) [
-            | inl below ↦ rw (kept_now (length old + (i + i)) (omega (arith, h.count, below))) (h.even_same i below)
-            | inr above ↦
-                let e : n ≡ i = omega (arith, m, above) in
-                let place : length old + (n + n) ≡ length now + 0 = omega (arith, h.count) in
-                subst (λ i. same (get_or (now ++ pair) (length old + (i + i)) zero_of) (get_or old (first + i) zero_of)) e
-                (rw (place, get_or-append-add now pair 0 zero_of, ← at) a.even_same)
-          ];
+          | inl below ↦ rw (kept_now (length old + (i + i)) (omega (arith, h.count, below))) (h.even_same i below)
+          | inr above ↦
+              let e : n ≡ i = omega (arith, m, above) in
+              let place : length old + (n + n) ≡ length now + 0 = omega (arith, h.count) in
+              subst (λ i. same (get_or (now ++ pair) (length old + (i + i)) zero_of) (get_or old (first + i) zero_of)) e
+              (rw (place, get_or-append-add now pair 0 zero_of, ← at) a.even_same)
+        ];
         odd_same = λ i m. elim (cases_lt i n) [
-            | inl below ↦ rw (kept_now (length old + (i + i + 1)) (omega (arith, h.count, below))) (h.odd_same i below)
-            | inr above ↦
-                let e : n ≡ i = omega (arith, m, above) in
-                let place : length old + (n + n + 1) ≡ length now + 1 = omega (arith, h.count) in
-                subst (λ i. same (get_or (now ++ pair) (length old + (i + i + 1)) zero_of) (product (get_or old (first + i) zero_of) root)) e
-                (rw (place, get_or-append-add now pair 1 zero_of, ← at) a.odd_same)
-          ];
+          | inl below ↦ rw (kept_now (length old + (i + i + 1)) (omega (arith, h.count, below))) (h.odd_same i below)
+          | inr above ↦
+              let e : n ≡ i = omega (arith, m, above) in
+              let place : length old + (n + n + 1) ≡ length now + 1 = omega (arith, h.count) in
+              subst (λ i. same (get_or (now ++ pair) (length old + (i + i + 1)) zero_of) (product (get_or old (first + i) zero_of) root)) e
+              (rw (place, get_or-append-add now pair 1 zero_of, ← at) a.odd_same)
+        ];
       }
 
-module _ {A : Type 0} (R : RingOf A) (E : IsEquality R.same) (G : IsGroup R.same R.zero R.sum R.negative) (P : IsProduct R.same R.product) (L : IsRing R.same R.sum R.product R.one) (root : ℕ → A) where
+module _ {A : Type 0} (R : RingOf A) (E : IsEquality R.same) (G : IsGroup R.same R.zero R.sum R.negative) (P : IsProduct R.same R.product) (L : IsRing R.same R.sum R.product R.one)
+    (root : ℕ → A) where
   abbrev C : CommutativeRing (Class E)
   C = ring_of_classes E G P L
 
@@ -76,13 +77,13 @@ module _ {A : Type 0} (R : RingOf A) (E : IsEquality R.same) (G : IsGroup R.same
   powers-more l r old new root_is square h a = record {
     count = a.count ∙ omega (arith, h.count, power_of_two-suc l, power_of_two-suc (suc l));
     powers = λ m i within below. elim (cases_lt m (suc l)) [
-        | inl older ↦
-            let up : 2 ^ suc m ≤ 2 ^ suc l = pow_mono (let q : suc m ≤ suc l = omega (arith, older) in q) in
-            rw (a.kept (2 ^ m + i) (omega (arith, h.count, up, power_of_two-suc m, below))) (h.powers m i older below)
-        | inr newest ↦
-            let e : suc l ≡ m = omega (arith, within, newest) in
-            subst (λ m. R.same (get_or new (2 ^ m + i) R.zero) (power R.one R.product (root (suc m)) i)) e (level i (subst (λ m. i < 2 ^ m) (sym e) below))
-      ];
+      | inl older ↦
+          let up : 2 ^ suc m ≤ 2 ^ suc l = pow_mono (let q : suc m ≤ suc l = omega (arith, older) in q) in
+          rw (a.kept (2 ^ m + i) (omega (arith, h.count, up, power_of_two-suc m, below))) (h.powers m i older below)
+      | inr newest ↦
+          let e : suc l ≡ m = omega (arith, within, newest) in
+          subst (λ m. R.same (get_or new (2 ^ m + i) R.zero) (power R.one R.product (root (suc m)) i)) e (level i (subst (λ m. i < 2 ^ m) (sym e) below))
+    ];
   }
     where
       w : A

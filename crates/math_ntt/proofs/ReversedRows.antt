@@ -1,12 +1,12 @@
 -- Rows put in bit-reversed order, each pair exchanged once.
-use Rattle.std.proofs.Common.{◌≡◌, ◌≢◌, ◌∙◌, inl, inr, ℕ, zero, suc, ◌+◌, ◌-◌, ◌*◌, ◌/◌, ◌%◌, ◌^◌, ◌<◌, ◌≤◌, List, length, get_or, refl, sym, ap, subst, pow-suc, pow-add, mul_comm, w64, arith}
+use Rattle.std.proofs.Common.{◌≡◌, ◌≢◌, ◌∙◌, inl, inr, ℕ, zero, suc, ◌+◌, ◌-◌, ◌*◌, ◌/◌, ◌%◌, ◌^◌, ◌<◌, ◌≤◌, List, get_or, refl, sym, ap, subst, pow-suc, pow-add, mul_comm, w64, arith}
 use Rattle.std.specs.Int.{reverse_bits, reverse_bits_onto}
 use Rattle.std.proofs.Math.Nat.{mul-div_cancel_left}
 use Rattle.std.proofs.lemmas.Bool.{cases_lt}
 use Rattle.std.proofs.lemmas.Nat.{pow_pos, div-mul-add}
 use Rattle.math_theory.specs.Bits.{bits-zero, number}
-use Rattle.math_theory.specs.BitReversal.{bit_reversed, bit_reversed_order}
-use Rattle.math_theory.proofs.BitOrder.{bit_reversed-suc, bit_reversed-below, bit_reversed-twice}
+use Rattle.math_theory.specs.BitReversal.{bit_reversed}
+use Rattle.math_theory.proofs.BitOrder.{bit_reversed-suc, bit_reversed-below}
 use Rattle.std.proofs.Common.{reverse}
 
 -- the bits of a word in the opposite order, one after the other
@@ -31,7 +31,8 @@ reversed-more (suc lg) m i h =
     let n : suc lg + m ≡ suc (lg + m) = omega arith in
     let half : i / 2 < 2 ^ lg = omega (arith, pow-suc 2 lg) in
     let p : 2 ^ (lg + m) ≡ 2 ^ m * 2 ^ lg = pow-add 2 lg m ∙ mul_comm (2 ^ lg) (2 ^ m) in
-    ap (λ t. bit_reversed t i) n ∙ bit_reversed-suc (lg + m) i ∙ omega (arith, reversed-more lg m (i / 2) half, bit_reversed-suc lg i, ap (λ t. (i % 2) * t) p, ap (λ t. 2 ^ m * t) (bit_reversed-suc lg i))
+    ap (λ t. bit_reversed t i) n ∙ bit_reversed-suc (lg + m) i
+    ∙ omega (arith, reversed-more lg m (i / 2) half, bit_reversed-suc lg i, ap (λ t. (i % 2) * t) p, ap (λ t. 2 ^ m * t) (bit_reversed-suc lg i))
 
 pub reversed-shifted : (lg i : ℕ) → lg ≤ 64 → i < 2 ^ lg → reverse_bits w64 i / 2 ^ (64 - lg) ≡ bit_reversed lg i
 reversed-shifted lg i h l =
@@ -130,18 +131,18 @@ module _ {A : Type 0} (d : A) (c i j : ℕ) (old : List A) where
       → ((p : ℕ) → p ≢ i * c + n → p ≢ j * c + n → get_or new p d ≡ get_or now p d) → AreExchangedBelow d c i j old new (n + 1)
   exchanged-more n now new apart within h at_first at_second others = record {
     first = λ k l. elim (cases_lt k n) [
-        | inl below ↦ others (i * c + k) (λ e. absurd (omega (arith, e, below))) (places-apart i j c k n (omega (arith, below, within)) within apart) ∙ h.first k below
-        | inr above ↦
-            let e : n ≡ k = omega (arith, l, above) in
-            subst (λ k. get_or new (i * c + k) d ≡ get_or old (j * c + k) d) e
-            (at_first ∙ h.kept (j * c + n) (λ q b. places-apart j i c n q within (omega (arith, b, within)) (λ f. apart (sym f))) (λ q b f. absurd (omega (arith, f, b))))
-      ];
+      | inl below ↦ others (i * c + k) (λ e. absurd (omega (arith, e, below))) (places-apart i j c k n (omega (arith, below, within)) within apart) ∙ h.first k below
+      | inr above ↦
+          let e : n ≡ k = omega (arith, l, above) in
+          subst (λ k. get_or new (i * c + k) d ≡ get_or old (j * c + k) d) e
+          (at_first ∙ h.kept (j * c + n) (λ q b. places-apart j i c n q within (omega (arith, b, within)) (λ f. apart (sym f))) (λ q b f. absurd (omega (arith, f, b))))
+    ];
     second = λ k l. elim (cases_lt k n) [
-        | inl below ↦ others (j * c + k) (places-apart j i c k n (omega (arith, below, within)) within (λ f. apart (sym f))) (λ e. absurd (omega (arith, e, below))) ∙ h.second k below
-        | inr above ↦
-            let e : n ≡ k = omega (arith, l, above) in
-            subst (λ k. get_or new (j * c + k) d ≡ get_or old (i * c + k) d) e
-            (at_second ∙ h.kept (i * c + n) (λ q b f. absurd (omega (arith, f, b))) (λ q b. places-apart i j c n q within (omega (arith, b, within)) apart))
-      ];
+      | inl below ↦ others (j * c + k) (places-apart j i c k n (omega (arith, below, within)) within (λ f. apart (sym f))) (λ e. absurd (omega (arith, e, below))) ∙ h.second k below
+      | inr above ↦
+          let e : n ≡ k = omega (arith, l, above) in
+          subst (λ k. get_or new (j * c + k) d ≡ get_or old (i * c + k) d) e
+          (at_second ∙ h.kept (i * c + n) (λ q b f. absurd (omega (arith, f, b))) (λ q b. places-apart i j c n q within (omega (arith, b, within)) apart))
+    ];
     kept = λ p a b. others p (a n (omega arith)) (b n (omega arith)) ∙ h.kept p (λ q m. a q (omega (arith, m))) (λ q m. b q (omega (arith, m)));
   }

@@ -1,12 +1,12 @@
 -- The inverses of roots of unity.
-use Rattle.std.proofs.Common.{◌≡◌, ◌≢◌, ◌∙◌, ℕ, zero, suc, ◌+◌, ◌<◌, ◌≤◌, ◌^◌, Bool, true, false, if◌then◌else◌, [], ◌∷◌, refl, sym, ap, add-one, arith}
+use Rattle.std.proofs.Common.{◌≡◌, ◌≢◌, ◌∙◌, ℕ, zero, suc, ◌+◌, ◌<◌, ◌≤◌, Bool, true, false, if◌then◌else◌, [], ◌∷◌, refl, sym, ap, add-one, arith}
 use Rattle.math_theory.specs.Domains.{HasExactOrder}
 use Rattle.math_theory.specs.Laws.{IsEquality, IsGroup, IsProduct, IsRing, IsField}
 use Rattle.math_theory.specs.OverRing as OverRing
-use Rattle.math_theory.specs.Powers.{power, power-suc}
+use Rattle.math_theory.specs.Powers.{power-suc}
 use Rattle.math_theory.specs.RootLaws.{HasRootsOfUnity}
-use Rattle.math_theory.specs.Rings.{CommutativeRing, Field}
-use Rattle.math_theory.proofs.Classes.{Class, class, class_same, same_class, field_of_classes}
+use Rattle.math_theory.specs.Rings.{Field}
+use Rattle.math_theory.proofs.Classes.{class, class_same, same_class, field_of_classes}
 use Rattle.math_theory.proofs.ClassesOfLists.{power-class}
 use Rattle.math_theory.proofs.Normal.{combine, ◌⊗◌, ◌⊕◌, 𝟙, v0, v1}
 use Rattle.math_theory.proofs.RingLaws.{product-one_right, product-zero}

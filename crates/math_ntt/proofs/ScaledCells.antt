@@ -1,5 +1,5 @@
 -- Cells that are scaled one after the other, and the inverse of a power of two.
-use Rattle.std.proofs.Common.{◌≡◌, ◌∙◌, inl, inr, ℕ, suc, ◌+◌, ◌<◌, ◌≤◌, List, [], ◌∷◌, length, get_or, set, refl, sym, ap, subst, add-one, arith}
+use Rattle.std.proofs.Common.{◌≡◌, ◌∙◌, inl, inr, ℕ, ◌+◌, ◌<◌, ◌≤◌, List, [], ◌∷◌, length, get_or, set, refl, ap, subst, add-one, arith}
 use Rattle.std.proofs.lemmas.Bool.{cases_lt}
 use Rattle.std.proofs.lemmas.List.{get_or_default, get_or-set_same, get_or-set_other}
 use Rattle.math_theory.specs.Laws.{IsEquality, IsGroup, IsProduct, IsRing}
@@ -21,12 +21,12 @@ module _ {A : Type 0} (same : A → A → Type 0) (product : A → A → A) (d f
       → AreScaledBelow same product d factor old (set now n x) (n + 1)
   scaled-more n now x e l s h = record {
     scaled = λ q m. elim (cases_lt q n) [
-        | inl below ↦ rw (get_or-set_other now n q x d (omega (arith, below))) (h.scaled q below)
-        | inr above ↦
-            let at : n ≡ q = omega (arith, m, above) in
-            subst (λ q. same (get_or (set now n x) q d) (product (get_or old q d) factor)) at
-            (rw (get_or-set_same now n x d l, ← h.kept n (omega arith), get_or_default now n d e l) s)
-      ];
+      | inl below ↦ rw (get_or-set_other now n q x d (omega (arith, below))) (h.scaled q below)
+      | inr above ↦
+          let at : n ≡ q = omega (arith, m, above) in
+          subst (λ q. same (get_or (set now n x) q d) (product (get_or old q d) factor)) at
+          (rw (get_or-set_same now n x d l, ← h.kept n (omega arith), get_or_default now n d e l) s)
+    ];
     kept = λ q m. get_or-set_other now n q x d (omega arith) ∙ h.kept q (omega arith);
   }
 

@@ -1,5 +1,6 @@
 -- Values of polynomials at the powers of a root, in the columns of a matrix, and tables of these powers.
 use Rattle.std.specs.Prelude.{◌≡◌, ℕ, suc, ◌+◌, ◌<◌, ◌≤◌, ◌^◌, List, length, slice_index_or}
+use Rattle.math_theory.specs.Coefficients.{HaveSameCoefficients}
 use Rattle.math_theory.specs.Powers.{power}
 use Rattle.math_base.specs.Members.{RingOf}
 use Rattle.math_base.specs.Polynomials.{value_in_ring}
@@ -30,3 +31,15 @@ HasDomain greatest n = (lg : ℕ) → n ≡ 2 ^ lg → lg ≤ greatest
 -- where m has 2^lg rows, v holds the values of its columns at the powers of root lg
 abbrev pub AreValuesOnDomain : {A : Type 0} → RingOf A → (ℕ → A) → MatrixOf A → MatrixOf A → Type 0
 AreValuesOnDomain R root m v = (lg : ℕ) → m.rows ≡ 2 ^ lg → AreValuesAtPowers R (root lg) m v
+
+-- polynomials of 2^lg coefficients with the same values at the powers of root lg have the same coefficients
+abbrev pub HasOnePolynomial : {A : Type 0} → RingOf A → (ℕ → A) → ℕ → Type 0
+HasOnePolynomial {A} R root greatest =
+    (lg : ℕ) (a b values : List A) → lg ≤ greatest → length a ≡ 2 ^ lg → length b ≡ 2 ^ lg
+    → AreValuesOnDomain R root (one_column a) (one_column values) → AreValuesOnDomain R root (one_column b) (one_column values) → HaveSameCoefficients R.same R.zero a b
+
+-- two lists of the values of one polynomial of 2^lg coefficients at the powers of root lg are same, place by place
+abbrev pub HasOneValues : {A : Type 0} → RingOf A → (ℕ → A) → Type 0
+HasOneValues {A} R root =
+    (lg : ℕ) (a v w : List A) → length a ≡ 2 ^ lg → AreValuesOnDomain R root (one_column a) (one_column v) → AreValuesOnDomain R root (one_column a) (one_column w)
+    → (j : ℕ) → j < 2 ^ lg → R.same (slice_index_or v j R.zero) (slice_index_or w j R.zero)

@@ -1,6 +1,5 @@
-use Rattle.std.proofs.Common.{◌≡◌, ◌∙◌, ◌+◌, ◌-◌, ◌*◌, ◌^◌, ◌<◌, ◌≤◌, ℕ, suc, length, ap, sym, rules, arith}
-use Rattle.math_base.specs.Members.{RingOf}
-use Rattle.math_ntt.specs.CountedWork.{AddsAtMost}
+use Rattle.std.proofs.Common.{◌≡◌, ◌+◌, ◌-◌, ◌*◌, ◌^◌, length, ap, rules, arith}
+use Rattle.math_ntt.proofs.Members.{ring_members}
 use Rattle.math_ntt.proofs.Levels.{Halved, halved, adds-part, adds-then, powers-below, transformed-level}
 use Rattle.math_ntt.proofs.ntt.transform.+transform_halves.Goals as goal
 
@@ -8,37 +7,51 @@ pub transform_halves-requires : goal.transform_halves-requires
 transform_halves-requires g t c κs within =
     let h : Halved c.args.lg c.args.cols = halved c.args.lg c.args.cols c.if-lg-eq0.false in
     let hc : c.size_of-half.result * c.args.cols ≡ 2 ^ (c.args.lg - 1) * c.args.cols = ap (λ n. n * c.args.cols) c.size_of-half.ensures in
-    let R : RingOf g.row.F.Denot = record {
-      product = g.F.Multiplicative.product;
-      debug_output = g.F.Debug.debug_output;
-      same = g.F.Object.same;
-      NEVER_REFUSES = g.F.Object.NEVER_REFUSES;
-      zero = g.F.Additive.zero;
-      sum = g.F.Additive.sum;
-      negative = g.F.Additive.negative;
-      one = g.F.Ring.one;
-    } in
-    (omega arith, (search rules, (omega arith, (omega arith, (omega (arith, c.split_at_mut-low.ensures.front_len, h.cells), (
-      powers-below R g.F.FieldNTT.root c.args.lg c.size_of-half.result c.args.table.now c.if-lg-eq0.false c.size_of-half.ensures c.requires.table c.split_at.result.0.now c.split_at.ensures.front,
-      omega (arith, h.count, c.requires.room)))))))
+    let R = ring_members g.F.Multiplicative.product g.F.Debug.debug_output g.F.Object.same g.F.Object.NEVER_REFUSES g.F.Additive.zero g.F.Additive.sum g.F.Additive.negative g.F.Ring.one in (
+      omega arith,
+      (
+        search rules,
+        (
+          omega arith,
+          (
+            omega arith,
+            (
+              omega (arith, c.split_at_mut-low.ensures.front_len, h.cells),
+              (
+                powers-below R g.F.FieldNTT.root c.args.lg c.size_of-half.result c.args.table.now
+                    c.if-lg-eq0.false c.size_of-half.ensures c.requires.table c.split_at.result.0.now c.split_at.ensures.front,
+                omega (arith, h.count, c.requires.room),
+              ),
+            ),
+          ),
+        ),
+      ),
+    )
 
 pub transform_halves-requires-2 : goal.transform_halves-requires-2
 transform_halves-requires-2 g t c κs within =
     let h : Halved c.args.lg c.args.cols = halved c.args.lg c.args.cols c.if-lg-eq0.false in
     let hc : c.size_of-half.result * c.args.cols ≡ 2 ^ (c.args.lg - 1) * c.args.cols = ap (λ n. n * c.args.cols) c.size_of-half.ensures in
-    let R : RingOf g.row.F.Denot = record {
-      product = g.F.Multiplicative.product;
-      debug_output = g.F.Debug.debug_output;
-      same = g.F.Object.same;
-      NEVER_REFUSES = g.F.Object.NEVER_REFUSES;
-      zero = g.F.Additive.zero;
-      sum = g.F.Additive.sum;
-      negative = g.F.Additive.negative;
-      one = g.F.Ring.one;
-    } in
-    (omega arith, (search rules, (omega arith, (omega arith, (omega (arith, c.split_at_mut-low.ensures.back_len, c.requires.size, h.cells), (
-      powers-below R g.F.FieldNTT.root c.args.lg c.size_of-half.result c.args.table.now c.if-lg-eq0.false c.size_of-half.ensures c.requires.table c.split_at.result.0.now c.split_at.ensures.front,
-      omega (arith, h.count, c.requires.room, c.in_ok-transform_halves.ensures.counted)))))))
+    let R = ring_members g.F.Multiplicative.product g.F.Debug.debug_output g.F.Object.same g.F.Object.NEVER_REFUSES g.F.Additive.zero g.F.Additive.sum g.F.Additive.negative g.F.Ring.one in (
+      omega arith,
+      (
+        search rules,
+        (
+          omega arith,
+          (
+            omega arith,
+            (
+              omega (arith, c.split_at_mut-low.ensures.back_len, c.requires.size, h.cells),
+              (
+                powers-below R g.F.FieldNTT.root c.args.lg c.size_of-half.result c.args.table.now
+                    c.if-lg-eq0.false c.size_of-half.ensures c.requires.table c.split_at.result.0.now c.split_at.ensures.front,
+                omega (arith, h.count, c.requires.room, c.in_ok-transform_halves.ensures.counted),
+              ),
+            ),
+          ),
+        ),
+      ),
+    )
 
 pub combine_halves-requires-clause-low : goal.combine_halves-requires-clause-low
 combine_halves-requires-clause-low g t c =
@@ -71,14 +84,17 @@ returns-in_err-transform_halves-clause-bounded g t c =
 pub returns-in_err-transform_halves-2-clause-bounded : goal.returns-in_err-transform_halves-2-clause-bounded
 returns-in_err-transform_halves-2-clause-bounded g t c =
     let h : Halved c.args.lg c.args.cols = halved c.args.lg c.args.cols c.if-lg-eq0.false in
-    adds-part (c.args.cols * 2 ^ (c.args.lg - 1) * (c.args.lg - 1) + c.args.cols * 2 ^ (c.args.lg - 1) * (c.args.lg - 1)) _ _ _ (omega (arith, h.count)) (adds-then _ _ _ _ _ c.in_ok-transform_halves.ensures.bounded c.in_err-transform_halves-2.ensures.bounded)
+    adds-part (c.args.cols * 2 ^ (c.args.lg - 1) * (c.args.lg - 1) + c.args.cols * 2 ^ (c.args.lg - 1) * (c.args.lg - 1)) _ _ _
+    (omega (arith, h.count))
+    (adds-then _ _ _ _ _ c.in_ok-transform_halves.ensures.bounded c.in_err-transform_halves-2.ensures.bounded)
 
 pub returns-in_err-combine_halves-clause-bounded : goal.returns-in_err-combine_halves-clause-bounded
 returns-in_err-combine_halves-clause-bounded g t c =
     let h : Halved c.args.lg c.args.cols = halved c.args.lg c.args.cols c.if-lg-eq0.false in
     let lp : length c.split_at.result.1.now ≡ 2 ^ (c.args.lg - 1) = omega (arith, c.split_at.ensures.back_len, c.requires.table.count, h.powers, c.size_of-half.ensures) in
     let lpc : length c.split_at.result.1.now * c.args.cols ≡ 2 ^ (c.args.lg - 1) * c.args.cols = ap (λ n. n * c.args.cols) lp in
-    adds-part (c.args.cols * 2 ^ (c.args.lg - 1) * (c.args.lg - 1) + c.args.cols * 2 ^ (c.args.lg - 1) * (c.args.lg - 1) + 2 * (length c.split_at.result.1.now * c.args.cols)) _ _ _ (omega (arith, h.count))
+    adds-part (c.args.cols * 2 ^ (c.args.lg - 1) * (c.args.lg - 1) + c.args.cols * 2 ^ (c.args.lg - 1) * (c.args.lg - 1) + 2 * (length c.split_at.result.1.now * c.args.cols)) _ _ _
+    (omega (arith, h.count))
     (adds-then _ _ _ _ _ (adds-then _ _ _ _ _ c.in_ok-transform_halves.ensures.bounded c.in_ok-transform_halves-2.ensures.bounded) c.in_err-combine_halves.ensures.bounded)
 
 pub returns-clause-counted : goal.returns-clause-counted
@@ -93,23 +109,15 @@ returns-clause-bounded g t c =
     let h : Halved c.args.lg c.args.cols = halved c.args.lg c.args.cols c.if-lg-eq0.false in
     let lp : length c.split_at.result.1.now ≡ 2 ^ (c.args.lg - 1) = omega (arith, c.split_at.ensures.back_len, c.requires.table.count, h.powers, c.size_of-half.ensures) in
     let lpc : length c.split_at.result.1.now * c.args.cols ≡ 2 ^ (c.args.lg - 1) * c.args.cols = ap (λ n. n * c.args.cols) lp in
-    adds-part (c.args.cols * 2 ^ (c.args.lg - 1) * (c.args.lg - 1) + c.args.cols * 2 ^ (c.args.lg - 1) * (c.args.lg - 1) + 2 * (length c.split_at.result.1.now * c.args.cols)) _ _ _ (omega (arith, h.count))
+    adds-part (c.args.cols * 2 ^ (c.args.lg - 1) * (c.args.lg - 1) + c.args.cols * 2 ^ (c.args.lg - 1) * (c.args.lg - 1) + 2 * (length c.split_at.result.1.now * c.args.cols)) _ _ _
+    (omega (arith, h.count))
     (adds-then _ _ _ _ _ (adds-then _ _ _ _ _ c.in_ok-transform_halves.ensures.bounded c.in_ok-transform_halves-2.ensures.bounded) c.in_ok-combine_halves.ensures.bounded)
 
 pub returns-clause-values : goal.returns-clause-values
 returns-clause-values g t c =
     let h : Halved c.args.lg c.args.cols = halved c.args.lg c.args.cols c.if-lg-eq0.false in
     let hc : c.size_of-half.result * c.args.cols ≡ 2 ^ (c.args.lg - 1) * c.args.cols = ap (λ n. n * c.args.cols) c.size_of-half.ensures in
-    let R : RingOf g.row.F.Denot = record {
-      product = g.F.Multiplicative.product;
-      debug_output = g.F.Debug.debug_output;
-      same = g.F.Object.same;
-      NEVER_REFUSES = g.F.Object.NEVER_REFUSES;
-      zero = g.F.Additive.zero;
-      sum = g.F.Additive.sum;
-      negative = g.F.Additive.negative;
-      one = g.F.Ring.one;
-    } in
+    let R = ring_members g.F.Multiplicative.product g.F.Debug.debug_output g.F.Object.same g.F.Object.NEVER_REFUSES g.F.Additive.zero g.F.Additive.sum g.F.Additive.negative g.F.Ring.one in
     let F = g.met.F in
     let low : length c.transform_halves.new.cells ≡ 2 ^ (c.args.lg - 1) * c.args.cols = omega (arith, c.in_ok-transform_halves.ensures.size, c.split_at_mut-low.ensures.front_len) in
     let high : length c.transform_halves-2.new.cells ≡ 2 ^ (c.args.lg - 1) * c.args.cols =

@@ -1,6 +1,5 @@
-use Rattle.std.proofs.Common.{◌≡◌, ◌∙◌, ◌+◌, ◌-◌, ◌*◌, ◌^◌, ◌<◌, ◌≤◌, ℕ, suc, length, ap, sym, rules, arith}
-use Rattle.math_base.specs.Members.{RingOf}
-use Rattle.math_ntt.specs.CountedWork.{AddsAtMost}
+use Rattle.std.proofs.Common.{◌≡◌, ◌+◌, ◌-◌, ◌*◌, ◌^◌, ◌≤◌, ℕ, suc, length, ap, rules, arith}
+use Rattle.math_ntt.proofs.Members.{ring_members}
 use Rattle.math_ntt.proofs.Levels.{Halved, halved, adds-part, adds-then, powers-below, transformed_back-level}
 use Rattle.math_ntt.proofs.RootInverses.{inverse_square-same}
 use Rattle.math_ntt.proofs.ntt.transform.+untransform_halves.Goals as goal
@@ -9,41 +8,55 @@ pub untransform_halves-requires : goal.untransform_halves-requires
 untransform_halves-requires g t c κs within =
     let h : Halved c.args.lg c.args.cols = halved c.args.lg c.args.cols c.if-lg-eq0.false in
     let hc : c.size_of-half.result * c.args.cols ≡ 2 ^ (c.args.lg - 1) * c.args.cols = ap (λ n. n * c.args.cols) c.size_of-half.ensures in
-    let R : RingOf g.row.F.Denot = record {
-      product = g.F.Multiplicative.product;
-      debug_output = g.F.Debug.debug_output;
-      same = g.F.Object.same;
-      NEVER_REFUSES = g.F.Object.NEVER_REFUSES;
-      zero = g.F.Additive.zero;
-      sum = g.F.Additive.sum;
-      negative = g.F.Additive.negative;
-      one = g.F.Ring.one;
-    } in
+    let R = ring_members g.F.Multiplicative.product g.F.Debug.debug_output g.F.Object.same g.F.Object.NEVER_REFUSES g.F.Additive.zero g.F.Additive.sum g.F.Additive.negative g.F.Ring.one in
     let lp : length c.split_at.result.1.now ≡ 2 ^ (c.args.lg - 1) = omega (arith, c.split_at.ensures.back_len, c.requires.table.count, h.powers, c.size_of-half.ensures) in
-    let lpc : length c.split_at.result.1.now * c.args.cols ≡ 2 ^ (c.args.lg - 1) * c.args.cols = ap (λ n. n * c.args.cols) lp in
-    (omega arith, (search rules, (omega arith, (omega arith, (omega (arith, c.combine_halves.auto.low, c.split_at_mut-low.ensures.front_len, h.cells), (
-      powers-below R (λ l. g.F.Field.inverse (g.F.FieldNTT.root l)) c.args.lg c.size_of-half.result c.args.table.now c.if-lg-eq0.false c.size_of-half.ensures c.requires.table c.split_at.result.0.now c.split_at.ensures.front,
-      omega (arith, h.count, c.requires.room, c.in_ok-combine_halves.ensures.counted, lpc)))))))
+    let lpc : length c.split_at.result.1.now * c.args.cols ≡ 2 ^ (c.args.lg - 1) * c.args.cols = ap (λ n. n * c.args.cols) lp in (
+      omega arith,
+      (
+        search rules,
+        (
+          omega arith,
+          (
+            omega arith,
+            (
+              omega (arith, c.combine_halves.auto.low, c.split_at_mut-low.ensures.front_len, h.cells),
+              (
+                powers-below R (λ l. g.F.Field.inverse (g.F.FieldNTT.root l)) c.args.lg c.size_of-half.result c.args.table.now
+                    c.if-lg-eq0.false c.size_of-half.ensures c.requires.table c.split_at.result.0.now c.split_at.ensures.front,
+                omega (arith, h.count, c.requires.room, c.in_ok-combine_halves.ensures.counted, lpc),
+              ),
+            ),
+          ),
+        ),
+      ),
+    )
 
 pub untransform_halves-requires-2 : goal.untransform_halves-requires-2
 untransform_halves-requires-2 g t c κs within =
     let h : Halved c.args.lg c.args.cols = halved c.args.lg c.args.cols c.if-lg-eq0.false in
     let hc : c.size_of-half.result * c.args.cols ≡ 2 ^ (c.args.lg - 1) * c.args.cols = ap (λ n. n * c.args.cols) c.size_of-half.ensures in
-    let R : RingOf g.row.F.Denot = record {
-      product = g.F.Multiplicative.product;
-      debug_output = g.F.Debug.debug_output;
-      same = g.F.Object.same;
-      NEVER_REFUSES = g.F.Object.NEVER_REFUSES;
-      zero = g.F.Additive.zero;
-      sum = g.F.Additive.sum;
-      negative = g.F.Additive.negative;
-      one = g.F.Ring.one;
-    } in
+    let R = ring_members g.F.Multiplicative.product g.F.Debug.debug_output g.F.Object.same g.F.Object.NEVER_REFUSES g.F.Additive.zero g.F.Additive.sum g.F.Additive.negative g.F.Ring.one in
     let lp : length c.split_at.result.1.now ≡ 2 ^ (c.args.lg - 1) = omega (arith, c.split_at.ensures.back_len, c.requires.table.count, h.powers, c.size_of-half.ensures) in
-    let lpc : length c.split_at.result.1.now * c.args.cols ≡ 2 ^ (c.args.lg - 1) * c.args.cols = ap (λ n. n * c.args.cols) lp in
-    (omega arith, (search rules, (omega arith, (omega arith, (omega (arith, c.combine_halves.auto.high, c.split_at_mut-low.ensures.back_len, c.requires.size, h.cells), (
-      powers-below R (λ l. g.F.Field.inverse (g.F.FieldNTT.root l)) c.args.lg c.size_of-half.result c.args.table.now c.if-lg-eq0.false c.size_of-half.ensures c.requires.table c.split_at.result.0.now c.split_at.ensures.front,
-      omega (arith, h.count, c.requires.room, c.in_ok-combine_halves.ensures.counted, c.in_ok-untransform_halves.ensures.counted, lpc)))))))
+    let lpc : length c.split_at.result.1.now * c.args.cols ≡ 2 ^ (c.args.lg - 1) * c.args.cols = ap (λ n. n * c.args.cols) lp in (
+      omega arith,
+      (
+        search rules,
+        (
+          omega arith,
+          (
+            omega arith,
+            (
+              omega (arith, c.combine_halves.auto.high, c.split_at_mut-low.ensures.back_len, c.requires.size, h.cells),
+              (
+                powers-below R (λ l. g.F.Field.inverse (g.F.FieldNTT.root l)) c.args.lg c.size_of-half.result c.args.table.now
+                    c.if-lg-eq0.false c.size_of-half.ensures c.requires.table c.split_at.result.0.now c.split_at.ensures.front,
+                omega (arith, h.count, c.requires.room, c.in_ok-combine_halves.ensures.counted, c.in_ok-untransform_halves.ensures.counted, lpc),
+              ),
+            ),
+          ),
+        ),
+      ),
+    )
 
 pub combine_halves-requires-clause-low : goal.combine_halves-requires-clause-low
 combine_halves-requires-clause-low g t c =
@@ -80,7 +93,8 @@ returns-in_err-untransform_halves-clause-bounded g t c =
     let h : Halved c.args.lg c.args.cols = halved c.args.lg c.args.cols c.if-lg-eq0.false in
     let lp : length c.split_at.result.1.now ≡ 2 ^ (c.args.lg - 1) = omega (arith, c.split_at.ensures.back_len, c.requires.table.count, h.powers, c.size_of-half.ensures) in
     let lpc : length c.split_at.result.1.now * c.args.cols ≡ 2 ^ (c.args.lg - 1) * c.args.cols = ap (λ n. n * c.args.cols) lp in
-    adds-part (2 * (length c.split_at.result.1.now * c.args.cols) + c.args.cols * 2 ^ (c.args.lg - 1) * (c.args.lg - 1)) _ _ _ (omega (arith, h.count))
+    adds-part (2 * (length c.split_at.result.1.now * c.args.cols) + c.args.cols * 2 ^ (c.args.lg - 1) * (c.args.lg - 1)) _ _ _
+    (omega (arith, h.count))
     (adds-then _ _ _ _ _ c.in_ok-combine_halves.ensures.bounded c.in_err-untransform_halves.ensures.bounded)
 
 pub returns-in_err-untransform_halves-2-clause-bounded : goal.returns-in_err-untransform_halves-2-clause-bounded
@@ -88,7 +102,8 @@ returns-in_err-untransform_halves-2-clause-bounded g t c =
     let h : Halved c.args.lg c.args.cols = halved c.args.lg c.args.cols c.if-lg-eq0.false in
     let lp : length c.split_at.result.1.now ≡ 2 ^ (c.args.lg - 1) = omega (arith, c.split_at.ensures.back_len, c.requires.table.count, h.powers, c.size_of-half.ensures) in
     let lpc : length c.split_at.result.1.now * c.args.cols ≡ 2 ^ (c.args.lg - 1) * c.args.cols = ap (λ n. n * c.args.cols) lp in
-    adds-part (2 * (length c.split_at.result.1.now * c.args.cols) + c.args.cols * 2 ^ (c.args.lg - 1) * (c.args.lg - 1) + c.args.cols * 2 ^ (c.args.lg - 1) * (c.args.lg - 1)) _ _ _ (omega (arith, h.count))
+    adds-part (2 * (length c.split_at.result.1.now * c.args.cols) + c.args.cols * 2 ^ (c.args.lg - 1) * (c.args.lg - 1) + c.args.cols * 2 ^ (c.args.lg - 1) * (c.args.lg - 1)) _ _ _
+    (omega (arith, h.count))
     (adds-then _ _ _ _ _ (adds-then _ _ _ _ _ c.in_ok-combine_halves.ensures.bounded c.in_ok-untransform_halves.ensures.bounded) c.in_err-untransform_halves-2.ensures.bounded)
 
 pub returns-clause-counted : goal.returns-clause-counted
@@ -103,23 +118,15 @@ returns-clause-bounded g t c =
     let h : Halved c.args.lg c.args.cols = halved c.args.lg c.args.cols c.if-lg-eq0.false in
     let lp : length c.split_at.result.1.now ≡ 2 ^ (c.args.lg - 1) = omega (arith, c.split_at.ensures.back_len, c.requires.table.count, h.powers, c.size_of-half.ensures) in
     let lpc : length c.split_at.result.1.now * c.args.cols ≡ 2 ^ (c.args.lg - 1) * c.args.cols = ap (λ n. n * c.args.cols) lp in
-    adds-part (2 * (length c.split_at.result.1.now * c.args.cols) + c.args.cols * 2 ^ (c.args.lg - 1) * (c.args.lg - 1) + c.args.cols * 2 ^ (c.args.lg - 1) * (c.args.lg - 1)) _ _ _ (omega (arith, h.count))
+    adds-part (2 * (length c.split_at.result.1.now * c.args.cols) + c.args.cols * 2 ^ (c.args.lg - 1) * (c.args.lg - 1) + c.args.cols * 2 ^ (c.args.lg - 1) * (c.args.lg - 1)) _ _ _
+    (omega (arith, h.count))
     (adds-then _ _ _ _ _ (adds-then _ _ _ _ _ c.in_ok-combine_halves.ensures.bounded c.in_ok-untransform_halves.ensures.bounded) c.in_ok-untransform_halves-2.ensures.bounded)
 
 pub returns-clause-values : goal.returns-clause-values
 returns-clause-values g t c =
     let h : Halved c.args.lg c.args.cols = halved c.args.lg c.args.cols c.if-lg-eq0.false in
     let hc : c.size_of-half.result * c.args.cols ≡ 2 ^ (c.args.lg - 1) * c.args.cols = ap (λ n. n * c.args.cols) c.size_of-half.ensures in
-    let R : RingOf g.row.F.Denot = record {
-      product = g.F.Multiplicative.product;
-      debug_output = g.F.Debug.debug_output;
-      same = g.F.Object.same;
-      NEVER_REFUSES = g.F.Object.NEVER_REFUSES;
-      zero = g.F.Additive.zero;
-      sum = g.F.Additive.sum;
-      negative = g.F.Additive.negative;
-      one = g.F.Ring.one;
-    } in
+    let R = ring_members g.F.Multiplicative.product g.F.Debug.debug_output g.F.Object.same g.F.Object.NEVER_REFUSES g.F.Additive.zero g.F.Additive.sum g.F.Additive.negative g.F.Ring.one in
     let F = g.met.F in
     let root : ℕ → g.row.F.Denot = (λ l. g.F.Field.inverse (g.F.FieldNTT.root l)) in
     let low : length c.combine_halves.new.low ≡ 2 ^ (c.args.lg - 1) * c.args.cols = omega (arith, c.combine_halves.auto.low, c.split_at_mut-low.ensures.front_len) in

@@ -1,20 +1,11 @@
-use Rattle.std.proofs.Common.{◌≡◌, ◌∙◌, length, arith}
-use Rattle.math_base.specs.Members.{RingOf}
+use Rattle.std.proofs.Common.{◌∙◌}
+use Rattle.math_ntt.proofs.Members.{ring_members}
 use Rattle.math_ntt.proofs.DomainTransforms.{values-forward}
 use Rattle.math_ntt.proofs.ntt.transform.evaluate_rows.Goals as goal
 
 pub returns-clause-values : goal.returns-clause-values
 returns-clause-values g c =
-    let R : RingOf g.row.F.Denot = record {
-      product = g.F.Multiplicative.product;
-      debug_output = g.F.Debug.debug_output;
-      same = g.F.Object.same;
-      NEVER_REFUSES = g.F.Object.NEVER_REFUSES;
-      zero = g.F.Additive.zero;
-      sum = g.F.Additive.sum;
-      negative = g.F.Additive.negative;
-      one = g.F.Ring.one;
-    } in
+    let R = ring_members g.F.Multiplicative.product g.F.Debug.debug_output g.F.Object.same g.F.Object.NEVER_REFUSES g.F.Additive.zero g.F.Additive.sum g.F.Additive.negative g.F.Ring.one in
     let F = g.met.F in
     values-forward R F.Object.equality F.Additive.group F.Multiplicative.commutes F.Ring.ring g.F.Field.inverse F.Field.field c.args.lg c.args.cols (g.F.FieldNTT.root c.args.lg)
     (F.FieldNTT.roots.order c.args.lg c.requires.domain) c.args.cells.now c.reverse_rows.new.cells c.transform_halves.new.cells

@@ -1,4 +1,4 @@
-use Rattle.std.proofs.Common.{refl, sym, ◌∙◌, arith}
+use Rattle.std.proofs.Common.{refl, ◌∙◌, arith}
 use Rattle.std.proofs.lemmas.List.{get_or_default}
 use Rattle.math_ntt.proofs.CombinedPairs.{combined-none, combined-one, combined-then}
 use Rattle.math_ntt.proofs.ntt.transform.butterflies.combine_column.Goals as goal

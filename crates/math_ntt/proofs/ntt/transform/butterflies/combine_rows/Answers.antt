@@ -1,6 +1,5 @@
-use Rattle.std.proofs.Common.{◌≡◌, ◌+◌, ◌*◌, ◌/◌, ◌<◌, ◌≤◌, ℕ, get_or, length, refl, sym, ◌∙◌, ap, arith}
+use Rattle.std.proofs.Common.{◌≡◌, ◌+◌, ◌*◌, get_or, sym, ◌∙◌, ap, arith}
 use Rattle.std.proofs.lemmas.List.{get_or_default}
-use Rattle.std.proofs.lemmas.Nat.{mul-le}
 use Rattle.math_ntt.proofs.CombinedPairs.{combined-none, combined-then, row-of}
 use Rattle.math_ntt.proofs.ntt.transform.butterflies.combine_rows.Goals as goal
 
@@ -14,7 +13,8 @@ loop-i-preserved g c =
       combined =
           rw next
           (combined-then _ _ _ _ _ _ _ _ _ _ _ _ _ (omega arith) (omega arith)
-          (λ q l m. c.index-powers-i.is ∙ get_or_default c.args.powers.now c.loop-i.i c.index-powers-i.result g.F.Additive.zero (omega arith) ∙ ap (λ j. get_or c.args.powers.now j g.F.Additive.zero) (sym (row-of c.loop-i.i c.args.cols q l m)))
+          (λ q l m. c.index-powers-i.is ∙ get_or_default c.args.powers.now c.loop-i.i c.index-powers-i.result g.F.Additive.zero (omega arith)
+          ∙ ap (λ j. get_or c.args.powers.now j g.F.Additive.zero) (sym (row-of c.loop-i.i c.args.cols q l m)))
           c.loop-i.invariant.combined c.in_ok-combine_row.ensures.combined);
       butterflies = omega (arith, c.in_ok-combine_row.ensures.counted);
       root_products = omega arith;

@@ -1,4 +1,4 @@
-use Rattle.std.proofs.Common.{◌∙◌, ◌-◌, ◌/◌, ◌^◌, ℕ, ap, ap₂, arith}
+use Rattle.std.proofs.Common.{◌∙◌, ◌-◌, ◌/◌, ◌^◌, ℕ, ap₂, arith}
 use Rattle.math_ntt.proofs.ReversedRows.{reversed-shifted}
 use Rattle.math_ntt.proofs.ntt.transform.order.reversed.Goals as goal
 

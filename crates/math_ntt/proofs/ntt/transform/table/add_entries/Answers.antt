@@ -1,6 +1,5 @@
-use Rattle.std.proofs.Common.{◌∙◌, ◌++◌, ◌∷◌, [], List, get_or, sym, ap, append_assoc}
+use Rattle.std.proofs.Common.{◌∙◌, ◌++◌, ◌∷◌, [], List, sym, ap, append_assoc}
 use Rattle.std.proofs.lemmas.List.{get_or_default}
-use Rattle.math_ntt.specs.LevelTables.{AddsEntries}
 use Rattle.math_ntt.proofs.ntt.transform.table.add_entries.Goals as goal
 
 pub returns : goal.returns

@@ -1,4 +1,4 @@
-use Rattle.std.proofs.Common.{◌≡◌, ◌+◌, ◌-◌, ◌<◌, arith}
+use Rattle.std.proofs.Common.{◌≡◌, ◌+◌, ◌-◌, arith}
 use Rattle.math_ntt.proofs.PowerTables.{level-none, level-more}
 use Rattle.math_ntt.proofs.ntt.transform.table.add_level.Goals as goal
 
