@@ -59,7 +59,8 @@ module _ {A : Type 0} (R : RingOf A) (E : IsEquality R.same) (G : IsGroup R.same
       ≡ class E (Values.value R.zero R.sum R.product R.one (power R.one R.product w j) (column_of R.zero (matrix_of n c xs) k))
   value-of_column k j xs = ap (λ x. OverRing.value C x (column k xs)) (power-class E G P L w j) ∙ value-class E G P L (power R.one R.product w j) (column_of R.zero (matrix_of n c xs) k)
 
-  column-reversed : (k : ℕ) (xs ys : List A) → k < c → length xs ≡ n * c → length ys ≡ n * c → AreRowsReversed R.zero lg (matrix_of n c xs) (matrix_of n c ys) → column k ys ≡ bit_reversed_order lg (column k xs)
+  column-reversed : (k : ℕ) (xs ys : List A) → k < c → length xs ≡ n * c → length ys ≡ n * c
+      → AreRowsReversed R.zero lg (matrix_of n c xs) (matrix_of n c ys) → column k ys ≡ bit_reversed_order lg (column k xs)
   column-reversed k xs ys l a b h =
       ext_get_or C.zero (column k ys) (bit_reversed_order lg (column k xs)) (count k ys ∙ sym (length-bit_reversed_order lg (column k xs) (count k xs)))
       (λ i m.

@@ -10,6 +10,10 @@ pub mod FirstRows
 pub mod WrittenCells
 pub mod MatrixPlaces
 pub mod ComparedTruths
+pub mod WrittenRows
+pub mod MissingPlaces
+pub mod RootProductCounts
+pub mod PowersOfTwo
 pub mod Members
 pub mod CombinedPairs
 pub mod TransformClasses
@@ -18,8 +22,11 @@ pub mod TransformedHalves
 pub mod Levels
 pub mod RootInverses
 pub mod ReversedRows
+pub mod DomainSteps
+pub mod SharedInverses
 pub mod DomainTransforms
 pub mod ScaledCells
 pub mod PowerTables
+pub mod RecoveryCounts
 pub mod OnDomain
 pub mod OneColumn

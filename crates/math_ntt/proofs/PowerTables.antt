@@ -47,7 +47,8 @@ module _ {A : Type 0} (same : A → A → Type 0) (zero_of : A) (product : A →
         ];
       }
 
-module _ {A : Type 0} (R : RingOf A) (E : IsEquality R.same) (G : IsGroup R.same R.zero R.sum R.negative) (P : IsProduct R.same R.product) (L : IsRing R.same R.sum R.product R.one) (root : ℕ → A) where
+module _ {A : Type 0} (R : RingOf A) (E : IsEquality R.same) (G : IsGroup R.same R.zero R.sum R.negative) (P : IsProduct R.same R.product) (L : IsRing R.same R.sum R.product R.one)
+    (root : ℕ → A) where
   abbrev C : CommutativeRing (Class E)
   C = ring_of_classes E G P L
 

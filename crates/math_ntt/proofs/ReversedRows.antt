@@ -31,7 +31,8 @@ reversed-more (suc lg) m i h =
     let n : suc lg + m ≡ suc (lg + m) = omega arith in
     let half : i / 2 < 2 ^ lg = omega (arith, pow-suc 2 lg) in
     let p : 2 ^ (lg + m) ≡ 2 ^ m * 2 ^ lg = pow-add 2 lg m ∙ mul_comm (2 ^ lg) (2 ^ m) in
-    ap (λ t. bit_reversed t i) n ∙ bit_reversed-suc (lg + m) i ∙ omega (arith, reversed-more lg m (i / 2) half, bit_reversed-suc lg i, ap (λ t. (i % 2) * t) p, ap (λ t. 2 ^ m * t) (bit_reversed-suc lg i))
+    ap (λ t. bit_reversed t i) n ∙ bit_reversed-suc (lg + m) i
+    ∙ omega (arith, reversed-more lg m (i / 2) half, bit_reversed-suc lg i, ap (λ t. (i % 2) * t) p, ap (λ t. 2 ^ m * t) (bit_reversed-suc lg i))
 
 pub reversed-shifted : (lg i : ℕ) → lg ≤ 64 → i < 2 ^ lg → reverse_bits w64 i / 2 ^ (64 - lg) ≡ bit_reversed lg i
 reversed-shifted lg i h l =

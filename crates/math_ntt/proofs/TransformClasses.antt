@@ -52,7 +52,8 @@ module _ {A : Type 0} {same : A → A → Type 0} {zero_of : A} {sum : A → A �
       let e = transform sum negative product one lg (product w w) (take (2 ^ lg) xs) in
       let o = transform sum negative product one lg (product w w) (drop (2 ^ lg) xs) in
       let d = polynomial_dilation product one product w o in
-      let both = λ (x y : List (Class E)). OverRing.polynomial_sum C x (OverRing.polynomial_dilation C (class E w) y) ++ OverRing.polynomial_difference C x (OverRing.polynomial_dilation C (class E w) y) in
+      let both = λ (x y : List (Class E)).
+      OverRing.polynomial_sum C x (OverRing.polynomial_dilation C (class E w) y) ++ OverRing.polynomial_difference C x (OverRing.polynomial_dilation C (class E w) y) in
       map-append (class E) (polynomial_sum sum e d) (polynomial_difference sum negative e d)
       ∙ ap₂ (λ x y. x ++ y) (sum-class e d) (difference-class e d)
       ∙ ap (λ y. OverRing.polynomial_sum C (map (class E) e) y ++ OverRing.polynomial_difference C (map (class E) e) y) (dilation_from-class w 0 o)

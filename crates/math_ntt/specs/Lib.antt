@@ -9,5 +9,9 @@ pub mod Evaluations
 pub mod MatrixPlaces
 pub mod CountedWork
 pub mod DomainValues
+pub mod RowProducts
+pub mod MissingPoints
+pub mod RecoveryWork
 pub mod CombinedCells
 pub mod LevelTables
+pub mod RecoveredRows

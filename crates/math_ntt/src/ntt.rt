@@ -4,7 +4,11 @@ mod columns;
 mod evaluations;
 mod matrix;
 mod polynomials;
+mod quotients;
+mod recovery;
+mod row_products;
 mod transform;
+mod vanishing;
 mod vanishing_points;
 mod work;
 

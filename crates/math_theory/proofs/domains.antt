@@ -4,3 +4,5 @@ pub mod RootOrders
 pub mod RootProductLists
 pub mod MissingProducts
 pub mod CarriedDomains
+pub mod BuiltVanishing
+pub mod MergedPieces

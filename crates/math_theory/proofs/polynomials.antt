@@ -7,3 +7,4 @@ pub mod WeightedPowers
 pub mod Roots
 pub mod RootProducts
 pub mod CarriedRoots
+pub mod BuiltPolynomials

@@ -88,7 +88,8 @@ pub(super) fn evaluate_rows<F: FieldNTT>(
     requires table { ArePowersByLevel F.Ring F.root lg table.now }
     requires room { 2 * work.old.butterflies + cols * 2 ^ lg * lg < 2 ^ 129 }
     ensures size { length cells.new ≡ length cells.old }
-    ensures values { OnOk result (AreValuesAtPowers F.Ring (F.root lg) (matrix_of (2 ^ lg) cols cells.old) (matrix_of (2 ^ lg) cols cells.new)) }
+    ensures values { OnOk result (AreValuesAtPowers F.Ring (F.root lg)
+        (matrix_of (2 ^ lg) cols cells.old) (matrix_of (2 ^ lg) cols cells.new)) }
     ensures counted { OnOk result (2 * work.new.butterflies ≡ 2 * work.old.butterflies + cols * 2 ^ lg * lg) }
     ensures bounded { AddsAtMost (cols * 2 ^ lg * lg) work.old work.new }
 {
@@ -115,7 +116,8 @@ pub(super) fn interpolate_rows<F: FieldNTT>(
     requires table { ArePowersByLevel F.Ring (λ l. F.inverse (F.root l)) lg table.now }
     requires room { 2 * work.old.butterflies + cols * 2 ^ lg * lg < 2 ^ 129 }
     ensures size { length cells.new ≡ length cells.old }
-    ensures values { OnOk result (AreValuesAtPowers F.Ring (F.root lg) (matrix_of (2 ^ lg) cols cells.new) (matrix_of (2 ^ lg) cols cells.old)) }
+    ensures values { OnOk result (AreValuesAtPowers F.Ring (F.root lg)
+        (matrix_of (2 ^ lg) cols cells.new) (matrix_of (2 ^ lg) cols cells.old)) }
     ensures counted { OnOk result (2 * work.new.butterflies ≡ 2 * work.old.butterflies + cols * 2 ^ lg * lg) }
     ensures bounded { AddsAtMost (cols * 2 ^ lg * lg) work.old work.new }
 {
@@ -143,7 +145,8 @@ fn transform_halves<F: FieldNTT>(
     requires table { ArePowersByLevel F.Ring F.root lg table.now }
     requires room { 2 * work.old.butterflies + cols * 2 ^ lg * lg < 2 ^ 129 }
     ensures size { length cells.new ≡ length cells.old }
-    ensures values { OnOk result (AreTransformed F.Ring lg (F.root lg) (matrix_of (2 ^ lg) cols cells.old) (matrix_of (2 ^ lg) cols cells.new)) }
+    ensures values { OnOk result (AreTransformed F.Ring lg (F.root lg)
+        (matrix_of (2 ^ lg) cols cells.old) (matrix_of (2 ^ lg) cols cells.new)) }
     ensures counted { OnOk result (2 * work.new.butterflies ≡ 2 * work.old.butterflies + cols * 2 ^ lg * lg) }
     ensures bounded { AddsAtMost (cols * 2 ^ lg * lg) work.old work.new }
 {
@@ -174,7 +177,8 @@ fn untransform_halves<F: FieldNTT>(
     requires table { ArePowersByLevel F.Ring (λ l. F.inverse (F.root l)) lg table.now }
     requires room { 2 * work.old.butterflies + cols * 2 ^ lg * lg < 2 ^ 129 }
     ensures size { length cells.new ≡ length cells.old }
-    ensures values { OnOk result (AreTransformedBack F.Ring lg (F.inverse (F.root lg)) (matrix_of (2 ^ lg) cols cells.old) (matrix_of (2 ^ lg) cols cells.new)) }
+    ensures values { OnOk result (AreTransformedBack F.Ring lg (F.inverse (F.root lg))
+        (matrix_of (2 ^ lg) cols cells.old) (matrix_of (2 ^ lg) cols cells.new)) }
     ensures counted { OnOk result (2 * work.new.butterflies ≡ 2 * work.old.butterflies + cols * 2 ^ lg * lg) }
     ensures bounded { AddsAtMost (cols * 2 ^ lg * lg) work.old work.new }
 {

@@ -71,7 +71,8 @@ impl Work {
     /// end.
     pub(super) fn join(&mut self, other: Work)
         requires butterflies { self.old.butterflies < 2 ^ 128 → self.old.butterflies + other.butterflies < 2 ^ 128 }
-        requires root_products { self.old.root_products < 2 ^ 128 → self.old.root_products + other.root_products < 2 ^ 128 }
+        requires root_products { self.old.root_products < 2 ^ 128
+            → self.old.root_products + other.root_products < 2 ^ 128 }
         ensures butterflies { self.new.butterflies ≡ self.old.butterflies + other.butterflies }
         ensures root_products { self.new.root_products ≡ self.old.root_products + other.root_products }
     {

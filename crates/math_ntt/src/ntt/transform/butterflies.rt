@@ -49,7 +49,8 @@ fn combine_row<F: FieldNTT, const FORWARD: bool>(
     requires low { first + cols ≤ length low.old }
     requires high { first + cols ≤ length high.old }
     requires room { work.old.butterflies + cols < 2 ^ 128 }
-    ensures combined { OnOk result (AreCombined F.Ring FORWARD (λ _. w.now) first (first + cols) low.old high.old low.new high.new) }
+    ensures combined { OnOk result (AreCombined F.Ring FORWARD (λ _. w.now) first (first + cols)
+        low.old high.old low.new high.new) }
     ensures counted { OnOk result (work.new.butterflies ≡ work.old.butterflies + cols) }
     ensures bounded { AddsAtMost (2 * cols) work.old work.new }
 {
@@ -71,7 +72,8 @@ fn combine_rows<F: FieldNTT, const FORWARD: bool>(
     requires low { length low.old ≡ length powers.now * cols }
     requires high { length high.old ≡ length powers.now * cols }
     requires room { work.old.butterflies + length powers.now * cols < 2 ^ 128 }
-    ensures combined { OnOk result (AreCombined F.Ring FORWARD (λ p. slice_index_or powers.now (p / cols) F.zero) 0 (length powers.now * cols)
+    ensures combined { OnOk result (AreCombined F.Ring FORWARD
+        (λ p. slice_index_or powers.now (p / cols) F.zero) 0 (length powers.now * cols)
         low.old high.old low.new high.new) }
     ensures counted { OnOk result (work.new.butterflies ≡ work.old.butterflies + length powers.now * cols) }
     ensures bounded { AddsAtMost (2 * (length powers.now * cols)) work.old work.new }
@@ -93,7 +95,8 @@ fn combine_column<F: FieldNTT, const FORWARD: bool>(
     requires low { length low.old ≡ length powers.now }
     requires high { length high.old ≡ length powers.now }
     requires room { work.old.butterflies + length powers.now < 2 ^ 128 }
-    ensures combined { OnOk result (AreCombined F.Ring FORWARD (λ p. slice_index_or powers.now p F.zero) 0 (length powers.now)
+    ensures combined { OnOk result (AreCombined F.Ring FORWARD
+        (λ p. slice_index_or powers.now p F.zero) 0 (length powers.now)
         low.old high.old low.new high.new) }
     ensures counted { OnOk result (work.new.butterflies ≡ work.old.butterflies + length powers.now) }
     ensures bounded { AddsAtMost (2 * length powers.now) work.old work.new }
@@ -117,7 +120,8 @@ pub(super) fn combine_halves<F: FieldNTT, const FORWARD: bool>(
     requires low { length low.old ≡ length powers.now * cols }
     requires high { length high.old ≡ length powers.now * cols }
     requires room { work.old.butterflies + length powers.now * cols < 2 ^ 128 }
-    ensures combined { OnOk result (AreCombined F.Ring FORWARD (λ p. slice_index_or powers.now (p / cols) F.zero) 0 (length powers.now * cols)
+    ensures combined { OnOk result (AreCombined F.Ring FORWARD
+        (λ p. slice_index_or powers.now (p / cols) F.zero) 0 (length powers.now * cols)
         low.old high.old low.new high.new) }
     ensures counted { OnOk result (work.new.butterflies ≡ work.old.butterflies + length powers.now * cols) }
     ensures bounded { AddsAtMost (2 * (length powers.now * cols)) work.old work.new }

@@ -25,8 +25,10 @@ fn swap_rows<F: Additive>(cells: &mut [F], rows: usize, cols: usize, i: usize, j
     requires first { i < rows }
     requires second { j < rows }
     requires apart { i ≢ j }
-    ensures first { (k : ℕ) → k < cols → cell_of F.zero (matrix_of rows cols cells.new) i k ≡ cell_of F.zero (matrix_of rows cols cells.old) j k }
-    ensures second { (k : ℕ) → k < cols → cell_of F.zero (matrix_of rows cols cells.new) j k ≡ cell_of F.zero (matrix_of rows cols cells.old) i k }
+    ensures first { (k : ℕ) → k < cols
+        → cell_of F.zero (matrix_of rows cols cells.new) i k ≡ cell_of F.zero (matrix_of rows cols cells.old) j k }
+    ensures second { (k : ℕ) → k < cols
+        → cell_of F.zero (matrix_of rows cols cells.new) j k ≡ cell_of F.zero (matrix_of rows cols cells.old) i k }
     ensures others { (r k : ℕ) → r ≢ i → r ≢ j → k < cols
         → cell_of F.zero (matrix_of rows cols cells.new) r k ≡ cell_of F.zero (matrix_of rows cols cells.old) r k }
 {

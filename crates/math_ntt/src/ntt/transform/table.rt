@@ -61,7 +61,8 @@ pub(super) fn powers_by_level<F: FieldNTT, const FORWARD: bool>(
 ) -> Mem<Vec<F>>
     requires domain { lg ≤ F.MAX_LG_ROOT_ORDER }
     requires small { lg < 64 }
-    ensures { IfOk result (λ table. ArePowersByLevel F.Ring (λ l. if FORWARD then F.root l else F.inverse (F.root l)) lg table.items) }
+    ensures { IfOk result (λ table. ArePowersByLevel F.Ring
+        (λ l. if FORWARD then F.root l else F.inverse (F.root l)) lg table.items) }
 {
     let mut table = Vec::with_capacity(alloc, size_of(lg))?;
     table.push(F::one(alloc)?)?;

@@ -18,7 +18,8 @@ transform_halves-requires g t c κs within =
             (
               omega (arith, c.split_at_mut-low.ensures.front_len, h.cells),
               (
-                powers-below R g.F.FieldNTT.root c.args.lg c.size_of-half.result c.args.table.now c.if-lg-eq0.false c.size_of-half.ensures c.requires.table c.split_at.result.0.now c.split_at.ensures.front,
+                powers-below R g.F.FieldNTT.root c.args.lg c.size_of-half.result c.args.table.now
+                    c.if-lg-eq0.false c.size_of-half.ensures c.requires.table c.split_at.result.0.now c.split_at.ensures.front,
                 omega (arith, h.count, c.requires.room),
               ),
             ),
@@ -42,7 +43,8 @@ transform_halves-requires-2 g t c κs within =
             (
               omega (arith, c.split_at_mut-low.ensures.back_len, c.requires.size, h.cells),
               (
-                powers-below R g.F.FieldNTT.root c.args.lg c.size_of-half.result c.args.table.now c.if-lg-eq0.false c.size_of-half.ensures c.requires.table c.split_at.result.0.now c.split_at.ensures.front,
+                powers-below R g.F.FieldNTT.root c.args.lg c.size_of-half.result c.args.table.now
+                    c.if-lg-eq0.false c.size_of-half.ensures c.requires.table c.split_at.result.0.now c.split_at.ensures.front,
                 omega (arith, h.count, c.requires.room, c.in_ok-transform_halves.ensures.counted),
               ),
             ),
@@ -82,14 +84,17 @@ returns-in_err-transform_halves-clause-bounded g t c =
 pub returns-in_err-transform_halves-2-clause-bounded : goal.returns-in_err-transform_halves-2-clause-bounded
 returns-in_err-transform_halves-2-clause-bounded g t c =
     let h : Halved c.args.lg c.args.cols = halved c.args.lg c.args.cols c.if-lg-eq0.false in
-    adds-part (c.args.cols * 2 ^ (c.args.lg - 1) * (c.args.lg - 1) + c.args.cols * 2 ^ (c.args.lg - 1) * (c.args.lg - 1)) _ _ _ (omega (arith, h.count)) (adds-then _ _ _ _ _ c.in_ok-transform_halves.ensures.bounded c.in_err-transform_halves-2.ensures.bounded)
+    adds-part (c.args.cols * 2 ^ (c.args.lg - 1) * (c.args.lg - 1) + c.args.cols * 2 ^ (c.args.lg - 1) * (c.args.lg - 1)) _ _ _
+    (omega (arith, h.count))
+    (adds-then _ _ _ _ _ c.in_ok-transform_halves.ensures.bounded c.in_err-transform_halves-2.ensures.bounded)
 
 pub returns-in_err-combine_halves-clause-bounded : goal.returns-in_err-combine_halves-clause-bounded
 returns-in_err-combine_halves-clause-bounded g t c =
     let h : Halved c.args.lg c.args.cols = halved c.args.lg c.args.cols c.if-lg-eq0.false in
     let lp : length c.split_at.result.1.now ≡ 2 ^ (c.args.lg - 1) = omega (arith, c.split_at.ensures.back_len, c.requires.table.count, h.powers, c.size_of-half.ensures) in
     let lpc : length c.split_at.result.1.now * c.args.cols ≡ 2 ^ (c.args.lg - 1) * c.args.cols = ap (λ n. n * c.args.cols) lp in
-    adds-part (c.args.cols * 2 ^ (c.args.lg - 1) * (c.args.lg - 1) + c.args.cols * 2 ^ (c.args.lg - 1) * (c.args.lg - 1) + 2 * (length c.split_at.result.1.now * c.args.cols)) _ _ _ (omega (arith, h.count))
+    adds-part (c.args.cols * 2 ^ (c.args.lg - 1) * (c.args.lg - 1) + c.args.cols * 2 ^ (c.args.lg - 1) * (c.args.lg - 1) + 2 * (length c.split_at.result.1.now * c.args.cols)) _ _ _
+    (omega (arith, h.count))
     (adds-then _ _ _ _ _ (adds-then _ _ _ _ _ c.in_ok-transform_halves.ensures.bounded c.in_ok-transform_halves-2.ensures.bounded) c.in_err-combine_halves.ensures.bounded)
 
 pub returns-clause-counted : goal.returns-clause-counted
@@ -104,7 +109,8 @@ returns-clause-bounded g t c =
     let h : Halved c.args.lg c.args.cols = halved c.args.lg c.args.cols c.if-lg-eq0.false in
     let lp : length c.split_at.result.1.now ≡ 2 ^ (c.args.lg - 1) = omega (arith, c.split_at.ensures.back_len, c.requires.table.count, h.powers, c.size_of-half.ensures) in
     let lpc : length c.split_at.result.1.now * c.args.cols ≡ 2 ^ (c.args.lg - 1) * c.args.cols = ap (λ n. n * c.args.cols) lp in
-    adds-part (c.args.cols * 2 ^ (c.args.lg - 1) * (c.args.lg - 1) + c.args.cols * 2 ^ (c.args.lg - 1) * (c.args.lg - 1) + 2 * (length c.split_at.result.1.now * c.args.cols)) _ _ _ (omega (arith, h.count))
+    adds-part (c.args.cols * 2 ^ (c.args.lg - 1) * (c.args.lg - 1) + c.args.cols * 2 ^ (c.args.lg - 1) * (c.args.lg - 1) + 2 * (length c.split_at.result.1.now * c.args.cols)) _ _ _
+    (omega (arith, h.count))
     (adds-then _ _ _ _ _ (adds-then _ _ _ _ _ c.in_ok-transform_halves.ensures.bounded c.in_ok-transform_halves-2.ensures.bounded) c.in_ok-combine_halves.ensures.bounded)
 
 pub returns-clause-values : goal.returns-clause-values

@@ -21,7 +21,8 @@ untransform_halves-requires g t c κs within =
             (
               omega (arith, c.combine_halves.auto.low, c.split_at_mut-low.ensures.front_len, h.cells),
               (
-                powers-below R (λ l. g.F.Field.inverse (g.F.FieldNTT.root l)) c.args.lg c.size_of-half.result c.args.table.now c.if-lg-eq0.false c.size_of-half.ensures c.requires.table c.split_at.result.0.now c.split_at.ensures.front,
+                powers-below R (λ l. g.F.Field.inverse (g.F.FieldNTT.root l)) c.args.lg c.size_of-half.result c.args.table.now
+                    c.if-lg-eq0.false c.size_of-half.ensures c.requires.table c.split_at.result.0.now c.split_at.ensures.front,
                 omega (arith, h.count, c.requires.room, c.in_ok-combine_halves.ensures.counted, lpc),
               ),
             ),
@@ -47,7 +48,8 @@ untransform_halves-requires-2 g t c κs within =
             (
               omega (arith, c.combine_halves.auto.high, c.split_at_mut-low.ensures.back_len, c.requires.size, h.cells),
               (
-                powers-below R (λ l. g.F.Field.inverse (g.F.FieldNTT.root l)) c.args.lg c.size_of-half.result c.args.table.now c.if-lg-eq0.false c.size_of-half.ensures c.requires.table c.split_at.result.0.now c.split_at.ensures.front,
+                powers-below R (λ l. g.F.Field.inverse (g.F.FieldNTT.root l)) c.args.lg c.size_of-half.result c.args.table.now
+                    c.if-lg-eq0.false c.size_of-half.ensures c.requires.table c.split_at.result.0.now c.split_at.ensures.front,
                 omega (arith, h.count, c.requires.room, c.in_ok-combine_halves.ensures.counted, c.in_ok-untransform_halves.ensures.counted, lpc),
               ),
             ),
@@ -91,7 +93,8 @@ returns-in_err-untransform_halves-clause-bounded g t c =
     let h : Halved c.args.lg c.args.cols = halved c.args.lg c.args.cols c.if-lg-eq0.false in
     let lp : length c.split_at.result.1.now ≡ 2 ^ (c.args.lg - 1) = omega (arith, c.split_at.ensures.back_len, c.requires.table.count, h.powers, c.size_of-half.ensures) in
     let lpc : length c.split_at.result.1.now * c.args.cols ≡ 2 ^ (c.args.lg - 1) * c.args.cols = ap (λ n. n * c.args.cols) lp in
-    adds-part (2 * (length c.split_at.result.1.now * c.args.cols) + c.args.cols * 2 ^ (c.args.lg - 1) * (c.args.lg - 1)) _ _ _ (omega (arith, h.count))
+    adds-part (2 * (length c.split_at.result.1.now * c.args.cols) + c.args.cols * 2 ^ (c.args.lg - 1) * (c.args.lg - 1)) _ _ _
+    (omega (arith, h.count))
     (adds-then _ _ _ _ _ c.in_ok-combine_halves.ensures.bounded c.in_err-untransform_halves.ensures.bounded)
 
 pub returns-in_err-untransform_halves-2-clause-bounded : goal.returns-in_err-untransform_halves-2-clause-bounded
@@ -99,7 +102,8 @@ returns-in_err-untransform_halves-2-clause-bounded g t c =
     let h : Halved c.args.lg c.args.cols = halved c.args.lg c.args.cols c.if-lg-eq0.false in
     let lp : length c.split_at.result.1.now ≡ 2 ^ (c.args.lg - 1) = omega (arith, c.split_at.ensures.back_len, c.requires.table.count, h.powers, c.size_of-half.ensures) in
     let lpc : length c.split_at.result.1.now * c.args.cols ≡ 2 ^ (c.args.lg - 1) * c.args.cols = ap (λ n. n * c.args.cols) lp in
-    adds-part (2 * (length c.split_at.result.1.now * c.args.cols) + c.args.cols * 2 ^ (c.args.lg - 1) * (c.args.lg - 1) + c.args.cols * 2 ^ (c.args.lg - 1) * (c.args.lg - 1)) _ _ _ (omega (arith, h.count))
+    adds-part (2 * (length c.split_at.result.1.now * c.args.cols) + c.args.cols * 2 ^ (c.args.lg - 1) * (c.args.lg - 1) + c.args.cols * 2 ^ (c.args.lg - 1) * (c.args.lg - 1)) _ _ _
+    (omega (arith, h.count))
     (adds-then _ _ _ _ _ (adds-then _ _ _ _ _ c.in_ok-combine_halves.ensures.bounded c.in_ok-untransform_halves.ensures.bounded) c.in_err-untransform_halves-2.ensures.bounded)
 
 pub returns-clause-counted : goal.returns-clause-counted
@@ -114,7 +118,8 @@ returns-clause-bounded g t c =
     let h : Halved c.args.lg c.args.cols = halved c.args.lg c.args.cols c.if-lg-eq0.false in
     let lp : length c.split_at.result.1.now ≡ 2 ^ (c.args.lg - 1) = omega (arith, c.split_at.ensures.back_len, c.requires.table.count, h.powers, c.size_of-half.ensures) in
     let lpc : length c.split_at.result.1.now * c.args.cols ≡ 2 ^ (c.args.lg - 1) * c.args.cols = ap (λ n. n * c.args.cols) lp in
-    adds-part (2 * (length c.split_at.result.1.now * c.args.cols) + c.args.cols * 2 ^ (c.args.lg - 1) * (c.args.lg - 1) + c.args.cols * 2 ^ (c.args.lg - 1) * (c.args.lg - 1)) _ _ _ (omega (arith, h.count))
+    adds-part (2 * (length c.split_at.result.1.now * c.args.cols) + c.args.cols * 2 ^ (c.args.lg - 1) * (c.args.lg - 1) + c.args.cols * 2 ^ (c.args.lg - 1) * (c.args.lg - 1)) _ _ _
+    (omega (arith, h.count))
     (adds-then _ _ _ _ _ (adds-then _ _ _ _ _ c.in_ok-combine_halves.ensures.bounded c.in_ok-untransform_halves.ensures.bounded) c.in_ok-untransform_halves-2.ensures.bounded)
 
 pub returns-clause-values : goal.returns-clause-values

@@ -14,7 +14,8 @@ returns-in_ok-scale-clause-values g c =
     let mid : length c.untransform_halves.new.cells ≡ 2 ^ c.args.lg * c.args.cols = c.untransform_halves.auto.cells ∙ c.requires.size in
     let turned : length c.reverse_rows.new.cells ≡ 2 ^ c.args.lg * c.args.cols = c.reverse_rows.auto.cells ∙ mid in
     values-back R F.Object.equality F.Additive.group F.Multiplicative.commutes F.Ring.ring g.F.Field.inverse F.Field.field c.args.lg c.args.cols (g.F.FieldNTT.root c.args.lg)
-    order (g.F.Field.inverse (g.F.FieldNTT.root c.args.lg)) c.in_ok-factor.factor c.args.cells.now c.untransform_halves.new.cells c.reverse_rows.new.cells c.scale.new.cells unit c.in_ok-factor.ensures
+    order (g.F.Field.inverse (g.F.FieldNTT.root c.args.lg)) c.in_ok-factor.factor
+    c.args.cells.now c.untransform_halves.new.cells c.reverse_rows.new.cells c.scale.new.cells unit c.in_ok-factor.ensures
     c.requires.size mid turned (c.scale.auto.cells ∙ turned)
     c.in_ok-untransform_halves.ensures.values c.reverse_rows.ensures c.in_ok-scale.ensures
 
@@ -27,6 +28,8 @@ returns-else-lg-gt0-clause-values g c =
     let mid : length c.untransform_halves.new.cells ≡ 2 ^ c.args.lg * c.args.cols = c.untransform_halves.auto.cells ∙ c.requires.size in
     let turned : length c.reverse_rows.new.cells ≡ 2 ^ c.args.lg * c.args.cols = c.reverse_rows.auto.cells ∙ mid in
     values-back R F.Object.equality F.Additive.group F.Multiplicative.commutes F.Ring.ring g.F.Field.inverse F.Field.field c.args.lg c.args.cols (g.F.FieldNTT.root c.args.lg)
-    order (g.F.Field.inverse (g.F.FieldNTT.root c.args.lg)) g.F.Ring.one c.args.cells.now c.untransform_halves.new.cells c.reverse_rows.new.cells c.reverse_rows.new.cells unit (halved-no_times F.Object.equality F.Additive.group F.Multiplicative.commutes F.Ring.ring c.args.lg (omega arith))
+    order (g.F.Field.inverse (g.F.FieldNTT.root c.args.lg)) g.F.Ring.one
+    c.args.cells.now c.untransform_halves.new.cells c.reverse_rows.new.cells c.reverse_rows.new.cells unit
+    (halved-no_times F.Object.equality F.Additive.group F.Multiplicative.commutes F.Ring.ring c.args.lg (omega arith))
     c.requires.size mid turned turned
     c.in_ok-untransform_halves.ensures.values c.reverse_rows.ensures (λ p l. scaled-by_one F.Object.equality F.Additive.group F.Multiplicative.commutes F.Ring.ring _)

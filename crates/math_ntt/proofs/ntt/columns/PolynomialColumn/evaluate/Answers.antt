@@ -14,5 +14,6 @@ returns-clause-values g c =
     let size : length vec.items ≡ 2 ^ c.lg_of-lg.result = omega (arith, c.len.ensures, vec.ok.0, c.lg_of-lg.ensures.value) in
     let written : take vec.len (new ++ drop (length new) vec.items) ≡ new = take-written vec.len vec.items new vec.ok.0 kept in
     subst (λ (xs : List g.row.F.Denot). AreValuesOnDomain R g.F.FieldNTT.root (one_column xs) (one_column (take vec.len (new ++ drop (length new) vec.items)))) c.self.view_is
-    (values-on_domain R g.F.FieldNTT.root (length vec.items) 1 c.lg_of-lg.result vec.items (matrix_of (2 ^ c.lg_of-lg.result) 1 new) (one_column (take vec.len (new ++ drop (length new) vec.items))) size refl written
+    (values-on_domain R g.F.FieldNTT.root (length vec.items) 1 c.lg_of-lg.result vec.items
+    (matrix_of (2 ^ c.lg_of-lg.result) 1 new) (one_column (take vec.len (new ++ drop (length new) vec.items))) size refl written
     (rw c.deref_mut.ensures.value at c.in_ok-evaluate_rows.ensures.values))

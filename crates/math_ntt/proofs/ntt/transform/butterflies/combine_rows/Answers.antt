@@ -13,7 +13,8 @@ loop-i-preserved g c =
       combined =
           rw next
           (combined-then _ _ _ _ _ _ _ _ _ _ _ _ _ (omega arith) (omega arith)
-          (λ q l m. c.index-powers-i.is ∙ get_or_default c.args.powers.now c.loop-i.i c.index-powers-i.result g.F.Additive.zero (omega arith) ∙ ap (λ j. get_or c.args.powers.now j g.F.Additive.zero) (sym (row-of c.loop-i.i c.args.cols q l m)))
+          (λ q l m. c.index-powers-i.is ∙ get_or_default c.args.powers.now c.loop-i.i c.index-powers-i.result g.F.Additive.zero (omega arith)
+          ∙ ap (λ j. get_or c.args.powers.now j g.F.Additive.zero) (sym (row-of c.loop-i.i c.args.cols q l m)))
           c.loop-i.invariant.combined c.in_ok-combine_row.ensures.combined);
       butterflies = omega (arith, c.in_ok-combine_row.ensures.counted);
       root_products = omega arith;

@@ -1,0 +1,75 @@
+use Rattle.std.proofs.Common.{rules, ◌≡◌, ◌∙◌, ◌++◌, ◌+◌, ◌-◌, ◌*◌, ◌^◌, ◌<◌, ◌≤◌, ℕ, length, take, drop, get_or, sym, ap, vec_len, arith}
+use Rattle.math_theory.proofs.polynomials.BuiltPolynomials.{value-respects}
+use Rattle.math_theory.proofs.domains.BuiltVanishing.{VanishesAt-respects}
+use Rattle.math_theory.proofs.domains.CarriedDomains.{HasCoset-of_order-same}
+use Rattle.math_theory.proofs.recovery.RecoveredColumns.{domain_agreement, coset_nonzero, recovered-fits}
+use Rattle.math_base.proofs.WholeWrites.{take-written}
+use Rattle.math_ntt.specs.DomainValues.{matrix_of}
+use Rattle.math_ntt.specs.Matrices.{column_of}
+use Rattle.math_ntt.proofs.DomainSteps.{column-cell}
+use Rattle.math_ntt.proofs.MatrixRows.{length-column}
+use Rattle.math_ntt.proofs.PowersOfTwo.{power_of_two-same}
+use Rattle.math_ntt.proofs.RecoveryCounts.{within-part, within-transforms, whole-bound, whole-room}
+use Rattle.math_ntt.proofs.ntt.recovery.recovered.Goals as goal
+
+pub times_vanishing-requires-clause-room : goal.times_vanishing-requires-clause-room
+times_vanishing-requires-clause-room g c = omega (arith, whole-room c.args.lg c.args.cols c.requires.small c.requires.fits, c.in_ok-vanishing.ensures.bounded.no_more)
+
+pub divided-requires-clause-room : goal.divided-requires-clause-room
+divided-requires-clause-room g c =
+    omega (arith, whole-room c.args.lg c.args.cols c.requires.small c.requires.fits, c.in_ok-vanishing.ensures.bounded.no_more, c.in_ok-times_vanishing.ensures.bounded.no_more)
+
+pub returns-in_err-vanishing-clause-most : goal.returns-in_err-vanishing-clause-most
+returns-in_err-vanishing-clause-most g c = within-part _ _ _ _ _ _ (omega (arith, whole-bound c.args.lg c.args.cols)) (omega arith) c.in_err-vanishing.ensures.bounded
+
+pub returns-in_err-times_vanishing-clause-most : goal.returns-in_err-times_vanishing-clause-most
+returns-in_err-times_vanishing-clause-most g c =
+    within-part _ _ _ _ _ _ (omega (arith, whole-bound c.args.lg c.args.cols)) (omega arith) (within-transforms _ _ _ _ _ _ c.in_ok-vanishing.ensures.bounded c.in_err-times_vanishing.ensures.bounded)
+
+pub returns-in_err-divided-clause-most : goal.returns-in_err-divided-clause-most
+returns-in_err-divided-clause-most g c =
+    within-part _ _ _ _ _ _ (omega (arith, whole-bound c.args.lg c.args.cols)) (omega arith) 
+    (within-transforms _ _ _ _ _ _ (within-transforms _ _ _ _ _ _ c.in_ok-vanishing.ensures.bounded c.in_ok-times_vanishing.ensures.bounded) c.in_err-divided.ensures.bounded)
+
+pub returns-clause-most : goal.returns-clause-most
+returns-clause-most g c =
+    within-part _ _ _ _ _ _ (omega (arith, whole-bound c.args.lg c.args.cols)) (omega arith) 
+    (within-transforms _ _ _ _ _ _ (within-transforms _ _ _ _ _ _ c.in_ok-vanishing.ensures.bounded c.in_ok-times_vanishing.ensures.bounded) c.in_ok-divided.ensures.bounded)
+
+pub returns-clause-fits : goal.returns-clause-fits
+returns-clause-fits g c = λ m k e b.
+    let F = g.met.F in
+    let E = F.Object.equality in
+    let G = F.Additive.group in
+    let P = F.Multiplicative.commutes in
+    let R = F.Ring.ring in
+    let f = F.Field.field in
+    let zero = g.F.Additive.zero in
+    let lg = c.args.lg in
+    let n = 2 ^ lg in
+    let root = g.F.FieldNTT.root lg in
+    let shift = g.F.FieldNTT.shift in
+    let points = c.args.points.now in
+    let order = F.FieldNTT.roots.order lg c.requires.domain in
+    let coset = HasCoset-of_order-same E G P R root shift n order F.FieldNTT.roots.shift_is_not_zero (F.FieldNTT.roots.shift_is_no_power lg c.requires.domain) in
+    let v = c.in_ok-vanishing.vanishing in
+    let again = c.times_vanishing.new.vanishing in
+    let kept : length again ≡ length v.items = c.times_vanishing.auto.vanishing ∙ ap length c.deref_mut.ensures.value in
+    let written : take v.len (again ++ drop (length again) v.items) ≡ again = take-written v.len v.items again v.ok.0 kept in
+    let long_v : length v.items ≡ n = omega (arith, c.in_ok-vanishing.ensures.length, v.ok.0) in
+    let long : length again ≡ n = kept ∙ long_v in
+    let on_domain = rw c.deref_mut.ensures.value at c.in_ok-times_vanishing.ensures.again in
+    let products = rw c.deref_mut.ensures.value at c.in_ok-times_vanishing.ensures.products in
+    let vanishes = c.in_ok-vanishing.ensures.vanishes in
+    let agreement = domain_agreement E G P R f root n order again v.items (omega (arith, long)) (omega (arith, long_v)) on_domain in
+    let vanishes_again = VanishesAt-respects E G P R root points _ _ (λ r. value-respects E G P R r again v.items kept (λ j l. agreement j)) vanishes in
+    let nonzero = coset_nonzero E G P R f root shift n points c.requires.points coset _ vanishes_again in
+    let quotients = (rw (c.deref_mut-2.ensures.value, written) at c.in_ok-divided.ensures.quotients) nonzero in
+    let cells = matrix_of n c.args.cols c.args.cells.now in
+    let product = matrix_of n c.args.cols c.times_vanishing.new.cells in
+    let quotient = matrix_of n c.args.cols c.divided.new.cells in
+    rw (← power_of_two-same lg m e)
+    (recovered-fits E G P R f root shift n points c.requires.points coset (column_of zero cells k) v.items again (column_of zero product k) (column_of zero quotient k)
+    (length-column zero cells k) long (length-column zero product k) (length-column zero quotient k) c.requires.some vanishes on_domain
+    (λ i l. rw (column-cell zero n c.args.cols k i c.args.cells.now l b) (products i k l b))
+    (λ i l. quotients i k l b))

@@ -1,0 +1,56 @@
+-- Rows of values of which some are filled, and the polynomials that are recovered from them.
+use Rattle.std.specs.Prelude.{◌≡◌, ℕ, ◌+◌, ◌*◌, ◌<◌, ◌≤◌, ◌^◌, ◌⊎◌, List, length, slice_index_or}
+use Rattle.math_theory.specs.Powers.{power}
+use Rattle.math_theory.specs.Recovery.{Fits, count_true}
+use Rattle.math_base.specs.Members.{RingOf}
+use Rattle.math_base.specs.Polynomials.{value_in_ring}
+use Rattle.math_ntt.specs.CountedWork.{WorkOf}
+use Rattle.math_ntt.specs.Evaluations.{EvaluationsOf}
+use Rattle.math_ntt.specs.Matrices.{MatrixOf, column_of, cell_of}
+use Rattle.math_ntt.specs.MissingPoints.{count_false}
+
+-- where there are 2^lg rows, column k of v fits column k of the cells and the filled rows, at the powers of root lg
+abbrev pub AreRecovered : {A : Type 0} → RingOf A → (ℕ → A) → EvaluationsOf A → MatrixOf A → Type 0
+AreRecovered R root e v =
+    (lg k : ℕ) → e.matrix.rows ≡ 2 ^ lg → k < e.matrix.cols
+    → Fits R.same R.zero R.sum R.product R.one (root lg) (column_of R.zero e.matrix k) e.filled (column_of R.zero v k)
+
+-- a list of as many coefficients as rows that fits column k is same as column k of v, place by place
+abbrev pub AreOnlyRecovered : {A : Type 0} → RingOf A → (ℕ → A) → EvaluationsOf A → MatrixOf A → Type 0
+AreOnlyRecovered {A} R root e v =
+    (lg k : ℕ) → e.matrix.rows ≡ 2 ^ lg → k < e.matrix.cols → (q : List A) → length q ≡ e.matrix.rows
+    → Fits R.same R.zero R.sum R.product R.one (root lg) (column_of R.zero e.matrix k) e.filled q
+    → (i : ℕ) → i < e.matrix.rows → R.same (slice_index_or q i R.zero) (cell_of R.zero v i k)
+
+-- column k of g has as its value at power i of w the cell in row i and column k of m times the value of v there
+abbrev pub AreProductsOnDomain : {A : Type 0} → RingOf A → A → MatrixOf A → List A → MatrixOf A → Type 0
+AreProductsOnDomain R w m v g =
+    let at = power R.one R.product w in
+    (i k : ℕ) → i < m.rows → k < m.cols → R.same (value_in_ring R (column_of R.zero g k) (at i)) (R.product (cell_of R.zero m i k) (value_in_ring R v (at i)))
+
+-- both have the same values at the first n powers of w
+abbrev pub HaveSameValuesOnDomain : {A : Type 0} → RingOf A → A → ℕ → List A → List A → Type 0
+HaveSameValuesOnDomain R w n u v =
+    let at = power R.one R.product w in
+    (i : ℕ) → i < n → R.same (value_in_ring R v (at i)) (value_in_ring R u (at i))
+
+-- v has no zero among s times the first n powers of w
+abbrev pub IsNonzeroOnCoset : {A : Type 0} → RingOf A → A → A → ℕ → List A → Type 0
+IsNonzeroOnCoset R w s n v =
+    let at = power R.one R.product w in
+    (i : ℕ) → i < n → ¬ (R.same (value_in_ring R v (R.product s (at i))) R.zero)
+
+-- at s times power i of w the values of column k of q and of v, multiplied, give that of column k of g
+abbrev pub AreQuotientsOnCoset : {A : Type 0} → RingOf A → A → A → MatrixOf A → List A → MatrixOf A → Type 0
+AreQuotientsOnCoset R w s g v q =
+    let at = power R.one R.product w in
+    (i k : ℕ) → i < g.rows → k < g.cols
+    → R.same (R.product (value_in_ring R (column_of R.zero q k) (R.product s (at i))) (value_in_ring R v (R.product s (at i)))) (value_in_ring R (column_of R.zero g k) (R.product s (at i)))
+
+-- the work of a recovery of 2^lg rows that succeeds: with no row or all rows filled, that of one transform; with some missing, and lg at most 8,
+-- three transforms of all columns and of one more, and v (v + 1) / 2 root products for v missing rows
+pub record IsExactWork {A : Type 0} (lg : ℕ) (e : EvaluationsOf A) (v w : WorkOf) : Type 0 where
+  pub none_or_all : (count_true e.filled ≡ 0) ⊎ (count_false e.filled ≡ 0)
+      → (2 * w.butterflies ≡ 2 * v.butterflies + e.matrix.cols * e.matrix.rows * lg) × (w.root_products ≡ v.root_products)
+  pub some : 0 < count_true e.filled → 0 < count_false e.filled → lg ≤ 8
+      → (2 * w.butterflies ≡ 2 * v.butterflies + e.matrix.rows * lg * (3 * e.matrix.cols + 3)) × (2 * w.root_products ≡ 2 * v.root_products + count_false e.filled * (count_false e.filled + 1))

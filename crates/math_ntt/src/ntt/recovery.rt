@@ -1,0 +1,257 @@
+//! Recovery of polynomials from some of the rows of their values.
+//!
+//! Let the domain have N points, and let V be a polynomial that vanishes at exactly the points of the missing rows. Let f
+//! be the polynomial that fits the filled cells of a column: its coefficients from the number of filled rows on are zero,
+//! so that f V has at most N coefficients. On the domain the values of f V are the cells times the values of V, whatever
+//! the missing cells hold, since V is zero there. So f V is had by interpolation. On the domain it can't be divided by V,
+//! but on the coset of the domain by the shift V has no zero: there f V and V are evaluated, the quotients are values of f,
+//! and these are interpolated. Multiplying coefficient i by power i of the shift moves a polynomial to the coset, and by
+//! power i of its inverse back.
+//!
+//! One inversion serves all divisions. With no row filled the answer is zero, and with all it is what has the cells as its
+//! values: then there is no polynomial that vanishes, and each is one interpolation.
+
+ghost use Rattle.std.specs.Prelude.{◌≡◌, ◌+◌, ◌-◌, ◌*◌, ◌<◌, ◌≤◌, ◌^◌, ℕ, List, IfOk, OnOk, length, slice_index_or};
+ghost use Rattle.std.specs.List.{All};
+ghost use Rattle.math_theory.specs.Coefficients.{HaveSameCoefficients};
+ghost use Rattle.math_theory.specs.Powers.{power};
+ghost use Rattle.math_theory.specs.Recovery.{count_true};
+ghost use Rattle.math_base.specs.Polynomials.{value_in_ring};
+ghost use Rattle.math_ntt.specs.CountedWork.{AddsAtMost};
+ghost use Rattle.math_ntt.specs.DomainValues.{matrix_of, AreValuesAtPowers, ArePowersByLevel, HasDomain};
+ghost use Rattle.math_ntt.specs.Matrices.{IsOfSize, column_of, cell_of};
+ghost use Rattle.math_ntt.specs.MissingPoints.{count_false, VanishesAtFalse};
+ghost use Rattle.math_ntt.specs.RecoveredRows.{AreProductsOnDomain, AreQuotientsOnCoset, HaveSameValuesOnDomain, IsNonzeroOnCoset, AreRecovered, AreOnlyRecovered, IsExactWork};
+ghost use Rattle.math_ntt.specs.RecoveryWork.{AddsWithin};
+
+use super::evaluations::EvaluationVector;
+use super::matrix::Matrix;
+use super::polynomials::PolynomialVector;
+use super::quotients::inverses;
+use super::row_products::{dilate_rows, multiply_rows};
+use super::transform::{
+    evaluate_rows, evaluation_table, interpolate_rows, interpolation_table, lg_of,
+};
+use super::vanishing::vanishing_coefficients;
+use super::vanishing_points::VanishingPoints;
+use super::work::Work;
+use math_base::algebra::{Additive, FieldNTT, Mem};
+use std::alloc::Global;
+
+impl<F: FieldNTT> EvaluationVector<F> {
+    /// In each column the polynomial with N coefficients, N being the number of rows, that has the cells of the filled rows
+    /// as its values, and whose coefficients from the number of filled rows on are zero. It is the only one.
+    ///
+    /// lg N is at most `F::MAX_LG_ROOT_ORDER`. Takes memory for six columns of cells at most: the coefficients stand where
+    /// the cells stood.
+    pub fn recover(self, alloc: Global) -> Mem<PolynomialVector<F>>
+        requires domain { HasDomain F.MAX_LG_ROOT_ORDER self.matrix.rows }
+        ensures size { IfOk result (λ v. IsOfSize v self.matrix.rows self.matrix.cols) }
+        ensures fits { IfOk result (λ v. AreRecovered F.Ring F.root self v) }
+        ensures only { IfOk result (λ v. AreOnlyRecovered F.Ring F.root self v) }
+    {
+        let mut work = Work::new();
+        let out = self.recover_counted(alloc, &mut work)?;
+        Ok(out)
+    }
+
+    /// As `recover`, and adds the work that was done.
+    ///
+    /// At entry `work` has at most 2^127 butterflies and at most 2^127 root products. Whatever the outcome, at most
+    /// N lg N (3 lg N + 3 c + 2) / 2 butterflies and 128 N root products are added, c being the number of columns. Where no
+    /// row or all rows are filled, c N lg N / 2 butterflies are, and no root product. Where v rows are missing, some and not
+    /// all, and lg N is at most 8, N lg N (3 c + 3) / 2 butterflies are, and v (v + 1) / 2 root products.
+    pub fn recover_counted(self, alloc: Global, work: &mut Work) -> Mem<PolynomialVector<F>>
+        requires domain { HasDomain F.MAX_LG_ROOT_ORDER self.matrix.rows }
+        requires room { work.old.butterflies ≤ 2 ^ 127 }
+        requires product_room { work.old.root_products ≤ 2 ^ 127 }
+        ensures size { IfOk result (λ v. IsOfSize v self.matrix.rows self.matrix.cols) }
+        ensures fits { IfOk result (λ v. AreRecovered F.Ring F.root self v) }
+        ensures only { IfOk result (λ v. AreOnlyRecovered F.Ring F.root self v) }
+        ensures most { (lg : ℕ) → self.matrix.rows ≡ 2 ^ lg
+            → AddsWithin (self.matrix.rows * lg * (3 * lg + 3 * self.matrix.cols + 2)) (128 * self.matrix.rows) work.old work.new }
+        ensures exact { IfOk result (λ _. (lg : ℕ) → self.matrix.rows ≡ 2 ^ lg → IsExactWork lg self work.old work.new) }
+    {
+        let mut matrix = self.matrix;
+        let lg = lg_of(matrix.rows);
+        let filled = self.filled.count_non_vanishing() as usize;
+        if filled == matrix.rows {
+            interpolated(alloc, &mut matrix.cells, matrix.cols, lg, work)?;
+        } else if filled == 0 {
+            zeros(alloc, &mut matrix.cells)?;
+            interpolated(alloc, &mut matrix.cells, matrix.cols, lg, work)?;
+        } else {
+            recovered(
+                alloc,
+                &mut matrix.cells,
+                matrix.cols,
+                &self.filled,
+                lg,
+                work,
+            )?;
+        }
+        Ok(PolynomialVector {
+            coefficients: matrix,
+        })
+    }
+}
+
+/// Puts zero in place of each cell.
+fn zeros<F: Additive>(alloc: Global, cells: &mut [F]) -> Mem<()>
+    ensures { OnOk result (All (λ cell. F.same cell F.zero) cells.new) }
+{
+    for cell in cells.iter_mut() {
+        let zero = F::zero(alloc)?;
+        *cell = zero;
+    }
+    Ok(())
+}
+
+/// The coefficients of the polynomials whose values the cells are, by a table of its own.
+fn interpolated<F: FieldNTT>(
+    alloc: Global,
+    cells: &mut [F],
+    cols: usize,
+    lg: u8,
+    work: &mut Work,
+) -> Mem<()>
+    requires domain { lg ≤ F.MAX_LG_ROOT_ORDER }
+    requires small { lg < 64 }
+    requires size { length cells.old ≡ 2 ^ lg * cols }
+    requires room { 2 * work.old.butterflies + cols * 2 ^ lg * lg < 2 ^ 129 }
+    ensures size { length cells.new ≡ length cells.old }
+    ensures values { OnOk result (AreValuesAtPowers F.Ring (F.root lg) (matrix_of (2 ^ lg) cols cells.new) (matrix_of (2 ^ lg) cols cells.old)) }
+    ensures counted { OnOk result (2 * work.new.butterflies ≡ 2 * work.old.butterflies + cols * 2 ^ lg * lg) }
+    ensures bounded { AddsAtMost (cols * 2 ^ lg * lg) work.old work.new }
+{
+    let table = interpolation_table(alloc, lg)?;
+    interpolate_rows(alloc, cells, cols, lg, &table, work)?;
+    Ok(())
+}
+
+/// The coefficients of f V in each column, and those of V, interpolated again from its values.
+fn times_vanishing<F: FieldNTT>(
+    alloc: Global,
+    cells: &mut [F],
+    vanishing: &mut [F],
+    cols: usize,
+    lg: u8,
+    evaluation: &[F],
+    interpolation: &[F],
+    work: &mut Work,
+) -> Mem<()>
+    requires domain { lg ≤ F.MAX_LG_ROOT_ORDER }
+    requires small { lg < 64 }
+    requires size { length cells.old ≡ 2 ^ lg * cols }
+    requires vanishing_size { length vanishing.old ≡ 2 ^ lg }
+    requires evaluation { ArePowersByLevel F.Ring F.root lg evaluation.now }
+    requires interpolation { ArePowersByLevel F.Ring (λ l. F.inverse (F.root l)) lg interpolation.now }
+    requires room { 2 * work.old.butterflies + (cols + 2) * 2 ^ lg * lg < 2 ^ 129 }
+    ensures size { length cells.new ≡ length cells.old }
+    ensures vanishing_size { length vanishing.new ≡ length vanishing.old }
+    ensures products { OnOk result (AreProductsOnDomain F.Ring (F.root lg) (matrix_of (2 ^ lg) cols cells.old) vanishing.old (matrix_of (2 ^ lg) cols cells.new)) }
+    ensures again { OnOk result (HaveSameValuesOnDomain F.Ring (F.root lg) (2 ^ lg) vanishing.old vanishing.new) }
+    ensures counted { OnOk result (2 * work.new.butterflies ≡ 2 * work.old.butterflies + (cols + 2) * 2 ^ lg * lg) }
+    ensures bounded { AddsAtMost ((cols + 2) * 2 ^ lg * lg) work.old work.new }
+{
+    evaluate_rows(alloc, vanishing, 1, lg, evaluation, work)?;
+    multiply_rows(alloc, cells, cols, vanishing)?;
+    interpolate_rows(alloc, cells, cols, lg, interpolation, work)?;
+    interpolate_rows(alloc, vanishing, 1, lg, interpolation, work)?;
+    Ok(())
+}
+
+/// The coefficients in each column of the polynomial divided by V: both are moved to the coset by the shift, evaluated, and
+/// the quotients interpolated and moved back.
+fn divided<F: FieldNTT>(
+    alloc: Global,
+    cells: &mut [F],
+    vanishing: &mut [F],
+    cols: usize,
+    lg: u8,
+    evaluation: &[F],
+    interpolation: &[F],
+    work: &mut Work,
+) -> Mem<()>
+    requires domain { lg ≤ F.MAX_LG_ROOT_ORDER }
+    requires small { lg < 64 }
+    requires size { length cells.old ≡ 2 ^ lg * cols }
+    requires vanishing_size { length vanishing.old ≡ 2 ^ lg }
+    requires evaluation { ArePowersByLevel F.Ring F.root lg evaluation.now }
+    requires interpolation { ArePowersByLevel F.Ring (λ l. F.inverse (F.root l)) lg interpolation.now }
+    requires room { 2 * work.old.butterflies + (cols + cols + 1) * 2 ^ lg * lg < 2 ^ 129 }
+    ensures size { length cells.new ≡ length cells.old }
+    ensures quotients { OnOk result (IsNonzeroOnCoset F.Ring (F.root lg) F.shift (2 ^ lg) vanishing.old
+        → AreQuotientsOnCoset F.Ring (F.root lg) F.shift (matrix_of (2 ^ lg) cols cells.old) vanishing.old (matrix_of (2 ^ lg) cols cells.new)) }
+    ensures counted { OnOk result (2 * work.new.butterflies ≡ 2 * work.old.butterflies + (cols + cols + 1) * 2 ^ lg * lg) }
+    ensures bounded { AddsAtMost ((cols + cols + 1) * 2 ^ lg * lg) work.old work.new }
+{
+    let rows = vanishing.len();
+    let shift = F::coset_shift(alloc)?;
+    dilate_rows(alloc, vanishing, 1, rows, &shift)?;
+    evaluate_rows(alloc, vanishing, 1, lg, evaluation, work)?;
+    dilate_rows(alloc, cells, cols, rows, &shift)?;
+    evaluate_rows(alloc, cells, cols, lg, evaluation, work)?;
+    let divisors = inverses(alloc, vanishing)?;
+    multiply_rows(alloc, cells, cols, &divisors)?;
+    interpolate_rows(alloc, cells, cols, lg, interpolation, work)?;
+    let back = F::coset_shift_inv(alloc)?;
+    dilate_rows(alloc, cells, cols, rows, &back)?;
+    Ok(())
+}
+
+/// The recovery where some rows are filled and some are missing.
+fn recovered<F: FieldNTT>(
+    alloc: Global,
+    cells: &mut [F],
+    cols: usize,
+    points: &VanishingPoints,
+    lg: u8,
+    work: &mut Work,
+) -> Mem<()>
+    requires domain { lg ≤ F.MAX_LG_ROOT_ORDER }
+    requires small { lg < 64 }
+    requires size { length cells.old ≡ 2 ^ lg * cols }
+    requires points { length points.now ≡ 2 ^ lg }
+    requires some { 0 < count_true points.now }
+    requires room { work.old.butterflies ≤ 2 ^ 127 }
+    requires product_room { work.old.root_products ≤ 2 ^ 127 }
+    requires fits { 2 ^ lg * cols < 2 ^ 64 }
+    ensures size { length cells.new ≡ length cells.old }
+    ensures fits { OnOk result (AreRecovered F.Ring F.root (record { matrix = matrix_of (2 ^ lg) cols cells.old; filled = points.now }) (matrix_of (2 ^ lg) cols cells.new)) }
+    ensures most { AddsWithin (2 ^ lg * lg * (3 * lg + 3 * cols + 2)) (128 * 2 ^ lg) work.old work.new }
+    ensures butterflies { OnOk result (lg ≤ 8 → 2 * work.new.butterflies ≡ 2 * work.old.butterflies + 2 ^ lg * lg * (3 * cols + 3)) }
+    ensures root_products { OnOk result (lg ≤ 8 → 2 * work.new.root_products ≡ 2 * work.old.root_products + count_false points.now * (count_false points.now + 1)) }
+{
+    let evaluation = evaluation_table(alloc, lg)?;
+    let interpolation = interpolation_table(alloc, lg)?;
+    let mut vanishing = vanishing_coefficients(
+        alloc,
+        points,
+        lg,
+        &evaluation,
+        &interpolation,
+        work,
+    )?;
+    times_vanishing(
+        alloc,
+        cells,
+        &mut vanishing,
+        cols,
+        lg,
+        &evaluation,
+        &interpolation,
+        work,
+    )?;
+    divided(
+        alloc,
+        cells,
+        &mut vanishing,
+        cols,
+        lg,
+        &evaluation,
+        &interpolation,
+        work,
+    )?;
+    Ok(())
+}
