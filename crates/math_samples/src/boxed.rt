@@ -20,7 +20,6 @@ use math_base::fields::goldilocks::F;
 use rand_core::{CryptoRng, Rng};
 use std::alloc::Global;
 use std::marker::Model;
-use std::ptr;
 
 /// An element in a box.
 #[derive(Debug, Drop)]
@@ -50,11 +49,6 @@ impl Boxed<F> {
         ensures { result ≡ self.now }
     {
         *self.element
-    }
-
-    /// Where the box lies.
-    pub fn place(&self) -> *const F {
-        ptr::from_ref(&*self.element)
     }
 }
 

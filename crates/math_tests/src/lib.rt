@@ -1,5 +1,5 @@
 //! Tests of what no row of calls and answers can say: texts for debugging, how often an iterator is
-//! asked, new boxes, and calls whose contracts have to serve their callers.
+//! asked, memory that there can't be, and calls whose contracts have to serve their callers.
 #![tactic(auto)]
 
 #[cfg(test)]
