@@ -14,3 +14,10 @@ pub mod ListSizes
 pub mod WeightLoops
 pub mod InterpolatorLaws
 pub mod EqualKeys
+pub mod FreeTerms
+pub mod WeightMaps
+pub mod CombinationMaps
+pub mod FreeSums
+pub mod WeightedCombinations
+pub mod EqualCombinations
+pub mod GeneratorRuns

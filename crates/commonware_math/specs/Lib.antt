@@ -3,3 +3,7 @@ pub mod PolynomialCounts
 pub mod PolynomialLaws
 pub mod Combinations
 pub mod Interpolators
+pub mod Synthetics
+pub mod SyntheticTerms
+pub mod SyntheticLaws
+pub mod SyntheticGenerators
