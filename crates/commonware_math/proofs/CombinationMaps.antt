@@ -1,6 +1,5 @@
 -- The maps by which combinations are copied, negated, doubled, added to themselves n times and scaled.
-use Rattle.std.proofs.Common.{◌≡◌, ℕ, zero, suc, List, [], ◌∷◌, ◌++◌, sym, ap}
-use Rattle.std.proofs.lemmas.List.{map-id}
+use Rattle.std.proofs.Common.{◌≡◌, ℕ, zero, suc, List, sym, ap}
 use Rattle.math_theory.specs.Laws.{IsEquality, IsGroup, IsProduct, IsRing, IsModule}
 use Rattle.math_theory.specs.ModuleLaws.{ring_is_module}
 use Rattle.math_theory.specs.Powers.{multiple, power-zero, power-suc}

@@ -1,9 +1,9 @@
 -- Whether combinations are the same, told by the weights and the points of their difference.
-use Rattle.std.proofs.Common.{◌≡◌, ◌↔◌, ◌<◌, ◌≤◌, ◌+◌, ◌⊎◌, inl, inr, ℕ, zero, suc, eqb, cond, Bool, true, false, List, [], ◌∷◌, ◌++◌, length, take, get_or, map, refl, sym, ap, ◌∙◌, arith}
+use Rattle.std.proofs.Common.{◌≡◌, ◌↔◌, ◌<◌, ◌+◌, inl, inr, ℕ, zero, suc, eqb, cond, Bool, true, false, List, [], ◌∷◌, ◌++◌, length, take, get_or, refl, ap, arith}
 use Rattle.std.proofs.lemmas.Bool.{ne_eqb, eq-eqb}
-use Rattle.std.proofs.lemmas.List.{take_more, take_all}
+use Rattle.std.proofs.lemmas.List.{take_more}
 use Rattle.math_theory.specs.Laws.{IsEquality, IsGroup, IsModule}
-use Rattle.commonware_math.specs.Synthetics.{weight_at, HasTerm, IsRising, AreSameCombinations, combination_zero, value_under}
+use Rattle.commonware_math.specs.Synthetics.{weight_at, HasTerm, IsRising, value_under}
 use Rattle.commonware_math.proofs.FreeSums.{part-nothing}
 
 -- a difference is zero exactly where both are the same

@@ -1,11 +1,9 @@
 -- The value of a combination under generators, summed term by term.
-use Rattle.std.proofs.Common.{◌≡◌, ◌<◌, ◌≤◌, ◌+◌, ◌⊎◌, inl, inr, ℕ, zero, suc, eqb, cond, Bool, true, false, List, [], ◌∷◌, ◌++◌, map, length, refl, sym, ap, ◌∙◌, arith, slice_index_or}
-use Rattle.std.specs.List.{range_with_len}
+use Rattle.std.proofs.Common.{◌≡◌, ◌<◌, ◌+◌, ℕ, zero, suc, eqb, true, false, List, [], ◌∷◌, ◌++◌, length, refl, arith, slice_index_or}
 use Rattle.std.proofs.lemmas.Bool.{ne_eqb, eq-eqb}
 use Rattle.math_theory.specs.Laws.{IsEquality, IsGroup, IsModule}
 use Rattle.math_theory.specs.Sums.{weighted_sum}
-use Rattle.commonware_math.specs.Synthetics.{weight_at, HasTerm, concrete_sum, weights_from, free_value, value_under}
-use Rattle.commonware_math.specs.SyntheticLaws.{exchange}
+use Rattle.commonware_math.specs.Synthetics.{concrete_sum, weights_from, free_value, value_under}
 
 module _ {A B : Type 0} {same : B → B → Type 0} {zero_of : B} {sum : B → B → B} {negative : B → B} {scaling : B → A → B} {same_weight : A → A → Type 0} {zero_weight : A} {sum_weights : A → A → A}
     {product : A → A → A} {one : A}

@@ -1,8 +1,8 @@
 -- A run of calls, each of which gives the generator of the next index, gives the generators in order.
-use Rattle.std.proofs.Common.{◌≡◌, ◌<◌, ◌≤◌, ◌+◌, ◌^◌, ◌⊎◌, inl, inr, ℕ, List, [], ◌∷◌, Option, None, Some, Result, Ok, Err, refl, sym, ap, subst, ◌∙◌, arith}
+use Rattle.std.proofs.Common.{◌≡◌, ◌<◌, ◌+◌, ◌^◌, ◌⊎◌, inl, inr, ℕ, List, [], ◌∷◌, Option, None, Some, Result, Ok, Err, refl, sym, ap, subst, ◌∙◌, arith}
 use Rattle.std.proofs.lemmas.Bool.{cases_lt}
 use Rattle.std.specs.Iterator.{YieldsThen}
-use Rattle.commonware_math.specs.SyntheticGenerators.{GivesGenerator, IsNextIndex, IsGeneratorItem, AreGenerators}
+use Rattle.commonware_math.specs.SyntheticGenerators.{GivesGenerator, IsNextIndex, AreGenerators}
 
 -- X is the type of the error
 module _ {C S : Type 0} (X : Type 0) (is_generator : ℕ → C → Type 0) (next_of : S → Option ℕ) where

@@ -1,10 +1,10 @@
 -- Combinations whose weights go through a function.
-use Rattle.std.proofs.Common.{◌≡◌, ◌⊎◌, inl, inr, ℕ, eqb, cond, Bool, true, false, List, [], ◌∷◌, ◌++◌, refl, sym, ap, ◌∙◌, ◌<◌}
+use Rattle.std.proofs.Common.{◌≡◌, ◌⊎◌, inl, inr, ℕ, eqb, cond, Bool, true, false, List, [], ◌∷◌, refl, sym, ◌∙◌}
 use Rattle.std.specs.List.{AllZip}
 use Rattle.std.specs.Map.{keys_of}
 use Rattle.math_theory.specs.Laws.{IsEquality, IsGroup}
-use Rattle.commonware_math.specs.Synthetics.{weight_at, HasTerm, IsRising, HasIndices, HaveSameWeights, AreSameCombinations, IsAdditiveMap, IsMapOfCombinations, map_weights, concrete_sum}
-use Rattle.commonware_math.specs.SyntheticLaws.{additive_of_zero, weight_at-map}
+use Rattle.commonware_math.specs.Synthetics.{HasTerm, IsRising, HasIndices, HaveSameWeights, IsMapOfCombinations, map_weights, concrete_sum}
+use Rattle.commonware_math.specs.SyntheticLaws.{additive_of_zero}
 
 -- the terms have the indices of the other terms, and their weights are related to those of the others
 abbrev pub AreTermsUnder : {A : Type 0} → (A → A → Type 0) → List (ℕ × A) → List (ℕ × A) → Type 0

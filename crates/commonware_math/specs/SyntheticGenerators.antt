@@ -1,5 +1,5 @@
 -- Free generators, and the iterator that gives them.
-use Rattle.std.specs.Prelude.{◌≡◌, ◌<◌, ◌+◌, ◌-◌, ◌^◌, ℕ, suc, List, [], ◌∷◌, Option, None, Some, Result, Ok, Err, if◌then◌else◌}
+use Rattle.std.specs.Prelude.{◌≡◌, ◌<◌, ◌+◌, ◌-◌, ◌^◌, ℕ, List, [], ◌∷◌, Option, None, Some, Result, Ok, Err}
 use Rattle.commonware_math.specs.Synthetics.{HasIndices, AreSameCombinations}
 
 -- the combination has the one index i, with weight one, and no points

@@ -1,9 +1,8 @@
 -- Combinations, equal where their weights and the sums of their points are, are a module.
-use Rattle.std.proofs.Common.{◌≡◌, ℕ, Bool, true, false, eqb, cond, append_assoc, List, [], ◌∷◌, ◌++◌}
-use mathlib.Core.HLevel.{Π_prop}
+use Rattle.std.proofs.Common.{ℕ, Bool, true, false, eqb, cond, append_assoc, List, [], ◌∷◌, ◌++◌}
 use Rattle.math_theory.specs.Laws.{IsEquality, IsGroup, IsProduct, IsRing, IsModule}
 use Rattle.math_theory.specs.ModuleLaws.{double_itself, ring_is_module}
-use Rattle.commonware_math.specs.Synthetics.{IsAdditiveMap, weight_at, HaveSameWeights, AreSameCombinations, map_weights, combination_zero, combination_sum, combination_negative, combination_multiple}
+use Rattle.commonware_math.specs.Synthetics.{IsAdditiveMap, weight_at, AreSameCombinations, map_weights, combination_zero, combination_sum, combination_negative, combination_multiple}
 
 pub combinations_equality : {A B : Type 0} {same : A → A → Type 0} {same_point : B → B → Type 0} (zero : A) (sum : A → A → A) → IsEquality same → IsEquality same_point
     → IsEquality (AreSameCombinations {A = A} {B = B} same zero sum same_point)

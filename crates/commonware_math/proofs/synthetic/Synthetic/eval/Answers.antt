@@ -1,4 +1,4 @@
-use Rattle.std.proofs.Common.{rules, ◌≡◌, ◌<◌, ◌∙◌, sym, inl, inr, refl, ap, [], length, arith}
+use Rattle.std.proofs.Common.{rules, ◌≡◌, ◌<◌, ◌∙◌, inl, inr, refl, ap, [], length, arith}
 use Rattle.std.proofs.lemmas.List.{get_or_read, length_push, nil_from_length}
 use Rattle.commonware_math.proofs.FreeSums.{free-next, free-end, concrete-next, concrete-end}
 use Rattle.commonware_math.proofs.synthetic.Synthetic.eval.Goals as goal

@@ -1,4 +1,3 @@
-use Rattle.std.proofs.Common.{◌≡◌}
 use Rattle.commonware_math.proofs.FreeSums.{concrete_sum-append}
 use Rattle.commonware_math.proofs.synthetic.Synthetic.joined.Goals as goal
 

@@ -1,4 +1,4 @@
-use Rattle.std.proofs.Common.{◌≡◌, ◌∙◌, ap}
+use Rattle.std.proofs.Common.{◌≡◌}
 use Rattle.commonware_math.proofs.FreeTerms.{greatest_from_last}
 use Rattle.commonware_math.proofs.synthetic.Synthetic.max_free_index.Goals as goal
 

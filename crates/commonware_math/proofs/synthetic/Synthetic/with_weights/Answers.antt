@@ -1,9 +1,8 @@
-use Rattle.std.proofs.Common.{◌≡◌, ◌∙◌, ap, sym, rules, refl, List, length, take, Ok, arith}
+use Rattle.std.proofs.Common.{◌∙◌, ap, sym, rules, refl}
 use Rattle.std.proofs.lemmas.List.{take_all}
-use Rattle.std.specs.Fn.{FnReturnsAt}
 use Rattle.std.specs.Map.{keys_of}
 use Rattle.commonware_math.proofs.PlaceByPlace.{AllZip-next}
-use Rattle.commonware_math.proofs.WeightMaps.{AreTermsUnder, ArePairsUnder, keys-under, rising-keys, weights-under, points-under}
+use Rattle.commonware_math.proofs.WeightMaps.{keys-under, rising-keys, weights-under, points-under}
 use Rattle.commonware_math.proofs.synthetic.Synthetic.with_weights.Goals as goal
 
 pub loop-term-preserved : goal.loop-term-preserved

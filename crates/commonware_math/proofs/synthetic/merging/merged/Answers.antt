@@ -1,7 +1,6 @@
-use Rattle.std.proofs.Common.{◌≡◌, ◌∷◌, ◌++◌, [], reverse, IfSome, IfNone, ◌∙◌, ap, subst, List}
+use Rattle.std.proofs.Common.{◌≡◌, []}
 use Rattle.std.proofs.lemmas.List.{reverse-append}
-use Rattle.commonware_math.specs.SyntheticTerms.{IsPopped}
-use Rattle.commonware_math.proofs.FreeTerms.{IsMerging, popped_shorter, merging_begins, merging_continues, merging_ends}
+use Rattle.commonware_math.proofs.FreeTerms.{popped_shorter, merging_begins, merging_continues, merging_ends}
 use Rattle.commonware_math.proofs.synthetic.merging.merged.Goals as goal
 
 pub loop-out-init : goal.loop-out-init

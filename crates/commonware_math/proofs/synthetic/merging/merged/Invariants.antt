@@ -1,4 +1,4 @@
-use Rattle.std.proofs.Common.{ℕ, ◌+◌, length, reverse}
+use Rattle.std.proofs.Common.{◌+◌, length, reverse}
 use Rattle.commonware_math.proofs.FreeTerms.{IsMerging}
 use Rattle.commonware_math.proofs.synthetic.merging.merged.Given as goal
 

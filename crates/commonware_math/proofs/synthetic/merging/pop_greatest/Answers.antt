@@ -1,5 +1,3 @@
-use Rattle.std.proofs.Common.{◌≡◌, ◌<◌, List, length, Some, None, inl, inr, refl, IfSome}
-use Rattle.std.specs.Option.{option_to_list}
 use Rattle.commonware_math.specs.SyntheticTerms.{IsIndexEnd}
 use Rattle.commonware_math.proofs.FreeTerms.{popped_first, popped_second}
 use Rattle.commonware_math.proofs.synthetic.merging.pop_greatest.Goals as goal

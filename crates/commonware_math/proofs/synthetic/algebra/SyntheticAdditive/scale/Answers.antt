@@ -2,7 +2,6 @@ use Rattle.std.proofs.Common.{◌≡◌, ◌≢◌, ◌↔◌, IsTrue, rules, te
 use Rattle.std.proofs.lemmas.Iterator.{cases_from_all, YieldsList-from_slice}
 use Rattle.math_theory.specs.Powers.{multiple, power-zero}
 use Rattle.math_theory.specs.Sums.{number_of_limbs}
-use Rattle.commonware_math.specs.Synthetics.{combination_zero, combination_sum}
 use Rattle.commonware_math.specs.SyntheticLaws.{combinations_equality}
 use Rattle.commonware_math.proofs.CombinationMaps.{multiple_map, repeated}
 use Rattle.commonware_math.proofs.Limbs.{zero_by_limbs}

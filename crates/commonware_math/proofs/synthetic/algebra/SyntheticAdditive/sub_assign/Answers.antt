@@ -1,4 +1,3 @@
-use Rattle.std.proofs.Common.{refl}
 use Rattle.commonware_math.specs.SyntheticLaws.{combinations_equality, combinations_group}
 use Rattle.commonware_math.proofs.WeightMaps.{indices-of_copies}
 use Rattle.commonware_math.proofs.synthetic.algebra.SyntheticAdditive.sub_assign.Goals as goal

@@ -1,8 +1,7 @@
-use Rattle.std.proofs.Common.{◌≡◌, ◌↔◌, ◌<◌, ◌∙◌, sym, ap, refl, [], length, take, get_or}
+use Rattle.std.proofs.Common.{◌≡◌, ◌∙◌, sym, ap, []}
 use Rattle.std.proofs.lemmas.List.{take_all}
-use Rattle.commonware_math.specs.Synthetics.{AreSameCombinations, combination_zero}
 use Rattle.commonware_math.specs.SyntheticLaws.{combinations_equality, combinations_group}
-use Rattle.commonware_math.proofs.EqualCombinations.{AreZeroWeights, zero_difference, zero_weights-next, zero_weights-at, weight-of_term, value-without_free}
+use Rattle.commonware_math.proofs.EqualCombinations.{zero_difference, zero_weights-next, zero_weights-at, weight-of_term, value-without_free}
 use Rattle.commonware_math.proofs.synthetic.algebra.SyntheticObject.equals.Goals as goal
 
 pub loop-term-init : goal.loop-term-init
