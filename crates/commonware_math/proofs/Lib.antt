@@ -2,3 +2,10 @@ pub mod WeightLoops
 pub mod InterpolatorLaws
 pub mod EqualKeys
 pub mod DifferencesByFours
+pub mod FreeTerms
+pub mod WeightMaps
+pub mod CombinationMaps
+pub mod FreeSums
+pub mod WeightedCombinations
+pub mod EqualCombinations
+pub mod GeneratorRuns

@@ -2,6 +2,7 @@
 #![tactic(auto)]
 
 pub mod poly;
+pub mod synthetic;
 
 pub use math_base::{algebra, fields};
 pub use math_codec::{codec, ordered};
