@@ -4,4 +4,6 @@ use Rattle.math_ntt.proofs.Levels.{lg-of_power}
 use Rattle.rows.proofs.calls.transforms.has_domain.Goals as goal
 
 pub returns : goal.returns
-returns g c = λ small l e. ?
+returns g c = λ small l e.
+    let at : trailing_zeros w64 c.args.rows ≡ l = lg-of_power l c.args.rows e (omega arith) in
+    omega arith
