@@ -22,7 +22,7 @@ use Rattle.math_base.specs.ElementEncodingLaws.{element_again}
 use Rattle.goldmath.specs.Lines.{line_end}
 use Rattle.goldmath.specs.Evaluations.{IsEncodedPolynomial, any_length, eval_line}
 
-all_below : (p : List F) → AllByRecursion (λ a. number a < P) p
+pub all_below : (p : List F) → AllByRecursion (λ a. number a < P) p
 all_below [] = tt
 all_below (a ∷ p) = (a.below, all_below p)
 

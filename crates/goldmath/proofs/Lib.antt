@@ -3,3 +3,9 @@ pub mod ParsedNumbers
 pub mod PrintedNumbers
 pub mod EncodedPolynomials
 pub mod EvalWords
+pub mod RecoverWords
+pub mod MarkedRows
+pub mod PlacedRows
+pub mod RecoveredMatrices
+pub mod ReadMatrices
+pub mod WrongWords

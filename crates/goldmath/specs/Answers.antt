@@ -1,5 +1,5 @@
 -- What the program answers.
-use Rattle.std.specs.Prelude.{◌≡◌, Result, Ok, Err, IfNone}
+use Rattle.std.specs.Prelude.{◌≡◌, ◌⊎◌, Result, Ok, Err, IfNone}
 use Rattle.math_codec.specs.Faults.{Fault, fault_of, Reports, IsMemory}
 use Rattle.goldmath.specs.declared.engine.ToolError.{ToolError}
 use Rattle.goldmath.specs.declared.engine.ToolError.TheVariants.{Usage, Refused}
@@ -13,6 +13,10 @@ IsUsage (Refused error) = ⊥
 abbrev pub IsOutOfMemory : ToolError → Type 0
 IsOutOfMemory Usage = ⊥
 IsOutOfMemory (Refused error) = IsMemory error
+
+-- the words are wrong, or memory ran out
+abbrev pub IsUsageOrOutOfMemory : ToolError → Type 0
+IsUsageOrOutOfMemory fault = IsUsage fault ⊎ IsOutOfMemory fault
 
 -- the refusal is that of the expected fault, or memory ran out
 abbrev pub Refuses : {A : Type 0} → ToolError → Result A Fault → Type 0

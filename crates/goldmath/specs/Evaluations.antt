@@ -5,7 +5,7 @@ use Rattle.std.specs.Int.{to_be_bytes, w64}
 use Rattle.math_theory.specs.Values.{value_over}
 use Rattle.math_codec.specs.declared.codec.range.LengthRange.{LengthRange}
 use Rattle.math_codec.specs.Faults.{Fault, scan_exactly}
-use Rattle.math_codec.specs.Lists.{list_spelling, scan_list}
+use Rattle.math_codec.specs.Lists.{list_spelling, scan_list, ListGrows}
 use Rattle.math_base.specs.declared.fields.goldilocks.F.{F}
 use Rattle.math_base.specs.Elements.{number, residue, sum, product}
 use Rattle.math_base.specs.ElementEncoding.{scan_element}
@@ -15,10 +15,6 @@ use Rattle.goldmath.specs.Numerals.{WritesPoint}
 -- the words are `eval` and one that writes the point
 abbrev pub AreEvalWords : List (List ℕ) → ℕ → Type 0
 AreEvalWords words point = (text : List ℕ) × (words ≡ codes "eval" ∷ text ∷ []) × WritesPoint text point
-
--- the words are those of no command
-abbrev pub AreWrongWords : List (List ℕ) → Type 0
-AreWrongWords words = (point : ℕ) → AreEvalWords words point → ⊥
 
 -- the bytes are the encoding of the polynomial with these coefficients
 pub record IsEncodedPolynomial (bytes : List ℕ) (coefficients : List F) : Type 0 where
@@ -33,6 +29,10 @@ any_length = record { low = 1; high = 2 ^ 32 - 1 }
 -- what reading the polynomial and nothing more meets: no fault, or the first one
 abbrev pub scan_polynomial : List ℕ → Result (Unit {0}) Fault
 scan_polynomial bytes = scan_exactly (scan_list any_length scan_element) bytes
+
+-- reading the polynomial takes memory
+abbrev pub PolynomialGrows : List ℕ → Type 0
+PolynomialGrows bytes = ListGrows any_length scan_element (λ _. ⊥) bytes
 
 -- the value in decimal, and a line end
 abbrev pub eval_line : List F → ℕ → List ℕ

@@ -11,7 +11,7 @@ abbrev pub line_end : List ℕ
 line_end = 10 ∷ []
 
 -- what is wrong with the bytes
-abbrev refusal_of : Error → List ℕ
+abbrev pub refusal_of : Error → List ℕ
 refusal_of (Memory _) = codes "out of memory"
 refusal_of EndOfBuffer = codes "end of buffer"
 refusal_of InvalidVarint = codes "invalid varint"

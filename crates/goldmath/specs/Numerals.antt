@@ -20,3 +20,8 @@ pub record WritesNumber (text : List ℕ) (number : ℕ) : Type 0 where
 pub record WritesPoint (text : List ℕ) (point : ℕ) : Type 0 where
   pub number : WritesNumber text point
   pub below_modulus : point < P
+
+-- the text writes the number, which is below 2^lg
+pub record WritesRow (lg : ℕ) (text : List ℕ) (row : ℕ) : Type 0 where
+  pub number : WritesNumber text row
+  pub below_size : row < 2 ^ lg

@@ -1,21 +1,28 @@
 //! The commands of the program.
 
-ghost use Rattle.std.specs.Prelude.{◌≡◌, ◌<◌, ℕ, List, Some, ◌⊎◌, IfOk, IfErr, IfSome, MatchResult, map, string_bytes};
+ghost use Rattle.std.specs.Prelude.{◌≡◌, ◌<◌, ℕ, List, Some, length, IfOk, IfErr, IfSome, MatchResult, map, string_bytes};
 ghost use Rattle.std.specs.List.{AllZip};
 ghost use Rattle.math_codec.specs.Faults.{Agrees, IsMemory, OnMemory};
-ghost use Rattle.math_codec.specs.Lists.{ListGrows};
 ghost use Rattle.math_base.specs.declared.fields.goldilocks.F.{F};
 ghost use Rattle.math_base.specs.Elements.{same};
-ghost use Rattle.math_base.specs.ElementEncoding.{scan_element};
-ghost use Rattle.goldmath.specs.Answers.{IsUsage, IsOutOfMemory, Meets, WhereOutOfMemory};
-ghost use Rattle.goldmath.specs.Evaluations.{AreEvalWords, AreWrongWords, IsEncodedPolynomial, any_length, scan_polynomial, eval_line};
+ghost use Rattle.goldmath.specs.Answers.{IsUsage, IsOutOfMemory, IsUsageOrOutOfMemory, Meets, WhereOutOfMemory};
+ghost use Rattle.goldmath.specs.Evaluations.{
+    AreEvalWords, IsEncodedPolynomial, PolynomialGrows, scan_polynomial, eval_line,
+};
+ghost use Rattle.goldmath.specs.Commands.{AreNoRecoverWords, AreWrongWords};
+ghost use Rattle.goldmath.specs.Recoveries.{
+    AreRecoverWords, EncodesRecovered, HasSize, IsEncodedMatrix, scan_rows,
+};
+ghost use Rattle.math_ntt.specs.Matrices.{MatrixOf};
+ghost use Rattle.math_codec.specs.declared.codec.error.Error.TheVariants.{Memory};
 ghost use Rattle.goldmath.specs.declared.engine.ToolError.TheVariants.{Refused};
 
+use crate::recovery::{recovered, recovery_in};
 use crate::text::{decimal_line, point_of};
 use commonware_math::codec::{self, LengthRange, Mem, decode};
 use commonware_math::fields::goldilocks::F;
 use commonware_math::poly::Poly;
-use std::alloc::Global;
+use std::alloc::{AllocError, Global};
 
 /// Why the program gives no answer.
 #[derive(Debug, Drop)]
@@ -31,6 +38,14 @@ impl From<codec::Error> for ToolError {
 
     fn from(error: codec::Error) -> ToolError {
         ToolError::Refused(error)
+    }
+}
+
+impl From<AllocError> for ToolError {
+    ghost from_gives = { λ error fault. fault ≡ Refused (Memory error) };
+
+    fn from(error: AllocError) -> ToolError {
+        ToolError::Refused(codec::Error::Memory(error))
     }
 }
 
@@ -51,7 +66,7 @@ fn decoded(alloc: Global, bytes: &[u8]) -> Result<Poly<F>, codec::Error>
     ensures encoded { (p : List F) → IsEncodedPolynomial bytes.now p
         → MatchResult result (λ q. AllZip same q p) IsMemory }
     ensures exact { Agrees (λ _. tt) result (scan_polynomial bytes.now) }
-    ensures memory { OnMemory result (ListGrows any_length scan_element (λ _. ⊥) bytes.now) }
+    ensures memory { OnMemory result (PolynomialGrows bytes.now) }
 {
     decode(alloc, bytes, &(LengthRange::at_most(u32::MAX), ()))
 }
@@ -71,10 +86,28 @@ fn evaluated(alloc: Global, point: u64, bytes: &[u8]) -> Result<Vec<u8>, codec::
     ensures encoded { (p : List F) → IsEncodedPolynomial bytes.now p
         → MatchResult result (λ line. line.items ≡ eval_line p point) IsMemory }
     ensures exact { Agrees (λ _. tt) result (scan_polynomial bytes.now) }
-    ensures memory { OnMemory result (ListGrows any_length scan_element (λ _. ⊥) bytes.now) }
+    ensures memory { OnMemory result (PolynomialGrows bytes.now) }
 {
     let polynomial = decoded(alloc, bytes)?;
     Ok(value_line(alloc, &polynomial, point)?)
+}
+
+/// The answer to `recover`, where the words are those of that command, and else `Usage`.
+fn run_recover(alloc: Global, words: &[String], bytes: &[u8]) -> Result<Vec<u8>, ToolError>
+    ensures usage { IfErr result (λ fault. IsUsage fault → AreNoRecoverWords (map string_bytes words.now)) }
+    ensures wrong { AreNoRecoverWords (map string_bytes words.now) → MatchResult result (λ _. ⊥) IsUsageOrOutOfMemory }
+    ensures recover { (lg : ℕ) (rows : List ℕ) → AreRecoverWords (map string_bytes words.now) lg rows
+        → IfOk result (λ out. (m : MatrixOf F) × IsEncodedMatrix bytes.now m × EncodesRecovered lg rows m out.items) }
+    ensures encoded { (lg : ℕ) (rows : List ℕ) (m : MatrixOf F) → AreRecoverWords (map string_bytes words.now) lg rows
+        → IsEncodedMatrix bytes.now m → HasSize lg (length rows) m
+        → MatchResult result (λ out. EncodesRecovered lg rows m out.items) IsOutOfMemory }
+    ensures exact { (lg : ℕ) (rows : List ℕ) → AreRecoverWords (map string_bytes words.now) lg rows
+        → Meets result (scan_rows lg (length rows) bytes.now) }
+{
+    match recovery_in(alloc, words)? {
+        Some(recovery) => Ok(recovered(alloc, &recovery, bytes)?),
+        None => Err(ToolError::Usage),
+    }
 }
 
 /// The answer to the command that the words are, given the bytes of standard input.
@@ -83,13 +116,20 @@ fn evaluated(alloc: Global, point: u64, bytes: &[u8]) -> Result<Vec<u8>, codec::
 /// coefficients, and nothing more; the answer is its value at POINT in decimal and a line end. POINT
 /// is 1 to 20 ASCII digits that write a number below P.
 ///
+/// `recover LG ROW..`: the bytes are one encoded matrix over the Goldilocks field, with at most 2^24
+/// rows, columns and cells, and nothing more. Row i holds, for each column, the value of a polynomial at
+/// the power of the root of order 2^LG that the i-th ROW names. The answer is the encoded matrix of 2^LG
+/// rows whose row i holds coefficient i of each polynomial: of the only one that has these values and
+/// whose coefficients from the number of rows on are zero. LG is at most 24, each ROW below 2^LG and none
+/// is there twice, all of 1 to 20 ASCII digits. Where there is not a ROW for each row of the matrix, or
+/// 2^LG rows of its columns would be more than 2^24 cells, the matrix is refused with `Invalid`.
+///
 /// Any other words are `Usage`; a fault of the words comes before any fault of the bytes. With good
 /// words and bytes that are no such encoding, the first fault of the bytes is refused by its name.
 pub fn run(alloc: Global, words: &[String], bytes: &[u8]) -> Result<Vec<u8>, ToolError>
     // The words.
     ensures usage { IfErr result (λ fault. IsUsage fault → AreWrongWords (map string_bytes words.now)) }
-    ensures wrong { AreWrongWords (map string_bytes words.now)
-        → MatchResult result (λ _. ⊥) (λ fault. IsUsage fault ⊎ IsOutOfMemory fault) }
+    ensures wrong { AreWrongWords (map string_bytes words.now) → MatchResult result (λ _. ⊥) IsUsageOrOutOfMemory }
 
     // `eval`: an answer is the value of the polynomial that the bytes encode, and it is given wherever they encode one.
     ensures eval { (point : ℕ) → AreEvalWords (map string_bytes words.now) point
@@ -101,10 +141,22 @@ pub fn run(alloc: Global, words: &[String], bytes: &[u8]) -> Result<Vec<u8>, Too
     ensures eval_exact { (point : ℕ) → AreEvalWords (map string_bytes words.now) point
         → Meets result (scan_polynomial bytes.now) }
     ensures eval_memory { (point : ℕ) → AreEvalWords (map string_bytes words.now) point
-        → IfErr result (λ fault. WhereOutOfMemory fault (ListGrows any_length scan_element (λ _. ⊥) bytes.now)) }
+        → IfErr result (λ fault. WhereOutOfMemory fault (PolynomialGrows bytes.now)) }
+
+    // `recover`: an answer is the encoding of the only matrix that is recovered from the one that the bytes encode,
+    // and it is given wherever they encode one of the right size.
+    ensures recover { (lg : ℕ) (rows : List ℕ) → AreRecoverWords (map string_bytes words.now) lg rows
+        → IfOk result (λ out. (m : MatrixOf F) × IsEncodedMatrix bytes.now m × EncodesRecovered lg rows m out.items) }
+    ensures recover_encoded { (lg : ℕ) (rows : List ℕ) (m : MatrixOf F) → AreRecoverWords (map string_bytes words.now) lg rows
+        → IsEncodedMatrix bytes.now m → HasSize lg (length rows) m
+        → MatchResult result (λ out. EncodesRecovered lg rows m out.items) IsOutOfMemory }
+
+    // `recover`: which fault of the bytes it is.
+    ensures recover_exact { (lg : ℕ) (rows : List ℕ) → AreRecoverWords (map string_bytes words.now) lg rows
+        → Meets result (scan_rows lg (length rows) bytes.now) }
 {
     match eval_point(words) {
         Some(point) => Ok(evaluated(alloc, point, bytes)?),
-        None => Err(ToolError::Usage),
+        None => run_recover(alloc, words, bytes),
     }
 }

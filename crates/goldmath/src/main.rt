@@ -4,6 +4,7 @@
 
 mod engine;
 mod laws;
+mod recovery;
 mod text;
 
 use engine::{ToolError, run};

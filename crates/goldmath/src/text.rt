@@ -1,30 +1,37 @@
 //! Numbers and faults as text: the points that words write, decimal lines, and the lines for standard error.
-ghost use Rattle.std.specs.Prelude.{◌≡◌, ℕ, ◌++◌, IfOk, IfSome, string_bytes};
+ghost use Rattle.std.specs.Prelude.{◌≡◌, ◌<◌, ◌^◌, ℕ, ◌++◌, IfOk, IfSome, string_bytes};
 ghost use Rattle.std.specs.Fmt.{decimal};
 ghost use Rattle.goldmath.specs.Lines.{line_end, line_of};
-ghost use Rattle.goldmath.specs.Numerals.{WritesPoint};
+ghost use Rattle.goldmath.specs.Numerals.{WritesNumber, WritesPoint};
 
 use crate::engine::ToolError;
 use commonware_math::codec::{Error, Mem};
 use commonware_math::fields::goldilocks::MODULUS;
 use std::alloc::Global;
 
-/// The point that a word writes: 1 to 20 ASCII digits, the most significant first, of a number below
-/// the modulus. Zeros may lead.
-///
-/// Any other word gives `None`: a sign is refused, and a number of the modulus or more is not reduced.
-pub fn point_of(word: &str) -> Option<u64>
-    ensures written { IfSome result (WritesPoint word.now) }
-    ensures found { (x : ℕ) → WritesPoint word.now x → result ≡ Some x }
+/// The number that a word writes: 1 to 20 ASCII digits, the most significant first, of a number below
+/// 2^64. Zeros may lead. Any other word gives `None`: a sign is refused.
+pub fn number_in(word: &str) -> Option<u64>
+    ensures written { IfSome result (WritesNumber word.now) }
+    ensures found { (n : ℕ) → n < 2 ^ 64 → WritesNumber word.now n → result ≡ Some n }
 {
     let digits = word.as_bytes();
     if digits.len() > 20 || !digits.iter().all(|byte| byte.is_ascii_digit()) {
         return None;
     }
     match word.parse::<u64>() {
-        Ok(point) => (point < MODULUS).then_some(point),
+        Ok(number) => Some(number),
         Err(_) => None,
     }
+}
+
+/// The point that a word writes, which is below the modulus. Any other word gives `None`: a number of
+/// the modulus or more is not reduced.
+pub fn point_of(word: &str) -> Option<u64>
+    ensures written { IfSome result (WritesPoint word.now) }
+    ensures found { (x : ℕ) → WritesPoint word.now x → result ≡ Some x }
+{
+    number_in(word).filter(|point| *point < MODULUS)
 }
 
 /// A number in decimal, without leading zeros, and a line end.

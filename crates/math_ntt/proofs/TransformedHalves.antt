@@ -53,7 +53,6 @@ module _ {A : Type 0} (R : RingOf A) (E : IsEquality R.same) (G : IsGroup R.same
         let half = λ (part done : List A) (t : AreTransformed R l v (matrix_of (2 ^ l) c part) (matrix_of (2 ^ l) c done)).
         classes-same E _ _ (t k m) ∙ transform-class E G P L l v (column_of R.zero (matrix_of (2 ^ l) c part) k)
         ∙ ap (λ x. DomainsOverRing.transform C l x (column (2 ^ l) c k part)) root in
-        let both = λ (x y : List (Class E)). OverRing.polynomial_sum C x (OverRing.polynomial_dilation C (class E w) y) ++ OverRing.polynomial_difference C x (OverRing.polynomial_dilation C (class E w) y) in
         let both = λ (x y : List (Class E)).
         OverRing.polynomial_sum C x (OverRing.polynomial_dilation C (class E w) y) ++ OverRing.polynomial_difference C x (OverRing.polynomial_dilation C (class E w) y) in
         same-classes E _ _

@@ -11,7 +11,7 @@ use Rattle.math_codec.specs.ListLaws.{list_again, list_apart}
 use Rattle.math_ntt.specs.Matrices.{MatrixOf, AreSame}
 use Rattle.math_ntt.specs.MatrixEncoding.{matrix_spelling, at_most, AdmitsMatrix, scan_count, scan_matrix}
 
-count_again : (most n : ℕ) (rest : List ℕ) → n < 2 ^ 32 → n ≤ most → scan_count most (length_spelling n ++ rest) ≡ Ok (n, rest)
+pub count_again : (most n : ℕ) (rest : List ℕ) → n < 2 ^ 32 → n ≤ most → scan_count most (length_spelling n ++ rest) ≡ Ok (n, rest)
 unfolding scan_count
 count_again most n rest h k =
     let low : ltb most n ≡ false = le-ltb most n k in

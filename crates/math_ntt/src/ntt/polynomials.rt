@@ -69,6 +69,13 @@ impl<F: Additive> Matrix<F> {
 }
 
 impl<F: Drop> PolynomialVector<F> {
+    /// The matrix of the coefficients: row i holds coefficient i of each polynomial.
+    pub fn data(self) -> Matrix<F>
+        ensures { result ≡ self }
+    {
+        self.coefficients
+    }
+
     /// The rows of the coefficients from the constants upwards, n rows or all where they are fewer.
     /// Each row has one coefficient a polynomial.
     pub fn coefficients_up_to(&self, n: usize) -> CoefficientRows<'_, F>

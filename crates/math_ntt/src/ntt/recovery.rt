@@ -32,7 +32,7 @@ use super::row_products::{dilate_rows, multiply_rows};
 use super::transform::{
     evaluate_rows, evaluation_table, interpolate_rows, interpolation_table, lg_of,
 };
-use super::vanishing::vanishing_coefficients;
+use super::vanishing::{domain_size, vanishing_coefficients};
 use super::vanishing_points::VanishingPoints;
 use super::work::Work;
 use math_base::algebra::{Additive, FieldNTT, Mem};
@@ -74,26 +74,46 @@ impl<F: FieldNTT> EvaluationVector<F> {
     {
         let mut matrix = self.matrix;
         let lg = lg_of(matrix.rows);
-        let filled = self.filled.count_non_vanishing() as usize;
-        if filled == matrix.rows {
-            interpolated(alloc, &mut matrix.cells, matrix.cols, lg, work)?;
-        } else if filled == 0 {
-            zeros(alloc, &mut matrix.cells)?;
-            interpolated(alloc, &mut matrix.cells, matrix.cols, lg, work)?;
-        } else {
-            recovered(
-                alloc,
-                &mut matrix.cells,
-                matrix.cols,
-                &self.filled,
-                lg,
-                work,
-            )?;
-        }
+        recovered_cells(alloc, &mut matrix.cells, matrix.cols, &self.filled, lg, work)?;
         Ok(PolynomialVector {
             coefficients: matrix,
         })
     }
+}
+
+/// The coefficients that fit the cells, whatever rows are filled.
+fn recovered_cells<F: FieldNTT>(
+    alloc: Global,
+    cells: &mut [F],
+    cols: usize,
+    points: &VanishingPoints,
+    lg: u8,
+    work: &mut Work,
+) -> Mem<()>
+    requires domain { lg ≤ F.MAX_LG_ROOT_ORDER }
+    requires small { lg < 64 }
+    requires size { length cells.old ≡ 2 ^ lg * cols }
+    requires points { length points.now ≡ 2 ^ lg }
+    requires room { work.old.butterflies ≤ 2 ^ 127 }
+    requires product_room { work.old.root_products ≤ 2 ^ 127 }
+    requires fits { 2 ^ lg * cols < 2 ^ 64 }
+    ensures size { length cells.new ≡ length cells.old }
+    ensures fits { OnOk result (AreRecovered F.Ring F.root (record { matrix = matrix_of (2 ^ lg) cols cells.old; filled = points.now }) (matrix_of (2 ^ lg) cols cells.new)) }
+    ensures most { AddsWithin (2 ^ lg * lg * (3 * lg + 3 * cols + 2)) (128 * 2 ^ lg) work.old work.new }
+    ensures exact { OnOk result (IsExactWork lg (record { matrix = matrix_of (2 ^ lg) cols cells.old; filled = points.now }) work.old work.new) }
+{
+    let filled = points.count_non_vanishing() as usize;
+    if filled == 0 {
+        zeros(alloc, cells)?;
+        interpolated(alloc, cells, cols, lg, work)?;
+        return Ok(());
+    }
+    if filled == domain_size(lg) {
+        interpolated(alloc, cells, cols, lg, work)?;
+        return Ok(());
+    }
+    recovered(alloc, cells, cols, points, lg, work)?;
+    Ok(())
 }
 
 /// Puts zero in place of each cell.

@@ -32,7 +32,7 @@ const WHOLE_LG: u8 = 8;
 const CHUNK_LG: u8 = 6;
 
 /// 2^lg.
-fn domain_size(lg: u8) -> usize
+pub(super) fn domain_size(lg: u8) -> usize
     requires { lg < 64 }
     ensures { result ≡ 2 ^ lg }
 {

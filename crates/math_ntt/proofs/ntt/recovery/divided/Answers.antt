@@ -1,6 +1,6 @@
 use Rattle.std.proofs.Common.{◌≡◌, ◌≢◌, ◌∙◌, ◌^◌, ◌*◌, ◌<◌, ℕ, length, get_or, arith}
 use Rattle.std.proofs.lemmas.List.{get_or_default}
-use Rattle.math_base.specs.Members.{RingOf}
+use Rattle.math_ntt.proofs.Members.{ring_members}
 use Rattle.math_ntt.proofs.DomainSteps.{coset-values, coset-values_one, quotients-on_coset}
 use Rattle.math_ntt.proofs.ntt.recovery.divided.Goals as goal
 
@@ -11,16 +11,7 @@ returns-clause-quotients g c = λ nonzero.
     let G = F.Additive.group in
     let P = F.Multiplicative.commutes in
     let L = F.Ring.ring in
-    let R : RingOf g.row.F.Denot = record {
-      product = g.F.Multiplicative.product;
-      debug_output = g.F.Debug.debug_output;
-      same = g.F.Object.same;
-      NEVER_REFUSES = g.F.Object.NEVER_REFUSES;
-      zero = g.F.Additive.zero;
-      sum = g.F.Additive.sum;
-      negative = g.F.Additive.negative;
-      one = g.F.Ring.one;
-    } in
+    let R = ring_members g.F.Multiplicative.product g.F.Debug.debug_output g.F.Object.same g.F.Object.NEVER_REFUSES g.F.Additive.zero g.F.Additive.sum g.F.Additive.negative g.F.Ring.one in
     let n = 2 ^ c.args.lg in
     let root = g.F.FieldNTT.root c.args.lg in
     let shift = g.F.FieldNTT.shift in

@@ -1,9 +1,15 @@
 use Rattle.std.proofs.Common.{rules, ◌≡◌, ◌≢◌, ◌∙◌, ◌+◌, ◌-◌, ◌*◌, ◌^◌, ◌<◌, ◌≤◌, ℕ, suc, length, ap, sym, arith}
 use Rattle.math_theory.specs.Domains.{HasExactOrder}
 use Rattle.math_theory.specs.Recovery.{count_true}
+<<<<<<< HEAD
 use Rattle.math_theory.proofs.domains.BuiltVanishing.{VanishesAt-halves}
 use Rattle.math_theory.proofs.domains.MergedPieces.{root-inverse}
 use Rattle.math_base.specs.Members.{RingOf}
+=======
+use Rattle.math_theory.proofs.domains.BuiltVanishing.{VanishesAt-halves}
+use Rattle.math_theory.proofs.domains.MergedPieces.{root-inverse}
+use Rattle.math_ntt.proofs.Members.{ring_members}
+>>>>>>> 0016d4c57554f094ba3bcd49aa2ccffea3e59166
 use Rattle.math_ntt.specs.MissingPoints.{every}
 use Rattle.math_ntt.proofs.Levels.{powers-below}
 use Rattle.math_ntt.proofs.MissingPlaces.{length-every, even_items-every, odd_items-every, count_true-halves}
@@ -19,16 +25,7 @@ tree-requires g t c κs within =
     let count = merges lg (omega arith) in
     let points = points-of_halves lg (omega arith) in
     let inverse_root : ℕ → _ = λ l. g.F.Field.inverse (g.F.FieldNTT.root l) in
-    let ring : RingOf g.row.F.Denot = record {
-      product = g.F.Multiplicative.product;
-      debug_output = g.F.Debug.debug_output;
-      same = g.F.Object.same;
-      NEVER_REFUSES = g.F.Object.NEVER_REFUSES;
-      zero = g.F.Additive.zero;
-      sum = g.F.Additive.sum;
-      negative = g.F.Additive.negative;
-      one = g.F.Ring.one;
-    } in
+    let ring = ring_members g.F.Multiplicative.product g.F.Debug.debug_output g.F.Object.same g.F.Object.NEVER_REFUSES g.F.Additive.zero g.F.Additive.sum g.F.Additive.negative g.F.Ring.one in
     (omega arith, (search rules, (omega arith, (omega arith, (omega arith, (omega arith, (omega arith, (below, (omega arith, (
       powers-below ring g.F.FieldNTT.root lg c.domain_size-half.result c.args.evaluation.now positive c.domain_size-half.ensures c.requires.evaluation c.split_at.result.0.now c.split_at.ensures.front,
       (powers-below ring inverse_root lg c.domain_size-half.result c.args.interpolation.now positive c.domain_size-half.ensures c.requires.interpolation c.split_at-2.result.0.now c.split_at-2.ensures.front,
@@ -43,16 +40,7 @@ tree-requires-2 g t c κs within =
     let points = points-of_halves lg (omega arith) in
     let inverse_root : ℕ → _ = λ l. g.F.Field.inverse (g.F.FieldNTT.root l) in
     let left = c.in_ok-left.ensures.bounded in
-    let ring : RingOf g.row.F.Denot = record {
-      product = g.F.Multiplicative.product;
-      debug_output = g.F.Debug.debug_output;
-      same = g.F.Object.same;
-      NEVER_REFUSES = g.F.Object.NEVER_REFUSES;
-      zero = g.F.Additive.zero;
-      sum = g.F.Additive.sum;
-      negative = g.F.Additive.negative;
-      one = g.F.Ring.one;
-    } in
+    let ring = ring_members g.F.Multiplicative.product g.F.Debug.debug_output g.F.Object.same g.F.Object.NEVER_REFUSES g.F.Additive.zero g.F.Additive.sum g.F.Additive.negative g.F.Ring.one in
     (omega arith, (search rules, (omega arith, (omega arith, (omega arith, (omega arith, (omega arith, (below, (omega arith, (
       powers-below ring g.F.FieldNTT.root lg c.domain_size-half.result c.args.evaluation.now positive c.domain_size-half.ensures c.requires.evaluation c.split_at.result.0.now c.split_at.ensures.front,
       (powers-below ring inverse_root lg c.domain_size-half.result c.args.interpolation.now positive c.domain_size-half.ensures c.requires.interpolation c.split_at-2.result.0.now c.split_at-2.ensures.front,

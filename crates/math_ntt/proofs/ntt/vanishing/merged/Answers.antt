@@ -1,10 +1,17 @@
 use Rattle.std.proofs.Common.{rules, ◌≡◌, ◌≢◌, ◌∙◌, ◌++◌, ℕ, suc, ◌+◌, ◌-◌, ◌*◌, ◌^◌, ◌<◌, ◌≤◌, length, take, drop, ap, vec_len, arith}
 use Rattle.math_theory.specs.Domains.{HasExactOrder}
 use Rattle.math_theory.specs.Values.{value}
+<<<<<<< HEAD
 use Rattle.math_theory.proofs.polynomials.BuiltPolynomials.{value-zeros_after}
 use Rattle.math_theory.proofs.domains.MergedPieces.{minus_one_nonzero, with_multiple-same, plus_case, minus_case, all_case, times_one-right, times_one-left, times_one-both, power-double-same, moved-power}
 use Rattle.math_base.proofs.WholeWrites.{take-written}
 use Rattle.math_base.specs.Members.{RingOf}
+=======
+use Rattle.math_theory.proofs.polynomials.BuiltPolynomials.{value-zeros_after}
+use Rattle.math_theory.proofs.domains.MergedPieces.{minus_one_nonzero, with_multiple-same, plus_case, minus_case, all_case, times_one-right, times_one-left, times_one-both, power-double-same, moved-power}
+use Rattle.math_base.proofs.WholeWrites.{take-written}
+use Rattle.math_ntt.proofs.Members.{ring_members}
+>>>>>>> 0016d4c57554f094ba3bcd49aa2ccffea3e59166
 use Rattle.math_ntt.proofs.DomainSteps.{value-moved}
 use Rattle.math_ntt.proofs.Levels.{powers-level, length-level}
 use Rattle.math_ntt.proofs.PowersOfTwo.{power_of_two-double}
@@ -119,16 +126,7 @@ returns-in_ok-all-in-Nowhere-left-3-clause-merged g c =
     let P = F.Multiplicative.commutes in
     let R = F.Ring.ring in
     let f = F.Field.field in
-    let ring : RingOf g.row.F.Denot = record {
-      product = g.F.Multiplicative.product;
-      debug_output = g.F.Debug.debug_output;
-      same = g.F.Object.same;
-      NEVER_REFUSES = g.F.Object.NEVER_REFUSES;
-      zero = g.F.Additive.zero;
-      sum = g.F.Additive.sum;
-      negative = g.F.Additive.negative;
-      one = g.F.Ring.one;
-    } in
+    let ring = ring_members g.F.Multiplicative.product g.F.Debug.debug_output g.F.Object.same g.F.Object.NEVER_REFUSES g.F.Additive.zero g.F.Additive.sum g.F.Additive.negative g.F.Ring.one in
     let lg = c.args.lg in
     let half = c.domain_size-half.result in
     let table = c.args.interpolation.now in
@@ -159,16 +157,7 @@ returns-in_ok-all-in-Everywhere-left-3-clause-merged g c =
     let P = F.Multiplicative.commutes in
     let R = F.Ring.ring in
     let f = F.Field.field in
-    let ring : RingOf g.row.F.Denot = record {
-      product = g.F.Multiplicative.product;
-      debug_output = g.F.Debug.debug_output;
-      same = g.F.Object.same;
-      NEVER_REFUSES = g.F.Object.NEVER_REFUSES;
-      zero = g.F.Additive.zero;
-      sum = g.F.Additive.sum;
-      negative = g.F.Additive.negative;
-      one = g.F.Ring.one;
-    } in
+    let ring = ring_members g.F.Multiplicative.product g.F.Debug.debug_output g.F.Object.same g.F.Object.NEVER_REFUSES g.F.Additive.zero g.F.Additive.sum g.F.Additive.negative g.F.Ring.one in
     let lg = c.args.lg in
     let half = c.domain_size-half.result in
     let table = c.args.interpolation.now in
@@ -200,16 +189,7 @@ returns-in_ok-all-in-Somewhere-left-3-clause-merged g c =
     let P = F.Multiplicative.commutes in
     let R = F.Ring.ring in
     let f = F.Field.field in
-    let ring : RingOf g.row.F.Denot = record {
-      product = g.F.Multiplicative.product;
-      debug_output = g.F.Debug.debug_output;
-      same = g.F.Object.same;
-      NEVER_REFUSES = g.F.Object.NEVER_REFUSES;
-      zero = g.F.Additive.zero;
-      sum = g.F.Additive.sum;
-      negative = g.F.Additive.negative;
-      one = g.F.Ring.one;
-    } in
+    let ring = ring_members g.F.Multiplicative.product g.F.Debug.debug_output g.F.Object.same g.F.Object.NEVER_REFUSES g.F.Additive.zero g.F.Additive.sum g.F.Additive.negative g.F.Ring.one in
     let lg = c.args.lg in
     let half = c.domain_size-half.result in
     let table = c.args.interpolation.now in
