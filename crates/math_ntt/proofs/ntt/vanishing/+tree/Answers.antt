@@ -1,15 +1,9 @@
 use Rattle.std.proofs.Common.{rules, ◌≡◌, ◌≢◌, ◌∙◌, ◌+◌, ◌-◌, ◌*◌, ◌^◌, ◌<◌, ◌≤◌, ℕ, suc, length, ap, sym, arith}
 use Rattle.math_theory.specs.Domains.{HasExactOrder}
 use Rattle.math_theory.specs.Recovery.{count_true}
-<<<<<<< HEAD
-use Rattle.math_theory.proofs.domains.BuiltVanishing.{VanishesAt-halves}
-use Rattle.math_theory.proofs.domains.MergedPieces.{root-inverse}
-use Rattle.math_base.specs.Members.{RingOf}
-=======
 use Rattle.math_theory.proofs.domains.BuiltVanishing.{VanishesAt-halves}
 use Rattle.math_theory.proofs.domains.MergedPieces.{root-inverse}
 use Rattle.math_ntt.proofs.Members.{ring_members}
->>>>>>> 0016d4c57554f094ba3bcd49aa2ccffea3e59166
 use Rattle.math_ntt.specs.MissingPoints.{every}
 use Rattle.math_ntt.proofs.Levels.{powers-below}
 use Rattle.math_ntt.proofs.MissingPlaces.{length-every, even_items-every, odd_items-every, count_true-halves}

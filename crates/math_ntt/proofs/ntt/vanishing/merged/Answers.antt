@@ -1,17 +1,10 @@
 use Rattle.std.proofs.Common.{rules, ◌≡◌, ◌≢◌, ◌∙◌, ◌++◌, ℕ, suc, ◌+◌, ◌-◌, ◌*◌, ◌^◌, ◌<◌, ◌≤◌, length, take, drop, ap, vec_len, arith}
 use Rattle.math_theory.specs.Domains.{HasExactOrder}
 use Rattle.math_theory.specs.Values.{value}
-<<<<<<< HEAD
-use Rattle.math_theory.proofs.polynomials.BuiltPolynomials.{value-zeros_after}
-use Rattle.math_theory.proofs.domains.MergedPieces.{minus_one_nonzero, with_multiple-same, plus_case, minus_case, all_case, times_one-right, times_one-left, times_one-both, power-double-same, moved-power}
-use Rattle.math_base.proofs.WholeWrites.{take-written}
-use Rattle.math_base.specs.Members.{RingOf}
-=======
 use Rattle.math_theory.proofs.polynomials.BuiltPolynomials.{value-zeros_after}
 use Rattle.math_theory.proofs.domains.MergedPieces.{minus_one_nonzero, with_multiple-same, plus_case, minus_case, all_case, times_one-right, times_one-left, times_one-both, power-double-same, moved-power}
 use Rattle.math_base.proofs.WholeWrites.{take-written}
 use Rattle.math_ntt.proofs.Members.{ring_members}
->>>>>>> 0016d4c57554f094ba3bcd49aa2ccffea3e59166
 use Rattle.math_ntt.proofs.DomainSteps.{value-moved}
 use Rattle.math_ntt.proofs.Levels.{powers-level, length-level}
 use Rattle.math_ntt.proofs.PowersOfTwo.{power_of_two-double}
