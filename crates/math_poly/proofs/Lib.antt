@@ -8,7 +8,6 @@ pub mod Limbs
 pub mod GreatestCount
 pub mod GeometricItems
 pub mod AddedTerms
-pub mod ZippedLists
 pub mod CombinationSteps
 pub mod ListSizes
 pub mod HornerSteps

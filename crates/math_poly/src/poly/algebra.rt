@@ -225,7 +225,8 @@ impl<K: Additive> Additive for Poly<K> {
 
     /// Doubles each coefficient. Where it is refused, the polynomial is as it was.
     fn double(&mut self, alloc: Global) -> Mem<()>
-        ensures ok { OnOk result (HaveSameCoefficients K.same K.zero self.new (polynomial_sum K.sum self.old self.old)) }
+        ensures ok { OnOk result (HaveSameCoefficients K.same K.zero self.new
+            (polynomial_sum K.sum self.old self.old)) }
         ensures count { OnOk result (length self.new ≡ length self.old) }
         ensures err { OnErr result (self.new ≡ self.old) }
     {
@@ -258,7 +259,8 @@ impl<K: Additive> Additive for Poly<K> {
         let out = self.translate(
             alloc,
             |c: &K| -> Mem<K>
-                ensures { IfOk result (λ d. K.same d (multiple K.zero K.sum c.now (number_of_limbs bits_le.entry.now))) }
+                ensures { IfOk result (λ d. K.same d
+                    (multiple K.zero K.sum c.now (number_of_limbs bits_le.entry.now))) }
             { c.scale(alloc, bits_le) },
         )?;
         Ok(out)
@@ -309,7 +311,8 @@ impl<R: Ring, K: Space<R>> Space<R> for Poly<K> {
     /// Coefficient i of the sum is the weighted sum of the coefficients i.
     fn msm(alloc: Global, points: &[Self], scalars: &[R]) -> Mem<Self>
         ensures ok { IfOk result (λ answer. HaveSameCoefficients K.same K.zero answer
-            (weighted_sum (K.zero ∷ []) (polynomial_sum K.sum) (polynomial_multiple K.scaling) points.now scalars.now)) }
+            (weighted_sum (K.zero ∷ []) (polynomial_sum K.sum) (polynomial_multiple K.scaling)
+            points.now scalars.now)) }
         ensures count { IfOk result (λ answer. length answer ≡ greatest_count (take (length scalars.now) points.now)) }
     {
         let weighted = &points[..points.len().min(scalars.len())];

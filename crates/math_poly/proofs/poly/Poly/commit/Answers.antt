@@ -1,7 +1,7 @@
 use Rattle.std.proofs.Common.{◌≡◌, ◌++◌, [], ◌∷◌, take, arith}
 use Rattle.std.proofs.lemmas.List.{length_push, take_all}
 use Rattle.math_theory.proofs.polynomials.ScaledPoint.{value_over-scaled_point}
-use Rattle.math_poly.proofs.ZippedLists.{AllZip-take_push}
+use Rattle.math_poly.proofs.PlaceByPlace.{AllZip-next}
 use Rattle.math_poly.proofs.poly.Poly.commit.Goals as goal
 
 pub loop-scalar-preserved : goal.loop-scalar-preserved
@@ -16,7 +16,7 @@ loop-scalar-preserved g c =
     let scaled = E.transitive _ _ _ c.in_ok-scale_assign.ensures.ok (G.Space.spans.respects_points _ _ scalar generator) in
     rw pushed record {
       count = omega (arith, length_push elements element, c.loop-scalar.invariant.count);
-      each = AllZip-take_push _ c.loop-scalar.scalar-index c.deref-scalar-items.result.now elements scalar scalar element c.loop-scalar-test.true c.scalar-item.is c.loop-scalar.invariant.each scaled;
+      each = AllZip-next _ c.deref-scalar-items.result.now elements c.loop-scalar.scalar-index scalar element c.loop-scalar-test.true c.scalar-item.is c.loop-scalar.invariant.each scaled;
     }
 
 pub returns-clause-values : goal.returns-clause-values
