@@ -9,6 +9,7 @@ mod interpolation;
 mod maps;
 mod matrices;
 mod polynomials;
+mod recovery;
 mod sampling;
 mod transforms;
 mod vectors;
@@ -36,6 +37,7 @@ fn at_any<R: Element>(alloc: Global, row: Row<'_>, answer: &mut Answer<R>) -> Re
             || matrices::run(alloc, call, arguments, answer)?
             || vectors::run(alloc, call, arguments, answer)?
             || transforms::run(alloc, call, arguments, answer)?
+            || recovery::run(alloc, call, arguments, answer)?
             || goldilocks::run(alloc, call, arguments, &mut answer.text)?
             || encodings::run(alloc, call, arguments, &mut answer.text)?
             || maps::run(alloc, call, arguments, &mut answer.text)?

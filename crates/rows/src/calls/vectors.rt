@@ -95,7 +95,7 @@ fn same_polynomials<R: Element>(
 }
 
 /// What a row is filled with, from `ROW : CELL ..`.
-fn fill<R: Element>(alloc: Global, text: &str) -> Result<(usize, Vec<R>), Fault> {
+pub fn fill<R: Element>(alloc: Global, text: &str) -> Result<(usize, Vec<R>), Fault> {
     let (row, cells) = parted(text, ':')?;
     let row = number(row.trim())? as usize;
     Ok((row, elements::<R>(alloc, cells)?))

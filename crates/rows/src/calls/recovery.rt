@@ -1,0 +1,369 @@
+//! Polynomials recovered from some rows of values.
+
+use super::matrices::put_matrix;
+use super::transforms::has_domain;
+use super::vectors::fill;
+use crate::answer::Answer;
+use crate::fault::Fault;
+use crate::words::{number, parted, two_numbers};
+use commonware_math::algebra::{Additive, Mem, Object, Ring};
+use commonware_math::fields::goldilocks::MODULUS;
+use commonware_math::ntt::{EvaluationVector, PolynomialVector, Work};
+use math_samples::elements::Element;
+use std::alloc::Global;
+
+/// Runs a call of this module; `false` where it is none.
+pub fn run<R: Element>(
+    alloc: Global,
+    call: &str,
+    arguments: &str,
+    answer: &mut Answer<R>,
+) -> Result<bool, Fault> {
+    match call {
+        "recover" => recover(alloc, arguments, answer)?,
+        "recover_counted" => recover_counted(alloc, arguments, answer)?,
+        "recover-ones" => recover_ones(alloc, arguments, answer)?,
+        "recover-words" => recover_words(alloc, arguments, answer)?,
+        "recover_ones_within" => recover_within(alloc, arguments, answer)?,
+        "recover_each_set" => recover_each_set::<R>(alloc, arguments, answer)?,
+        _ => return Ok(false),
+    }
+    Ok(true)
+}
+
+/// Rows of values, some of which are filled.
+#[derive(Drop)]
+struct Values<R: Element> {
+    vector: EvaluationVector<R>,
+    rows: usize,
+    cols: usize,
+    ghost has_rows: { vector.matrix.rows ≡ rows },
+    ghost has_cols: { vector.matrix.cols ≡ cols },
+}
+
+impl<R: Element> Values<R> {
+    /// 2^lg rows of zeros, none of which is filled.
+    fn empty(alloc: Global, lg: u64, cols: u64) -> Result<Values<R>, Fault> {
+        if lg >= 64 {
+            return Err(Fault::OutOfRange("too many rows"));
+        }
+        let rows: usize = 1 << lg;
+        let cols = cols as usize;
+        if rows.checked_mul(cols).is_none() {
+            return Err(Fault::OutOfRange("too many cells"));
+        }
+        let vector = EvaluationVector::empty(alloc, lg as usize, cols)?;
+        Ok(Values { vector, rows, cols })
+    }
+
+    /// Fills a row.
+    fn fill(&mut self, alloc: Global, row: usize, cells: &[R]) -> Result<(), Fault> {
+        if row >= self.rows || cells.len() > self.cols {
+            return Err(Fault::OutOfRange("no such cells"));
+        }
+        self.vector.fill_row(alloc, row, cells)?;
+        Ok(())
+    }
+
+    /// The polynomials that fit, and the work that they took.
+    fn recovered(self, alloc: Global) -> Result<(PolynomialVector<R>, Work), Fault> {
+        if !has_domain::<R>(self.rows) {
+            return Err(Fault::OutOfRange("no such domain"));
+        }
+        let mut work = Work::new();
+        let polynomials = self.vector.recover_counted(alloc, &mut work)?;
+        Ok((polynomials, work))
+    }
+}
+
+/// Which rows of a domain are filled.
+#[derive(Clone, Copy)]
+enum Rule {
+    /// Those of even and of odd numbers, from these numbers on.
+    From(usize, usize),
+    /// Those below a number.
+    Below(usize),
+    /// Those that are multiples of a number.
+    Multiples(usize),
+    /// Those that are none.
+    Others(usize),
+    /// Those at the bits of a number.
+    Bits(u64),
+}
+
+impl Rule {
+    /// Whether a row is filled.
+    fn fills(self, row: usize) -> bool {
+        match self {
+            Rule::From(even, odd) => row >= if row % 2 == 0 { even } else { odd },
+            Rule::Below(end) => row < end,
+            Rule::Multiples(d) => d != 0 && row % d == 0,
+            Rule::Others(d) => d == 0 || row % d != 0,
+            Rule::Bits(set) => row < 64 && (set >> row) & 1 == 1,
+        }
+    }
+}
+
+/// The first row that is filled of those of a parity, by what is missing of them: none (`n`), those below
+/// half of the rows (`s`), or all (`e`).
+fn start(missing: char, rows: usize) -> Result<usize, Fault> {
+    match missing {
+        'n' => Ok(0),
+        's' => Ok(rows / 2),
+        'e' => Ok(rows),
+        _ => Err(Fault::Unreadable("rule")),
+    }
+}
+
+/// The rule that words are: two letters, or a word and a number.
+fn rule(text: &str, rows: usize) -> Result<Rule, Fault> {
+    let text = text.trim();
+    if let Some((name, n)) = text.split_once(' ') {
+        let n = number(n.trim())? as usize;
+        return match name {
+            "below" => Ok(Rule::Below(n)),
+            "multiples" => Ok(Rule::Multiples(n)),
+            "others" => Ok(Rule::Others(n)),
+            _ => Err(Fault::Unreadable("rule")),
+        };
+    }
+    let mut letters = text.chars();
+    match (letters.next(), letters.next()) {
+        (Some(even), Some(odd)) => Ok(Rule::From(start(even, rows)?, start(odd, rows)?)),
+        _ => Err(Fault::Unreadable("rule")),
+    }
+}
+
+/// One column of 2^lg rows, of which those that the rule names are filled with one.
+fn ones<R: Element>(alloc: Global, lg: u64, rule: Rule) -> Result<Values<R>, Fault> {
+    let mut values = Values::empty(alloc, lg, 1)?;
+    let one = [R::one(alloc)?];
+    for row in 0..values.rows {
+        if rule.fills(row) {
+            values.fill(alloc, row, &one)?;
+        }
+    }
+    Ok(values)
+}
+
+/// Whether all elements are zero.
+fn all_zero<R: Element>(alloc: Global, cells: &[R], zero: &R) -> Mem<bool> {
+    for cell in cells {
+        if !cell.equals(alloc, zero)? {
+            return Ok(false);
+        }
+    }
+    Ok(true)
+}
+
+/// How many rows there are up to the last one that is not zero, and how many in all.
+fn row_counts<R: Element>(alloc: Global, polynomials: &PolynomialVector<R>) -> Mem<(u64, u64)> {
+    let zero = R::zero(alloc)?;
+    let mut count = 0u64;
+    let mut used = 0;
+    for row in polynomials.coefficients_up_to(usize::MAX) {
+        count = count.saturating_add(1);
+        if !all_zero(alloc, row, &zero)? {
+            used = count;
+        }
+    }
+    Ok((used, count))
+}
+
+/// Adds the rows of coefficients up to the last one that is not zero, with `;` between them, and how many
+/// rows of zeros follow.
+fn put_rows<R: Element>(
+    alloc: Global,
+    polynomials: &PolynomialVector<R>,
+    answer: &mut Answer<R>,
+) -> Mem<()> {
+    let (used, count) = row_counts(alloc, polynomials)?;
+    for (i, row) in polynomials.coefficients_up_to(used as usize).enumerate() {
+        if i > 0 {
+            answer.text.push_str(" ;")?;
+        }
+        answer.copies(alloc, row)?;
+    }
+    write!(answer.text, " + {} zero rows", count.saturating_sub(used))
+}
+
+/// `recover LG COLUMNS ROW: CELL .. ; ..`: the rows of coefficients.
+fn recover<R: Element>(
+    alloc: Global,
+    arguments: &str,
+    answer: &mut Answer<R>,
+) -> Result<(), Fault> {
+    let (lg, rest) = parted(arguments.trim(), ' ')?;
+    let (cols, rows) = rest.split_once(' ').unwrap_or((rest, ""));
+    let mut values = Values::empty(alloc, number(lg)?, number(cols)?)?;
+    for part in rows.split(';') {
+        if !part.trim().is_empty() {
+            let (row, cells) = fill::<R>(alloc, part)?;
+            values.fill(alloc, row, &cells)?;
+        }
+    }
+    let (polynomials, _work) = values.recovered(alloc)?;
+    put_rows(alloc, &polynomials, answer)?;
+    Ok(())
+}
+
+/// `recover_counted LG COLUMNS @ ROW : CELL .. @ ..`: butterflies, root products, and the coefficients.
+fn recover_counted<R: Element>(
+    alloc: Global,
+    arguments: &str,
+    answer: &mut Answer<R>,
+) -> Result<(), Fault> {
+    let (size, _rows) = arguments.split_once('@').unwrap_or((arguments, ""));
+    let (lg, cols) = two_numbers(size)?;
+    let mut values = Values::empty(alloc, lg, cols)?;
+    for part in arguments.split('@').skip(1) {
+        let (row, cells) = fill::<R>(alloc, part)?;
+        values.fill(alloc, row, &cells)?;
+    }
+    let (polynomials, work) = values.recovered(alloc)?;
+    write!(answer.text, " {} {}", work.butterflies(), work.root_products())?;
+    put_matrix(alloc, &polynomials.data(), answer)?;
+    Ok(())
+}
+
+/// The rule and the lg of `LG RULE`.
+fn lg_and_rule(text: &str) -> Result<(u64, Rule), Fault> {
+    let (lg, words) = parted(text.trim(), ' ')?;
+    let lg = number(lg)?;
+    if lg >= 64 {
+        return Err(Fault::OutOfRange("too many rows"));
+    }
+    Ok((lg, rule(words, 1 << lg)?))
+}
+
+/// `recover-ones LG RULE`: the rows of coefficients of one column, filled with one by the rule.
+fn recover_ones<R: Element>(
+    alloc: Global,
+    arguments: &str,
+    answer: &mut Answer<R>,
+) -> Result<(), Fault> {
+    let (lg, rule) = lg_and_rule(arguments)?;
+    let (polynomials, _work) = ones::<R>(alloc, lg, rule)?.recovered(alloc)?;
+    put_rows(alloc, &polynomials, answer)?;
+    Ok(())
+}
+
+/// `recover_ones_within LG RULE @ B R`: the same, and `within` where it took at most B butterflies and R
+/// root products, else how many.
+fn recover_within<R: Element>(
+    alloc: Global,
+    arguments: &str,
+    answer: &mut Answer<R>,
+) -> Result<(), Fault> {
+    let (column, bounds) = parted(arguments, '@')?;
+    let (lg, rule) = lg_and_rule(column)?;
+    let (butterflies, root_products) = two_numbers(bounds)?;
+    let (polynomials, work) = ones::<R>(alloc, lg, rule)?.recovered(alloc)?;
+    put_rows(alloc, &polynomials, answer)?;
+    if work.butterflies() <= u128::from(butterflies)
+        && work.root_products() <= u128::from(root_products)
+    {
+        answer.text.push_str(" within")?;
+    } else {
+        write!(answer.text, " {} {}", work.butterflies(), work.root_products())?;
+    }
+    Ok(())
+}
+
+/// Whether the coefficients are one and then zeros; or all zero, where no row was filled.
+fn is_constant<R: Element>(
+    alloc: Global,
+    polynomials: &PolynomialVector<R>,
+    filled: bool,
+) -> Mem<bool> {
+    let (used, _count) = row_counts(alloc, polynomials)?;
+    let one = R::one(alloc)?;
+    for row in polynomials.coefficients_up_to(1) {
+        for cell in row {
+            if filled && !cell.equals(alloc, &one)? {
+                return Ok(false);
+            }
+        }
+    }
+    Ok(used == u64::from(filled))
+}
+
+/// `recover_each_set LG`: of how many sets of filled rows, with one in each, the constant one is
+/// recovered, or zero of none. LG is at most 5.
+fn recover_each_set<R: Element>(
+    alloc: Global,
+    arguments: &str,
+    answer: &mut Answer<R>,
+) -> Result<(), Fault> {
+    let lg = number(arguments.trim())?;
+    if lg > 5 {
+        return Err(Fault::OutOfRange("too many sets"));
+    }
+    let mut fits = 0u64;
+    for set in 0..1u64 << (1u64 << lg) {
+        let (polynomials, _work) = ones::<R>(alloc, lg, Rule::Bits(set))?.recovered(alloc)?;
+        if is_constant(alloc, &polynomials, set > 0)? {
+            fits = fits.saturating_add(1);
+        }
+    }
+    write!(answer.text, " {fits}")?;
+    Ok(())
+}
+
+/// The next word of the generator splitmix64.
+fn next_word(state: &mut u64) -> u64 {
+    *state = state.wrapping_add(0x9e37_79b9_7f4a_7c15);
+    let a = (*state ^ (*state >> 30)).wrapping_mul(0xbf58_476d_1ce4_e5b9);
+    let b = (a ^ (a >> 27)).wrapping_mul(0x94d0_49bb_1331_11eb);
+    b ^ (b >> 31)
+}
+
+/// The next word below P, of at most 64 looked at.
+fn next_element<R: Element>(alloc: Global, state: &mut u64) -> Result<R, Fault> {
+    for _ in 0..64 {
+        let word = next_word(state);
+        if word < MODULUS {
+            return Ok(R::from_number(alloc, word)?);
+        }
+    }
+    Err(Fault::Unreadable("element"))
+}
+
+/// One step of the hash FNV-1a, for the eight bytes of a number, lowest first.
+fn hashed(hash: u64, n: u64) -> u64 {
+    let mut out = hash;
+    for byte in n.to_le_bytes() {
+        out = (out ^ u64::from(byte)).wrapping_mul(0x0000_0100_0000_01b3);
+    }
+    out
+}
+
+/// `recover-words LG RULE`: two columns of words of splitmix64, whose state begins at LG times 2^32, in the
+/// rows that are filled, and the hash FNV-1a of all coefficients.
+fn recover_words<R: Element>(
+    alloc: Global,
+    arguments: &str,
+    answer: &mut Answer<R>,
+) -> Result<(), Fault> {
+    let (lg, rule) = lg_and_rule(arguments)?;
+    let mut values = Values::<R>::empty(alloc, lg, 2)?;
+    let mut state = lg << 32;
+    for row in 0..values.rows {
+        if rule.fills(row) {
+            let cells = [
+                next_element::<R>(alloc, &mut state)?,
+                next_element::<R>(alloc, &mut state)?,
+            ];
+            values.fill(alloc, row, &cells)?;
+        }
+    }
+    let (polynomials, _work) = values.recovered(alloc)?;
+    let mut hash = 0xcbf2_9ce4_8422_2325;
+    for row in polynomials.coefficients_up_to(usize::MAX) {
+        for cell in row {
+            hash = hashed(hash, cell.parts().0);
+        }
+    }
+    write!(answer.text, " fnv {hash:016x}")?;
+    Ok(())
+}
