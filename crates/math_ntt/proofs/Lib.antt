@@ -29,3 +29,4 @@ pub mod PowerTables
 pub mod RecoveryCounts
 pub mod OnDomain
 pub mod OneColumn
+pub mod RecoveredWholes
