@@ -30,3 +30,4 @@ pub mod PowerTables
 pub mod RecoveryCounts
 pub mod OnDomain
 pub mod OneColumn
+pub mod RecoveredWholes

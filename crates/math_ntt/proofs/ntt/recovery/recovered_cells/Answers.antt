@@ -1,5 +1,70 @@
-use Rattle.std.proofs.Common.{rules, arith}
+use Rattle.std.proofs.Common.{rules, ◌≡◌, ◌∙◌, inl, inr, ◌+◌, ◌*◌, ◌^◌, ◌<◌, length, replicate, false, get_or, sym, ap, arith}
+use Rattle.std.proofs.lemmas.List.{get_or-replicate}
+use Rattle.std.proofs.lemmas.Nat.{mul-add-lt}
+use Rattle.math_theory.proofs.RecoveredColumns.{fits-none, fits-all}
+use Rattle.math_ntt.specs.DomainValues.{matrix_of}
+use Rattle.math_ntt.specs.Matrices.{column_of}
+use Rattle.math_ntt.proofs.DomainSteps.{column-cell}
+use Rattle.math_ntt.proofs.MatrixRows.{length-column}
+use Rattle.math_ntt.proofs.MissingPlaces.{count_both, all_missing}
+use Rattle.math_ntt.proofs.PowersOfTwo.{power_of_two-same}
 use Rattle.math_ntt.proofs.ntt.recovery.recovered_cells.Goals as goal
 
 pub returns-clause-exact : goal.returns-clause-exact
-returns-clause-exact g c = ?
+returns-clause-exact g c =
+    let points = c.args.points.now in
+    let filled = c.count_non_vanishing-filled.ensures in
+    let size = c.domain_size.ensures in
+    record {
+      none_or_all = λ h. elim h [
+        | inl none ↦ absurd (omega (arith, none))
+        | inr all ↦ absurd (omega (arith, all, count_both points))
+      ];
+      some = λ some missing small. (c.in_ok-recovered.ensures.butterflies small, c.in_ok-recovered.ensures.root_products small);
+    }
+
+pub returns-then-filled-domain_size-clause-exact : goal.returns-then-filled-domain_size-clause-exact
+returns-then-filled-domain_size-clause-exact g c =
+    let points = c.args.points.now in
+    let filled = c.count_non_vanishing-filled.ensures in
+    let size = c.domain_size.ensures in
+    let bound = c.in_ok-interpolated-2.ensures.bounded in
+    record {
+      none_or_all = λ h. (c.in_ok-interpolated-2.ensures.counted, bound.root_products);
+      some = λ some missing small. absurd (omega (arith, missing, count_both points));
+    }
+
+pub returns-then-filled-domain_size-clause-fits : goal.returns-then-filled-domain_size-clause-fits
+returns-then-filled-domain_size-clause-fits g c = λ m k e b.
+    let F = g.met.F in
+    let E = F.Object.equality in
+    let zero = g.F.Additive.zero in
+    let lg = c.args.lg in
+    let n = 2 ^ lg in
+    let cols = c.args.cols in
+    let cells = matrix_of n cols c.args.cells.now in
+    let out = matrix_of n cols c.interpolated-then-filled-domain_size.new.cells in
+    let filled = c.count_non_vanishing-filled.ensures in
+    let size = c.domain_size.ensures in
+    rw (← power_of_two-same lg m e)
+    (fits-all E F.Additive.group F.Multiplicative.commutes F.Ring.ring F.Field.field (g.F.FieldNTT.root lg) n (F.FieldNTT.roots.order lg c.requires.domain) (column_of zero cells k) (column_of zero out k) c.args.points.now
+    (length-column zero cells k) (length-column zero out k) (omega arith)
+    (λ i l. rw (column-cell zero n cols k i c.args.cells.now l b) (E.symmetric _ _ (c.in_ok-interpolated-2.ensures.values i k l b))))
+
+pub returns-then-filled-eq0-clause-fits : goal.returns-then-filled-eq0-clause-fits
+returns-then-filled-eq0-clause-fits g c = λ m k e b.
+    let F = g.met.F in
+    let E = F.Object.equality in
+    let zero = g.F.Additive.zero in
+    let lg = c.args.lg in
+    let n = 2 ^ lg in
+    let cols = c.args.cols in
+    let cells = matrix_of n cols c.args.cells.now in
+    let out = matrix_of n cols c.interpolated.new.cells in
+    let filled = c.count_non_vanishing-filled.ensures in
+    let none = all_missing c.args.points.now n c.requires.points (omega arith) in
+    let long : length c.zeros.new.cells ≡ n * cols = c.zeros.auto.cells ∙ c.requires.size in
+    rw (← power_of_two-same lg m e)
+    (fits-none E F.Additive.group F.Multiplicative.commutes F.Ring.ring F.Field.field (g.F.FieldNTT.root lg) n (F.FieldNTT.roots.order lg c.requires.domain) (column_of zero cells k) (column_of zero out k) c.args.points.now
+    (length-column zero cells k) (length-column zero out k) (λ j l. rw none (get_or-replicate n j false false l))
+    (λ i l. E.transitive _ _ _ (E.symmetric _ _ (c.in_ok-interpolated.ensures.values i k l b)) (c.in_ok-zeros.ensures (i * cols + k) zero (omega (arith, long, mul-add-lt i cols k n l b)))))

@@ -1,0 +1,54 @@
+use Rattle.std.proofs.Common.{◌≡◌, ◌∙◌, ℕ, ◌+◌, ◌*◌, ◌^◌, ◌++◌, length, take, drop, ap, sym, subst}
+use Rattle.math_theory.proofs.WholeWrites.{take-written}
+use Rattle.math_ntt.specs.Matrices.{MatrixOf}
+use Rattle.math_ntt.specs.Evaluations.{EvaluationsOf}
+use Rattle.math_ntt.specs.DomainValues.{matrix_of}
+use Rattle.math_ntt.specs.RecoveredRows.{AreOnlyRecovered, IsExactWork}
+use Rattle.math_ntt.specs.RecoveryWork.{AddsWithin}
+use Rattle.math_ntt.proofs.Members.{ring_members}
+use Rattle.math_ntt.proofs.RecoveredWholes.{evaluations, most-at_any, exact-at_any, only-recovered}
+use Rattle.math_ntt.proofs.ntt.evaluations.EvaluationVector.recover_counted.Goals as goal
+
+pub returns-in_err-recovered_cells-clause-most : goal.returns-in_err-recovered_cells-clause-most
+returns-in_err-recovered_cells-clause-most g c =
+    let inner = c.matrix.inside in
+    let self_is : evaluations inner.rows inner.cols inner.cells.items c.self.inside.filled ≡ c.args.self =
+        ap (λ m. record { matrix = m; filled = c.self.inside.filled }) c.matrix.view_is ∙ c.self.view_is in
+    subst (λ (e : EvaluationsOf g.row.F.Denot). (m : ℕ) → e.matrix.rows ≡ 2 ^ m → AddsWithin (e.matrix.rows * m * (3 * m + 3 * e.matrix.cols + 2)) (128 * e.matrix.rows) c.args.work.now c.recovered_cells.new.work)
+    self_is (most-at_any inner.rows inner.cols c.lg_of-lg.result _ _ c.lg_of-lg.ensures.value c.in_err-recovered_cells.ensures.most)
+
+pub returns-clause-most : goal.returns-clause-most
+returns-clause-most g c =
+    let inner = c.matrix.inside in
+    let self_is : evaluations inner.rows inner.cols inner.cells.items c.self.inside.filled ≡ c.args.self =
+        ap (λ m. record { matrix = m; filled = c.self.inside.filled }) c.matrix.view_is ∙ c.self.view_is in
+    subst (λ (e : EvaluationsOf g.row.F.Denot). (m : ℕ) → e.matrix.rows ≡ 2 ^ m → AddsWithin (e.matrix.rows * m * (3 * m + 3 * e.matrix.cols + 2)) (128 * e.matrix.rows) c.args.work.now c.recovered_cells.new.work)
+    self_is (most-at_any inner.rows inner.cols c.lg_of-lg.result _ _ c.lg_of-lg.ensures.value c.in_ok-recovered_cells.ensures.most)
+
+pub returns-clause-exact : goal.returns-clause-exact
+returns-clause-exact g c =
+    let inner = c.matrix.inside in
+    let self_is : evaluations inner.rows inner.cols inner.cells.items c.self.inside.filled ≡ c.args.self =
+        ap (λ m. record { matrix = m; filled = c.self.inside.filled }) c.matrix.view_is ∙ c.self.view_is in
+    subst (λ (e : EvaluationsOf g.row.F.Denot). (m : ℕ) → e.matrix.rows ≡ 2 ^ m → IsExactWork m e c.args.work.now c.recovered_cells.new.work)
+    self_is (exact-at_any inner.rows inner.cols c.lg_of-lg.result inner.cells.items c.self.inside.filled _ _ c.lg_of-lg.ensures.value (rw c.deref_mut.ensures.value at c.in_ok-recovered_cells.ensures.exact))
+
+pub returns-clause-only : goal.returns-clause-only
+returns-clause-only g c =
+    let F = g.met.F in
+    let inner = c.matrix.inside in
+    let self_is : evaluations inner.rows inner.cols inner.cells.items c.self.inside.filled ≡ c.args.self =
+        ap (λ m. record { matrix = m; filled = c.self.inside.filled }) c.matrix.view_is ∙ c.self.view_is in
+    let lg = c.lg_of-lg.result in
+    let domain = c.requires.domain lg (sym (ap (λ (e : EvaluationsOf g.row.F.Denot). e.matrix.rows) self_is) ∙ c.lg_of-lg.ensures.value) in
+    let long : length c.self.inside.filled ≡ 2 ^ lg = c.self.invariant.1 ∙ sym (ap (λ (m : MatrixOf g.row.F.Denot). m.rows) c.matrix.view_is) ∙ c.lg_of-lg.ensures.value in
+    let new = c.recovered_cells.new.cells in
+    let old = inner.cells.items in
+    let kept : length new ≡ length old = c.recovered_cells.auto.cells ∙ ap length c.deref_mut.ensures.value in
+    let written : take inner.cells.len (new ++ drop (length new) old) ≡ new = take-written inner.cells.len old new inner.cells.ok.0 kept in
+    let R = ring_members g.F.Multiplicative.product g.F.Debug.debug_output g.F.Object.same g.F.Object.NEVER_REFUSES g.F.Additive.zero g.F.Additive.sum g.F.Additive.negative g.F.Ring.one in
+    rw written
+    (subst (λ (e : EvaluationsOf g.row.F.Denot). AreOnlyRecovered R g.F.FieldNTT.root e (matrix_of inner.rows inner.cols new)) self_is
+    (only-recovered R F.Object.equality F.Additive.group F.Multiplicative.commutes F.Ring.ring F.Field.field g.F.FieldNTT.root g.F.FieldNTT.shift inner.rows inner.cols lg c.lg_of-lg.ensures.value
+    (F.FieldNTT.roots.order lg domain) F.FieldNTT.roots.shift_is_not_zero (F.FieldNTT.roots.shift_is_no_power lg domain) old new c.self.inside.filled long
+    (rw c.deref_mut.ensures.value at c.in_ok-recovered_cells.ensures.fits)))
