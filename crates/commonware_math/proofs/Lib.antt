@@ -21,3 +21,4 @@ pub mod FreeSums
 pub mod WeightedCombinations
 pub mod EqualCombinations
 pub mod GeneratorRuns
+pub mod CombinationValues
