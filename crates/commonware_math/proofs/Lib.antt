@@ -9,3 +9,4 @@ pub mod FreeSums
 pub mod WeightedCombinations
 pub mod EqualCombinations
 pub mod GeneratorRuns
+pub mod CombinationValues

@@ -7,3 +7,4 @@ pub mod Synthetics
 pub mod SyntheticTerms
 pub mod SyntheticLaws
 pub mod SyntheticGenerators
+pub mod SyntheticValues

@@ -16,6 +16,7 @@ ghost use Rattle.commonware_math.specs.Synthetics.{HasTerm, IsGreatestIndex, com
 
 mod algebra;
 mod generators;
+pub mod laws;
 mod merging;
 
 pub use generators::Generators;

@@ -3,8 +3,8 @@ use Rattle.std.proofs.Common.{◌≡◌, ◌∙◌, ℕ, ◌+◌, ◌*◌, ◌^�
 use Rattle.math_theory.specs.Domains.{HasExactOrder, IsNoPower}
 use Rattle.math_theory.specs.Laws.{IsEquality, IsGroup, IsProduct, IsRing, IsField}
 use Rattle.math_theory.specs.Recovery.{Fits}
-use Rattle.math_theory.proofs.CarriedDomains.{HasCoset-of_order-same}
-use Rattle.math_theory.proofs.CarriedRecovery.{fits_once-same}
+use Rattle.math_theory.proofs.domains.CarriedDomains.{HasCoset-of_order-same}
+use Rattle.math_theory.proofs.recovery.CarriedRecovery.{fits_once-same}
 use Rattle.math_base.specs.Members.{RingOf}
 use Rattle.math_ntt.specs.CountedWork.{WorkOf}
 use Rattle.math_ntt.specs.DomainValues.{matrix_of}

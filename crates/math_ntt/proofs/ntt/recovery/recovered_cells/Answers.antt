@@ -1,7 +1,7 @@
 use Rattle.std.proofs.Common.{rules, ◌≡◌, ◌∙◌, inl, inr, ◌+◌, ◌*◌, ◌^◌, ◌<◌, length, replicate, false, get_or, sym, ap, arith}
 use Rattle.std.proofs.lemmas.List.{get_or-replicate}
 use Rattle.std.proofs.lemmas.Nat.{mul-add-lt}
-use Rattle.math_theory.proofs.RecoveredColumns.{fits-none, fits-all}
+use Rattle.math_theory.proofs.recovery.RecoveredColumns.{fits-none, fits-all}
 use Rattle.math_ntt.specs.DomainValues.{matrix_of}
 use Rattle.math_ntt.specs.Matrices.{column_of}
 use Rattle.math_ntt.proofs.DomainSteps.{column-cell}

@@ -1,5 +1,5 @@
 use Rattle.std.proofs.Common.{◌≡◌, ◌∙◌, ℕ, ◌+◌, ◌*◌, ◌^◌, ◌++◌, length, take, drop, ap, sym, subst}
-use Rattle.math_theory.proofs.WholeWrites.{take-written}
+use Rattle.math_base.proofs.WholeWrites.{take-written}
 use Rattle.math_ntt.specs.Matrices.{MatrixOf}
 use Rattle.math_ntt.specs.Evaluations.{EvaluationsOf}
 use Rattle.math_ntt.specs.DomainValues.{matrix_of}
