@@ -116,7 +116,7 @@ fn start(missing: char, rows: usize) -> Result<usize, Fault> {
 }
 
 /// The rule that words are: two letters, or a word and a number.
-fn rule(text: &str, rows: usize) -> Result<Rule, Fault> {
+fn rule_in(text: &str, rows: usize) -> Result<Rule, Fault> {
     let text = text.trim();
     if let Some((name, n)) = text.split_once(' ') {
         let n = number(n.trim())? as usize;
@@ -233,7 +233,7 @@ fn lg_and_rule(text: &str) -> Result<(u64, Rule), Fault> {
     if lg >= 64 {
         return Err(Fault::OutOfRange("too many rows"));
     }
-    Ok((lg, rule(words, 1 << lg)?))
+    Ok((lg, rule_in(words, 1 << lg)?))
 }
 
 /// `recover-ones LG RULE`: the rows of coefficients of one column, filled with one by the rule.
