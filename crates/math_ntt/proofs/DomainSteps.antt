@@ -1,5 +1,5 @@
 -- The steps between values on a domain and on its coset, in the columns of matrices.
-use Rattle.std.proofs.Common.{◌≡◌, ◌∙◌, ℕ, zero, suc, ◌+◌, ◌*◌, ◌<◌, List, length, take, drop, get_or, sym, ap, subst, arith}
+use Rattle.std.proofs.Common.{◌≡◌, ◌∙◌, ℕ, ◌+◌, ◌*◌, ◌<◌, List, length, drop, get_or, sym, ap, arith}
 use Rattle.std.proofs.lemmas.List.{get_or-take, get_or-drop, get_or_default, same_lists}
 use Rattle.math_theory.specs.Laws.{IsEquality, IsGroup, IsProduct, IsRing}
 use Rattle.math_theory.specs.Powers.{power}
@@ -10,7 +10,7 @@ use Rattle.std.proofs.Common.{[], ◌∷◌, refl}
 use Rattle.math_base.specs.Members.{RingOf}
 use Rattle.math_base.specs.Polynomials.{value_in_ring}
 use Rattle.math_ntt.specs.DomainValues.{matrix_of, AreValuesAtPowers}
-use Rattle.math_ntt.specs.Matrices.{MatrixOf, column_of}
+use Rattle.math_ntt.specs.Matrices.{column_of}
 use Rattle.math_ntt.specs.RecoveredRows.{AreProductsOnDomain, HaveSameValuesOnDomain, AreQuotientsOnCoset}
 use Rattle.math_ntt.specs.RowProducts.{AreRowProducts}
 use Rattle.math_ntt.proofs.MatrixRows.{length-column, column-at}

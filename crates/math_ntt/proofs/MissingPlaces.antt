@@ -1,11 +1,11 @@
 -- Every so many places of a list of truth values, and how many of them are false.
-use Rattle.std.proofs.Common.{◌≡◌, ◌∙◌, ℕ, zero, suc, ◌+◌, ◌-◌, ◌*◌, ◌<◌, ◌≤◌, Bool, true, false, not, cond, List, [], ◌∷◌, ◌++◌, length, map, replicate, get_or, refl, sym, ap, ap₂, Some, slice_get, arith}
-use Rattle.std.proofs.lemmas.List.{map-append, same_lists, get_or-map, length-append}
+use Rattle.std.proofs.Common.{◌≡◌, ◌∙◌, ℕ, zero, suc, ◌+◌, ◌-◌, ◌*◌, ◌<◌, ◌≤◌, Bool, true, false, not, cond, List, [], ◌∷◌, ◌++◌, length, map, replicate, get_or, refl, sym, ap, Some, slice_get, arith}
+use Rattle.std.proofs.lemmas.List.{map-append, same_lists}
 use Rattle.std.proofs.lemmas.List.FromFn.{length-map-range_with_len, get_or-map-range_with_len}
 use Rattle.std.proofs.lemmas.List.Sums.{sum_by-cons, sum_by-append}
 use Rattle.std.proofs.lemmas.Option.{get_or_from_slice_get}
 use Rattle.std.specs.List.{range_with_len}
-use Rattle.math_theory.specs.BitReversal.{even_items, odd_items, interleaved}
+use Rattle.math_theory.specs.BitReversal.{even_items, odd_items}
 use Rattle.math_theory.specs.Recovery.{count_true}
 use Rattle.math_theory.proofs.transforms.EvenOddItems.{interleaved-even_odd, length-even_items, length-odd_items, get_or-interleaved_even, get_or-interleaved_odd}
 use Rattle.math_theory.proofs.recovery.FilledItems.{count_true-true, count_true-false}

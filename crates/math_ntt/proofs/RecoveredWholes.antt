@@ -1,8 +1,7 @@
 -- From what is recovered and counted at a given lg to what is at the lg of any number of rows, and that nothing else fits.
-use Rattle.std.proofs.Common.{◌≡◌, ◌∙◌, ℕ, ◌+◌, ◌*◌, ◌^◌, ◌<◌, List, Bool, length, get_or, sym, subst, arith}
+use Rattle.std.proofs.Common.{◌≡◌, ◌∙◌, ℕ, ◌+◌, ◌*◌, ◌^◌, List, Bool, length, sym, subst}
 use Rattle.math_theory.specs.Domains.{HasExactOrder, IsNoPower}
 use Rattle.math_theory.specs.Laws.{IsEquality, IsGroup, IsProduct, IsRing, IsField}
-use Rattle.math_theory.specs.Recovery.{Fits}
 use Rattle.math_theory.proofs.domains.CarriedDomains.{HasCoset-of_order-same}
 use Rattle.math_theory.proofs.recovery.CarriedRecovery.{fits_once-same}
 use Rattle.math_base.specs.Members.{RingOf}

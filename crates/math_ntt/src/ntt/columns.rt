@@ -1,11 +1,15 @@
 //! One polynomial by its coefficients, or by its values at the points of a domain.
 
-ghost use Rattle.std.specs.Prelude.{◌≡◌, ◌<◌, Some, IfOk, length, slice_get};
+ghost use Rattle.std.specs.Prelude.{◌≡◌, ◌<◌, ◌^◌, ℕ, Some, IfOk, length, slice_get};
+ghost use Rattle.math_theory.specs.Recovery.{count_true};
 ghost use Rattle.math_ntt.specs.DomainValues.{one_column, HasDomain, AreValuesOnDomain};
+ghost use Rattle.math_ntt.specs.MissingPoints.{IsVanishing};
 
 use super::transform::{
     evaluate_rows, evaluation_table, interpolate_rows, interpolation_table, lg_of,
 };
+use super::vanishing::vanishing_values;
+use super::vanishing_points::VanishingPoints;
 use super::work::Work;
 use math_base::algebra::{FieldNTT, Mem};
 use std::alloc::Global;
@@ -87,6 +91,22 @@ impl<F: Drop> EvaluationColumn<F> {
 }
 
 impl<F: FieldNTT> EvaluationColumn<F> {
+    /// The value at zero, and the values at the powers of the root of order N, of a polynomial that is
+    /// zero at the points that are `false` and at no others, where N is the number of points. Up to a
+    /// factor that is not zero it is the product of X - x over these points x.
+    ///
+    /// lg N is at most `F::MAX_LG_ROOT_ORDER`, and some point is `true`. Takes memory for two tables of N
+    /// elements, and for as many coefficients, most of them twice.
+    pub fn vanishing(alloc: Global, points: &VanishingPoints) -> Mem<(F, Self)>
+        requires domain { HasDomain F.MAX_LG_ROOT_ORDER (length points.now) }
+        requires some { 0 < count_true points.now }
+        ensures { IfOk result (λ answer. (lg : ℕ) → length points.now ≡ 2 ^ lg → IsVanishing F.Ring (F.root lg) points.now answer.0 answer.1) }
+    {
+        let lg = points.lg_size() as u8;
+        let (at_zero, values) = vanishing_values(alloc, points, lg)?;
+        Ok((at_zero, EvaluationColumn { values }))
+    }
+
     /// The polynomial with N coefficients that has these values at the powers of the root of order N,
     /// where N is the number of values.
     ///

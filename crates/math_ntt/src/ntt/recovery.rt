@@ -30,9 +30,9 @@ use super::polynomials::PolynomialVector;
 use super::quotients::inverses;
 use super::row_products::{dilate_rows, multiply_rows};
 use super::transform::{
-    evaluate_rows, evaluation_table, interpolate_rows, interpolation_table, lg_of,
+    evaluate_rows, evaluation_table, interpolate_rows, interpolation_table, lg_of, size_of,
 };
-use super::vanishing::{domain_size, vanishing_coefficients};
+use super::vanishing::vanishing_coefficients;
 use super::vanishing_points::VanishingPoints;
 use super::work::Work;
 use math_base::algebra::{Additive, FieldNTT, Mem};
@@ -74,7 +74,14 @@ impl<F: FieldNTT> EvaluationVector<F> {
     {
         let mut matrix = self.matrix;
         let lg = lg_of(matrix.rows);
-        recovered_cells(alloc, &mut matrix.cells, matrix.cols, &self.filled, lg, work)?;
+        recovered_cells(
+            alloc,
+            &mut matrix.cells,
+            matrix.cols,
+            &self.filled,
+            lg,
+            work,
+        )?;
         Ok(PolynomialVector {
             coefficients: matrix,
         })
@@ -108,7 +115,7 @@ fn recovered_cells<F: FieldNTT>(
         interpolated(alloc, cells, cols, lg, work)?;
         return Ok(());
     }
-    if filled == domain_size(lg) {
+    if filled == size_of(lg) {
         interpolated(alloc, cells, cols, lg, work)?;
         return Ok(());
     }

@@ -42,7 +42,7 @@ pub(super) fn lg_of(count: usize) -> u8
 }
 
 // 2^lg.
-fn size_of(lg: u8) -> usize
+pub(super) fn size_of(lg: u8) -> usize
     requires { lg < 64 }
     ensures { result ≡ 2 ^ lg }
 {

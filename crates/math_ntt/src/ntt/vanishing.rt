@@ -14,12 +14,14 @@ ghost use Rattle.math_theory.specs.Recovery.{count_true};
 ghost use Rattle.math_base.specs.Polynomials.{value_in_ring};
 ghost use Rattle.math_ntt.specs.CountedWork.{AddsAtMost};
 ghost use Rattle.math_ntt.specs.DomainValues.{ArePowersByLevel};
-ghost use Rattle.math_ntt.specs.MissingPoints.{count_false, every, missing_product, piece_value, HasLength, IsEverywhere, IsMerged, VanishesAtFalse};
+ghost use Rattle.math_ntt.specs.MissingPoints.{count_false, every, missing_product, piece_value, HasLength, IsEverywhere, IsMerged, IsVanishing, VanishesAtFalse};
 ghost use Rattle.math_ntt.specs.RecoveryWork.{AddsWithin};
 
 use super::matrix::{copies, filled_up};
 use super::row_products::{multiply_row, multiply_rows};
-use super::transform::{evaluate_rows, interpolate_rows};
+use super::transform::{
+    evaluate_rows, evaluation_table, interpolate_rows, interpolation_table, size_of,
+};
 use super::vanishing_points::VanishingPoints;
 use super::work::Work;
 use math_base::algebra::{Additive, Field, FieldNTT, Mem, Multiplicative, Object, Ring};
@@ -30,14 +32,6 @@ use std::alloc::Global;
 const WHOLE_LG: u8 = 8;
 
 const CHUNK_LG: u8 = 6;
-
-/// 2^lg.
-pub(super) fn domain_size(lg: u8) -> usize
-    requires { lg < 64 }
-    ensures { result ≡ 2 ^ lg }
-{
-    1 << lg
-}
 
 /// A polynomial that vanishes at the missing ones of n points, and at no others: one where none is missing, X^n - 1 where
 /// all are, and else n coefficients.
@@ -160,7 +154,7 @@ fn chunk<F: FieldNTT>(
     ensures exact { IfOk result (λ _. let v = count_false (every start stride (2 ^ lg) points.now) in v < 2 ^ lg → 2 * work.new.root_products ≡ 2 * work.old.root_products + v * (v + 1)) }
     ensures bounded { AddsWithin 0 (128 * 2 ^ lg) work.old work.new }
 {
-    let count = domain_size(lg);
+    let count = size_of(lg);
     let missing = count_missing(points, start, stride, count);
     if missing == 0 {
         return Ok(Piece::Nowhere);
@@ -254,7 +248,7 @@ fn multiplied<F: FieldNTT>(
     ensures values { IfOk result (λ p. (r : F) → F.same (value_in_ring F.Ring p.items r) (F.product (value_in_ring F.Ring left.items r) (value_in_ring F.Ring right.items r))) }
     ensures bounded { AddsAtMost (3 * 2 ^ lg * lg) work.old work.new }
 {
-    let n = domain_size(lg);
+    let n = size_of(lg);
     let mut product = filled_up(alloc, left, n)?;
     let mut other = filled_up(alloc, right, n)?;
     multiply_values(
@@ -295,7 +289,7 @@ fn merged<F: FieldNTT>(
     ensures everywhere { IfOk result (λ piece. IsEverywhere piece → IsEverywhere left × IsEverywhere right) }
     ensures bounded { AddsAtMost (3 * 2 ^ lg * lg) work.old work.new }
 {
-    let half = domain_size(lg - 1);
+    let half = size_of(lg - 1);
     match right {
         Piece::Nowhere => match left {
             Piece::Nowhere => Ok(Piece::Nowhere),
@@ -382,7 +376,7 @@ fn tree<F: FieldNTT>(
         let piece = chunk(alloc, points, start, stride, lg, work)?;
         return Ok(piece);
     }
-    let half = domain_size(lg - 1);
+    let half = size_of(lg - 1);
     let (lower, _) = evaluation.split_at(half);
     let (lower_back, _) = interpolation.split_at(half);
     let left = tree(
@@ -449,10 +443,39 @@ pub(super) fn vanishing_coefficients<F: FieldNTT>(
     )?;
     match piece {
         Piece::Nowhere => {
-            let one = constant_one(alloc, domain_size(lg))?;
+            let one = constant_one(alloc, size_of(lg))?;
             Ok(one)
         }
         Piece::Everywhere => unreachable!(),
         Piece::Somewhere(all) => Ok(all),
     }
+}
+
+/// The value at zero, and the values on the domain of 2^lg points, of a polynomial that vanishes at the missing points and
+/// at no others. Some point is not missing.
+pub(super) fn vanishing_values<F: FieldNTT>(
+    alloc: Global,
+    points: &VanishingPoints,
+    lg: u8,
+) -> Mem<(F, Vec<F>)>
+    requires domain { lg ≤ F.MAX_LG_ROOT_ORDER }
+    requires small { lg < 64 }
+    requires points { length points.now ≡ 2 ^ lg }
+    requires some { 0 < count_true points.now }
+    ensures { IfOk result (λ answer. IsVanishing F.Ring (F.root lg) points.now answer.0 answer.1.items) }
+{
+    let evaluation = evaluation_table::<F>(alloc, lg)?;
+    let interpolation = interpolation_table::<F>(alloc, lg)?;
+    let mut work = Work::new();
+    let mut values = vanishing_coefficients(
+        alloc,
+        points,
+        lg,
+        &evaluation,
+        &interpolation,
+        &mut work,
+    )?;
+    let at_zero = values[0].clone(alloc)?;
+    evaluate_rows(alloc, &mut values, 1, lg, &evaluation, &mut work)?;
+    Ok((at_zero, values))
 }

@@ -1,4 +1,4 @@
-use Rattle.std.proofs.Common.{rules, ◌≡◌, ◌∙◌, ◌++◌, ◌+◌, ◌-◌, ◌*◌, ◌^◌, ◌<◌, ◌≤◌, ℕ, length, take, drop, get_or, sym, ap, vec_len, arith}
+use Rattle.std.proofs.Common.{◌≡◌, ◌∙◌, ◌++◌, ◌^◌, length, take, drop, ap, arith}
 use Rattle.math_theory.proofs.polynomials.BuiltPolynomials.{value-respects}
 use Rattle.math_theory.proofs.domains.BuiltVanishing.{VanishesAt-respects}
 use Rattle.math_theory.proofs.domains.CarriedDomains.{HasCoset-of_order-same}
@@ -28,12 +28,12 @@ returns-in_err-times_vanishing-clause-most g c =
 
 pub returns-in_err-divided-clause-most : goal.returns-in_err-divided-clause-most
 returns-in_err-divided-clause-most g c =
-    within-part _ _ _ _ _ _ (omega (arith, whole-bound c.args.lg c.args.cols)) (omega arith) 
+    within-part _ _ _ _ _ _ (omega (arith, whole-bound c.args.lg c.args.cols)) (omega arith)
     (within-transforms _ _ _ _ _ _ (within-transforms _ _ _ _ _ _ c.in_ok-vanishing.ensures.bounded c.in_ok-times_vanishing.ensures.bounded) c.in_err-divided.ensures.bounded)
 
 pub returns-clause-most : goal.returns-clause-most
 returns-clause-most g c =
-    within-part _ _ _ _ _ _ (omega (arith, whole-bound c.args.lg c.args.cols)) (omega arith) 
+    within-part _ _ _ _ _ _ (omega (arith, whole-bound c.args.lg c.args.cols)) (omega arith)
     (within-transforms _ _ _ _ _ _ (within-transforms _ _ _ _ _ _ c.in_ok-vanishing.ensures.bounded c.in_ok-times_vanishing.ensures.bounded) c.in_ok-divided.ensures.bounded)
 
 pub returns-clause-fits : goal.returns-clause-fits

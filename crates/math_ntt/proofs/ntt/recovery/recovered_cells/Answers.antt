@@ -1,4 +1,4 @@
-use Rattle.std.proofs.Common.{rules, ◌≡◌, ◌∙◌, inl, inr, ◌+◌, ◌*◌, ◌^◌, ◌<◌, length, replicate, false, get_or, sym, ap, arith}
+use Rattle.std.proofs.Common.{◌≡◌, ◌∙◌, inl, inr, ◌+◌, ◌*◌, ◌^◌, length, false, arith}
 use Rattle.std.proofs.lemmas.List.{get_or-replicate}
 use Rattle.std.proofs.lemmas.Nat.{mul-add-lt}
 use Rattle.math_theory.proofs.recovery.RecoveredColumns.{fits-none, fits-all}
@@ -14,7 +14,7 @@ pub returns-clause-exact : goal.returns-clause-exact
 returns-clause-exact g c =
     let points = c.args.points.now in
     let filled = c.count_non_vanishing-filled.ensures in
-    let size = c.domain_size.ensures in
+    let size = c.size_of.ensures in
     record {
       none_or_all = λ h. elim h [
         | inl none ↦ absurd (omega (arith, none))
@@ -23,19 +23,19 @@ returns-clause-exact g c =
       some = λ some missing small. (c.in_ok-recovered.ensures.butterflies small, c.in_ok-recovered.ensures.root_products small);
     }
 
-pub returns-then-filled-domain_size-clause-exact : goal.returns-then-filled-domain_size-clause-exact
-returns-then-filled-domain_size-clause-exact g c =
+pub returns-then-filled-size_of-clause-exact : goal.returns-then-filled-size_of-clause-exact
+returns-then-filled-size_of-clause-exact g c =
     let points = c.args.points.now in
     let filled = c.count_non_vanishing-filled.ensures in
-    let size = c.domain_size.ensures in
+    let size = c.size_of.ensures in
     let bound = c.in_ok-interpolated-2.ensures.bounded in
     record {
       none_or_all = λ h. (c.in_ok-interpolated-2.ensures.counted, bound.root_products);
       some = λ some missing small. absurd (omega (arith, missing, count_both points));
     }
 
-pub returns-then-filled-domain_size-clause-fits : goal.returns-then-filled-domain_size-clause-fits
-returns-then-filled-domain_size-clause-fits g c = λ m k e b.
+pub returns-then-filled-size_of-clause-fits : goal.returns-then-filled-size_of-clause-fits
+returns-then-filled-size_of-clause-fits g c = λ m k e b.
     let F = g.met.F in
     let E = F.Object.equality in
     let zero = g.F.Additive.zero in
@@ -43,9 +43,9 @@ returns-then-filled-domain_size-clause-fits g c = λ m k e b.
     let n = 2 ^ lg in
     let cols = c.args.cols in
     let cells = matrix_of n cols c.args.cells.now in
-    let out = matrix_of n cols c.interpolated-then-filled-domain_size.new.cells in
+    let out = matrix_of n cols c.interpolated-then-filled-size_of.new.cells in
     let filled = c.count_non_vanishing-filled.ensures in
-    let size = c.domain_size.ensures in
+    let size = c.size_of.ensures in
     rw (← power_of_two-same lg m e)
     (fits-all E F.Additive.group F.Multiplicative.commutes F.Ring.ring F.Field.field (g.F.FieldNTT.root lg) n (F.FieldNTT.roots.order lg c.requires.domain) (column_of zero cells k) (column_of zero out k) c.args.points.now
     (length-column zero cells k) (length-column zero out k) (omega arith)

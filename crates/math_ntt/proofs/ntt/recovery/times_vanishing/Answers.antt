@@ -1,4 +1,4 @@
-use Rattle.std.proofs.Common.{◌≡◌, ◌∙◌, ◌^◌, ◌*◌, length, arith}
+use Rattle.std.proofs.Common.{◌≡◌, ◌^◌, length, arith}
 use Rattle.math_ntt.proofs.Members.{ring_members}
 use Rattle.math_ntt.proofs.DomainSteps.{products-on_domain, values-again}
 use Rattle.math_ntt.proofs.ntt.recovery.times_vanishing.Goals as goal

@@ -1,4 +1,4 @@
-use Rattle.std.proofs.Common.{◌≡◌, ◌<◌, length, get_or, arith}
+use Rattle.std.proofs.Common.{◌<◌, length, arith}
 use Rattle.std.proofs.lemmas.List.{get_or_default}
 use Rattle.math_ntt.proofs.WrittenRows.{written-done}
 use Rattle.math_ntt.proofs.ntt.recovery.zeros.Goals as goal

@@ -1,4 +1,4 @@
-use Rattle.std.proofs.Common.{rules, ◌≡◌, ◌≢◌, ◌∙◌, ◌+◌, ◌-◌, ◌*◌, ◌^◌, ◌<◌, ◌≤◌, ℕ, suc, length, ap, sym, arith}
+use Rattle.std.proofs.Common.{rules, ◌≡◌, ◌≢◌, ◌∙◌, ◌-◌, ◌^◌, ℕ, suc, length, ap, sym, arith}
 use Rattle.math_theory.specs.Domains.{HasExactOrder}
 use Rattle.math_theory.specs.Recovery.{count_true}
 use Rattle.math_theory.proofs.domains.BuiltVanishing.{VanishesAt-halves}
@@ -19,11 +19,40 @@ tree-requires g t c κs within =
     let count = merges lg (omega arith) in
     let points = points-of_halves lg (omega arith) in
     let inverse_root : ℕ → _ = λ l. g.F.Field.inverse (g.F.FieldNTT.root l) in
-    let ring = ring_members g.F.Multiplicative.product g.F.Debug.debug_output g.F.Object.same g.F.Object.NEVER_REFUSES g.F.Additive.zero g.F.Additive.sum g.F.Additive.negative g.F.Ring.one in
-    (omega arith, (search rules, (omega arith, (omega arith, (omega arith, (omega arith, (omega arith, (below, (omega arith, (
-      powers-below ring g.F.FieldNTT.root lg c.domain_size-half.result c.args.evaluation.now positive c.domain_size-half.ensures c.requires.evaluation c.split_at.result.0.now c.split_at.ensures.front,
-      (powers-below ring inverse_root lg c.domain_size-half.result c.args.interpolation.now positive c.domain_size-half.ensures c.requires.interpolation c.split_at-2.result.0.now c.split_at-2.ensures.front,
-      (omega (arith, count, points), omega (arith, points)))))))))))))
+    let ring = ring_members g.F.Multiplicative.product g.F.Debug.debug_output g.F.Object.same g.F.Object.NEVER_REFUSES g.F.Additive.zero g.F.Additive.sum g.F.Additive.negative g.F.Ring.one in (
+      omega arith,
+      (
+        search rules,
+        (
+          omega arith,
+          (
+            omega arith,
+            (
+              omega arith,
+              (
+                omega arith,
+                (
+                  omega arith,
+                  (
+                    below,
+                    (
+                      omega arith,
+                      (
+                        powers-below ring g.F.FieldNTT.root lg c.size_of-half.result c.args.evaluation.now positive c.size_of-half.ensures c.requires.evaluation c.split_at.result.0.now c.split_at.ensures.front,
+                        (
+                          powers-below ring inverse_root lg c.size_of-half.result c.args.interpolation.now positive c.size_of-half.ensures c.requires.interpolation c.split_at-2.result.0.now c.split_at-2.ensures.front,
+                          (omega (arith, count, points), omega (arith, points)),
+                        ),
+                      ),
+                    ),
+                  ),
+                ),
+              ),
+            ),
+          ),
+        ),
+      ),
+    )
 
 pub tree-requires-2 : goal.tree-requires-2
 tree-requires-2 g t c κs within =
@@ -34,11 +63,40 @@ tree-requires-2 g t c κs within =
     let points = points-of_halves lg (omega arith) in
     let inverse_root : ℕ → _ = λ l. g.F.Field.inverse (g.F.FieldNTT.root l) in
     let left = c.in_ok-left.ensures.bounded in
-    let ring = ring_members g.F.Multiplicative.product g.F.Debug.debug_output g.F.Object.same g.F.Object.NEVER_REFUSES g.F.Additive.zero g.F.Additive.sum g.F.Additive.negative g.F.Ring.one in
-    (omega arith, (search rules, (omega arith, (omega arith, (omega arith, (omega arith, (omega arith, (below, (omega arith, (
-      powers-below ring g.F.FieldNTT.root lg c.domain_size-half.result c.args.evaluation.now positive c.domain_size-half.ensures c.requires.evaluation c.split_at.result.0.now c.split_at.ensures.front,
-      (powers-below ring inverse_root lg c.domain_size-half.result c.args.interpolation.now positive c.domain_size-half.ensures c.requires.interpolation c.split_at-2.result.0.now c.split_at-2.ensures.front,
-      (omega (arith, count, points, left.no_more), omega (arith, points, left.no_more_products)))))))))))))
+    let ring = ring_members g.F.Multiplicative.product g.F.Debug.debug_output g.F.Object.same g.F.Object.NEVER_REFUSES g.F.Additive.zero g.F.Additive.sum g.F.Additive.negative g.F.Ring.one in (
+      omega arith,
+      (
+        search rules,
+        (
+          omega arith,
+          (
+            omega arith,
+            (
+              omega arith,
+              (
+                omega arith,
+                (
+                  omega arith,
+                  (
+                    below,
+                    (
+                      omega arith,
+                      (
+                        powers-below ring g.F.FieldNTT.root lg c.size_of-half.result c.args.evaluation.now positive c.size_of-half.ensures c.requires.evaluation c.split_at.result.0.now c.split_at.ensures.front,
+                        (
+                          powers-below ring inverse_root lg c.size_of-half.result c.args.interpolation.now positive c.size_of-half.ensures c.requires.interpolation c.split_at-2.result.0.now c.split_at-2.ensures.front,
+                          (omega (arith, count, points, left.no_more), omega (arith, points, left.no_more_products)),
+                        ),
+                      ),
+                    ),
+                  ),
+                ),
+              ),
+            ),
+          ),
+        ),
+      ),
+    )
 
 pub overflow_mul-stride-2 : goal.overflow_mul-stride-2
 overflow_mul-stride-2 g t c = omega (arith, stride-within c.args.lg c.args.stride (length c.args.points.now) (omega arith) c.requires.covers)

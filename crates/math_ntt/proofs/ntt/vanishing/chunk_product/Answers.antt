@@ -1,4 +1,4 @@
-use Rattle.std.proofs.Common.{rules, ◌≡◌, ◌∙◌, ◌++◌, ◌∷◌, [], ◌+◌, ◌*◌, ◌<◌, ◌≤◌, ◌^◌, ℕ, true, false, Some, slice_get, ap, refl, sym, add-one, vec_len, arith}
+use Rattle.std.proofs.Common.{rules, ◌≡◌, ◌∙◌, ◌+◌, ◌^◌, true, false, Some, ap, refl, sym, add-one, vec_len, arith}
 use Rattle.math_theory.specs.Powers.{power-zero, power-suc}
 use Rattle.math_theory.proofs.polynomials.BuiltPolynomials.{value-of_one}
 use Rattle.math_theory.proofs.domains.BuiltVanishing.{missing_product-filled, missing_product-more}

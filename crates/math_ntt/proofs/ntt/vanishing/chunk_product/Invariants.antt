@@ -1,4 +1,4 @@
-use Rattle.std.proofs.Common.{◌≡◌, ◌+◌, ◌*◌, ℕ, vec_len}
+use Rattle.std.proofs.Common.{◌≡◌, ◌+◌, ◌*◌, vec_len}
 use Rattle.math_theory.specs.Powers.{power}
 use Rattle.math_theory.specs.Values.{value}
 use Rattle.math_theory.specs.Vanishing.{missing_product}

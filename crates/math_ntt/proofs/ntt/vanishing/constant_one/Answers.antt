@@ -1,4 +1,4 @@
-use Rattle.std.proofs.Common.{rules, ◌≡◌, ◌++◌, ◌∷◌, []}
+use Rattle.std.proofs.Common.{rules}
 use Rattle.math_theory.proofs.polynomials.BuiltPolynomials.{value-zeros_after, value-of_one}
 use Rattle.math_ntt.proofs.ntt.vanishing.constant_one.Goals as goal
 

@@ -1,5 +1,5 @@
 use Rattle.std.proofs.Common.{◌≡◌, ◌∙◌, ◌+◌, ◌*◌, true, false, Some, slice_get, ap, arith}
-use Rattle.math_ntt.proofs.MissingPlaces.{count_false-start, count_false-within, count_false-next_missing, count_false-next_filled, place-within}
+use Rattle.math_ntt.proofs.MissingPlaces.{count_false-start, count_false-within, count_false-next_missing, count_false-next_filled}
 use Rattle.math_ntt.proofs.ntt.vanishing.count_missing.Goals.{then-not-get, else-not-get}
 use Rattle.math_ntt.proofs.ntt.vanishing.count_missing.Goals as goal
 

@@ -1,6 +1,5 @@
-use Rattle.std.proofs.Common.{rules, ◌≡◌, ◌≢◌, ◌∙◌, ◌++◌, ℕ, suc, ◌+◌, ◌-◌, ◌*◌, ◌^◌, ◌<◌, ◌≤◌, length, take, drop, ap, vec_len, arith}
+use Rattle.std.proofs.Common.{◌≡◌, ◌≢◌, ◌∙◌, ◌++◌, ℕ, suc, ◌-◌, ◌^◌, length, take, drop, ap, vec_len, arith}
 use Rattle.math_theory.specs.Domains.{HasExactOrder}
-use Rattle.math_theory.specs.Values.{value}
 use Rattle.math_theory.proofs.polynomials.BuiltPolynomials.{value-zeros_after}
 use Rattle.math_theory.proofs.domains.MergedPieces.{minus_one_nonzero, with_multiple-same, plus_case, minus_case, all_case, times_one-right, times_one-left, times_one-both, power-double-same, moved-power}
 use Rattle.math_base.proofs.WholeWrites.{take-written}
@@ -28,7 +27,7 @@ returns-in_ok-all-in-Everywhere-left-clause-merged g c =
     let P = F.Multiplicative.commutes in
     let R = F.Ring.ring in
     let f = F.Field.field in
-    let long : vec_len c.in_ok-one-in-Everywhere-left-2.one ≡ 2 ^ (c.args.lg - 1) = c.in_ok-one-in-Everywhere-left-2.ensures.length ∙ c.domain_size-half.ensures in
+    let long : vec_len c.in_ok-one-in-Everywhere-left-2.one ≡ 2 ^ (c.args.lg - 1) = c.in_ok-one-in-Everywhere-left-2.ensures.length ∙ c.size_of-half.ensures in
     let minus = E.transitive _ _ _ c.in_ok-factor-in-Everywhere-left.ensures.ok (G.respects_negative _ _ c.in_ok-one-in-Everywhere-left.ensures.ok) in
     rw (c.in-Nowhere.is, c.in-Everywhere-left.is) (record {
       factor = g.F.Additive.negative g.F.Ring.one;
@@ -64,7 +63,7 @@ returns-in_ok-all-in-Nowhere-left-2-clause-merged g c =
     let up : suc (lg - 1) ≡ lg = omega arith in
     let order : HasExactOrder g.F.Object.same g.F.Ring.one g.F.Multiplicative.product (g.F.FieldNTT.root lg) (2 ^ suc (lg - 1)) = rw up (F.FieldNTT.roots.order lg c.requires.domain) in
     let turned = moved-power E G P R f (g.F.FieldNTT.root lg) (lg - 1) order in
-    let long : vec_len c.in_ok-one-in-Nowhere-left-2.one ≡ 2 ^ (c.args.lg - 1) = c.in_ok-one-in-Nowhere-left-2.ensures.length ∙ c.domain_size-half.ensures in
+    let long : vec_len c.in_ok-one-in-Nowhere-left-2.one ≡ 2 ^ (c.args.lg - 1) = c.in_ok-one-in-Nowhere-left-2.ensures.length ∙ c.size_of-half.ensures in
     rw (c.in-Everywhere.is, c.in-Nowhere-left-2.is) (record {
       factor = g.F.Additive.negative g.F.Ring.one;
       factor_is_not_zero = minus_one_nonzero E G P R f;
@@ -121,7 +120,7 @@ returns-in_ok-all-in-Nowhere-left-3-clause-merged g c =
     let f = F.Field.field in
     let ring = ring_members g.F.Multiplicative.product g.F.Debug.debug_output g.F.Object.same g.F.Object.NEVER_REFUSES g.F.Additive.zero g.F.Additive.sum g.F.Additive.negative g.F.Ring.one in
     let lg = c.args.lg in
-    let half = c.domain_size-half.result in
+    let half = c.size_of-half.result in
     let table = c.args.interpolation.now in
     let inverse_root : ℕ → _ = λ l. g.F.Field.inverse (g.F.FieldNTT.root l) in
     let q = c.in-Somewhere.q in
@@ -132,8 +131,8 @@ returns-in_ok-all-in-Nowhere-left-3-clause-merged g c =
     let up : suc (lg - 1) ≡ lg = omega arith in
     let kept : length new ≡ length q.items = c.multiply_rows.auto.cells ∙ ap length c.deref_mut.ensures.value in
     let written : take q.len (new ++ drop (length new) q.items) ≡ new = take-written q.len q.items new q.ok.0 kept in
-    let level = rw up at (powers-level ring inverse_root lg half table positive c.domain_size-half.ensures c.requires.interpolation back c.split_at.ensures.back) in
-    let count = length-level ring inverse_root lg half table positive c.domain_size-half.ensures c.requires.interpolation back c.split_at.ensures.back_len in
+    let level = rw up at (powers-level ring inverse_root lg half table positive c.size_of-half.ensures c.requires.interpolation back c.split_at.ensures.back) in
+    let count = length-level ring inverse_root lg half table positive c.size_of-half.ensures c.requires.interpolation back c.split_at.ensures.back_len in
     let moved = value-moved ring E G P R (inverse_root lg) (2 ^ (lg - 1)) q.items new back (omega (arith, right_long, q.ok.0)) kept count level (rw c.deref_mut.ensures.value at c.in_ok-multiply_rows-in-Somewhere.ensures) in
     let filled = c.in_ok-all-in-Nowhere-left-3.ensures.cells in
     rw (c.in-Somewhere.is, c.in-Nowhere-left-3.is) (record {
@@ -152,7 +151,7 @@ returns-in_ok-all-in-Everywhere-left-3-clause-merged g c =
     let f = F.Field.field in
     let ring = ring_members g.F.Multiplicative.product g.F.Debug.debug_output g.F.Object.same g.F.Object.NEVER_REFUSES g.F.Additive.zero g.F.Additive.sum g.F.Additive.negative g.F.Ring.one in
     let lg = c.args.lg in
-    let half = c.domain_size-half.result in
+    let half = c.size_of-half.result in
     let table = c.args.interpolation.now in
     let inverse_root : ℕ → _ = λ l. g.F.Field.inverse (g.F.FieldNTT.root l) in
     let q = c.in-Somewhere.q in
@@ -163,8 +162,8 @@ returns-in_ok-all-in-Everywhere-left-3-clause-merged g c =
     let up : suc (lg - 1) ≡ lg = omega arith in
     let kept : length new ≡ length q.items = c.multiply_rows.auto.cells ∙ ap length c.deref_mut.ensures.value in
     let written : take q.len (new ++ drop (length new) q.items) ≡ new = take-written q.len q.items new q.ok.0 kept in
-    let level = rw up at (powers-level ring inverse_root lg half table positive c.domain_size-half.ensures c.requires.interpolation back c.split_at.ensures.back) in
-    let count = length-level ring inverse_root lg half table positive c.domain_size-half.ensures c.requires.interpolation back c.split_at.ensures.back_len in
+    let level = rw up at (powers-level ring inverse_root lg half table positive c.size_of-half.ensures c.requires.interpolation back c.split_at.ensures.back) in
+    let count = length-level ring inverse_root lg half table positive c.size_of-half.ensures c.requires.interpolation back c.split_at.ensures.back_len in
     let moved = value-moved ring E G P R (inverse_root lg) (2 ^ (lg - 1)) q.items new back (omega (arith, right_long, q.ok.0)) kept count level (rw c.deref_mut.ensures.value at c.in_ok-multiply_rows-in-Somewhere.ensures) in
     let minus = E.transitive _ _ _ c.in_ok-factor-in-Everywhere-left-3.ensures.ok (G.respects_negative _ _ c.in_ok-one-in-Everywhere-left-3.ensures.ok) in
     rw (c.in-Somewhere.is, c.in-Everywhere-left-3.is) (record {
@@ -184,7 +183,7 @@ returns-in_ok-all-in-Somewhere-left-3-clause-merged g c =
     let f = F.Field.field in
     let ring = ring_members g.F.Multiplicative.product g.F.Debug.debug_output g.F.Object.same g.F.Object.NEVER_REFUSES g.F.Additive.zero g.F.Additive.sum g.F.Additive.negative g.F.Ring.one in
     let lg = c.args.lg in
-    let half = c.domain_size-half.result in
+    let half = c.size_of-half.result in
     let table = c.args.interpolation.now in
     let inverse_root : ℕ → _ = λ l. g.F.Field.inverse (g.F.FieldNTT.root l) in
     let q = c.in-Somewhere.q in
@@ -195,8 +194,8 @@ returns-in_ok-all-in-Somewhere-left-3-clause-merged g c =
     let up : suc (lg - 1) ≡ lg = omega arith in
     let kept : length new ≡ length q.items = c.multiply_rows.auto.cells ∙ ap length c.deref_mut.ensures.value in
     let written : take q.len (new ++ drop (length new) q.items) ≡ new = take-written q.len q.items new q.ok.0 kept in
-    let level = rw up at (powers-level ring inverse_root lg half table positive c.domain_size-half.ensures c.requires.interpolation back c.split_at.ensures.back) in
-    let count = length-level ring inverse_root lg half table positive c.domain_size-half.ensures c.requires.interpolation back c.split_at.ensures.back_len in
+    let level = rw up at (powers-level ring inverse_root lg half table positive c.size_of-half.ensures c.requires.interpolation back c.split_at.ensures.back) in
+    let count = length-level ring inverse_root lg half table positive c.size_of-half.ensures c.requires.interpolation back c.split_at.ensures.back_len in
     let moved = value-moved ring E G P R (inverse_root lg) (2 ^ (lg - 1)) q.items new back (omega (arith, right_long, q.ok.0)) kept count level (rw c.deref_mut.ensures.value at c.in_ok-multiply_rows-in-Somewhere.ensures) in
     rw (c.in-Somewhere.is, c.in-Somewhere-left-3.is) (record {
       factor = g.F.Ring.one;

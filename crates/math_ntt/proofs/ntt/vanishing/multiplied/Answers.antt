@@ -1,4 +1,4 @@
-use Rattle.std.proofs.Common.{◌≡◌, ◌∙◌, ◌++◌, ◌+◌, ◌-◌, ◌^◌, ◌<◌, ◌≤◌, length, take, drop, ap, vec_len, arith}
+use Rattle.std.proofs.Common.{◌≡◌, ◌∙◌, ◌++◌, ◌^◌, length, take, drop, ap, arith}
 use Rattle.math_theory.proofs.polynomials.BuiltPolynomials.{value-zeros_after}
 use Rattle.math_theory.proofs.recovery.RecoveredColumns.{domain_product}
 use Rattle.math_base.proofs.WholeWrites.{take-written}
@@ -16,7 +16,7 @@ returns-clause-values g c = λ r.
     let right = c.args.right.items in
     let old = c.in_ok-product.product.items in
     let new = c.multiply_values.new.left in
-    let size = c.domain_size-n.ensures in
+    let size = c.size_of-n.ensures in
     let count = c.in_ok-product.ensures.count in
     let kept : length new ≡ length old = c.multiply_values.auto.left ∙ ap length c.deref_mut.ensures.value in
     let written : take c.in_ok-product.product.len (new ++ drop (length new) old) ≡ new = take-written c.in_ok-product.product.len old new c.in_ok-product.product.ok.0 kept in

@@ -1,4 +1,4 @@
-use Rattle.std.proofs.Common.{◌≡◌, ◌∙◌, ◌^◌, ◌*◌, length, arith}
+use Rattle.std.proofs.Common.{◌≡◌, ◌^◌, length, arith}
 use Rattle.math_ntt.proofs.Members.{ring_members}
 use Rattle.math_ntt.proofs.DomainSteps.{values-multiplied}
 use Rattle.math_ntt.proofs.ntt.vanishing.multiply_values.Goals as goal

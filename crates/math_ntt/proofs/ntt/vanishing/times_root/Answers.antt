@@ -1,4 +1,4 @@
-use Rattle.std.proofs.Common.{◌≡◌, ◌∙◌, ◌++◌, ◌∷◌, [], ◌+◌, ◌<◌, ◌≤◌, ℕ, length, take, get_or, refl, sym, ap, add-one, vec_len, arith}
+use Rattle.std.proofs.Common.{◌≡◌, ◌∙◌, ◌<◌, length, take, get_or, refl, sym, add-one, arith}
 use Rattle.std.proofs.lemmas.List.{get_or_default, length-take-le, take_more, take_more_set, take_all, length-set}
 use Rattle.math_theory.proofs.polynomials.BuiltPolynomials.{times_root-none, times_root-more, times_root-last}
 use Rattle.math_ntt.proofs.WrittenRows.{written-rest}

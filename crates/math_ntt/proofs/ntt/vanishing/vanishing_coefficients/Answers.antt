@@ -1,7 +1,6 @@
-use Rattle.std.proofs.Common.{rules, ◌≡◌, ◌∙◌, ◌+◌, ◌*◌, ◌^◌, ◌<◌, ◌≤◌, length, ap, arith}
-use Rattle.math_theory.specs.Recovery.{count_true}
+use Rattle.std.proofs.Common.{rules, ◌^◌, ◌<◌, arith}
 use Rattle.math_theory.proofs.domains.BuiltVanishing.{VanishesAt-respects}
-use Rattle.math_ntt.specs.MissingPoints.{count_false, every}
+use Rattle.math_ntt.specs.MissingPoints.{count_false}
 use Rattle.math_ntt.proofs.MissingPlaces.{every-whole, count_both}
 use Rattle.math_ntt.proofs.PowersOfTwo.{power_of_two-word}
 use Rattle.math_ntt.proofs.RecoveryCounts.{merges-room, points-room}

@@ -1,4 +1,4 @@
-use Rattle.std.proofs.Common.{rules, ◌≡◌, ◌∙◌, ◌++◌, length, take, drop, ap, sym, vec_len, arith}
+use Rattle.std.proofs.Common.{rules, ◌≡◌, ◌∙◌, ◌++◌, length, take, drop, ap, vec_len, arith}
 use Rattle.std.proofs.lemmas.List.Elements.{AllZip-get_or, length_all_zip}
 use Rattle.math_theory.proofs.polynomials.BuiltPolynomials.{value-with_multiple}
 use Rattle.math_base.proofs.WholeWrites.{take-written}

@@ -13,7 +13,7 @@ pub returns-in_err-recovered_cells-clause-most : goal.returns-in_err-recovered_c
 returns-in_err-recovered_cells-clause-most g c =
     let inner = c.matrix.inside in
     let self_is : evaluations inner.rows inner.cols inner.cells.items c.self.inside.filled ≡ c.args.self =
-        ap (λ m. record { matrix = m; filled = c.self.inside.filled }) c.matrix.view_is ∙ c.self.view_is in
+    ap (λ m. record { matrix = m; filled = c.self.inside.filled }) c.matrix.view_is ∙ c.self.view_is in
     subst (λ (e : EvaluationsOf g.row.F.Denot). (m : ℕ) → e.matrix.rows ≡ 2 ^ m → AddsWithin (e.matrix.rows * m * (3 * m + 3 * e.matrix.cols + 2)) (128 * e.matrix.rows) c.args.work.now c.recovered_cells.new.work)
     self_is (most-at_any inner.rows inner.cols c.lg_of-lg.result _ _ c.lg_of-lg.ensures.value c.in_err-recovered_cells.ensures.most)
 
@@ -21,7 +21,7 @@ pub returns-clause-most : goal.returns-clause-most
 returns-clause-most g c =
     let inner = c.matrix.inside in
     let self_is : evaluations inner.rows inner.cols inner.cells.items c.self.inside.filled ≡ c.args.self =
-        ap (λ m. record { matrix = m; filled = c.self.inside.filled }) c.matrix.view_is ∙ c.self.view_is in
+    ap (λ m. record { matrix = m; filled = c.self.inside.filled }) c.matrix.view_is ∙ c.self.view_is in
     subst (λ (e : EvaluationsOf g.row.F.Denot). (m : ℕ) → e.matrix.rows ≡ 2 ^ m → AddsWithin (e.matrix.rows * m * (3 * m + 3 * e.matrix.cols + 2)) (128 * e.matrix.rows) c.args.work.now c.recovered_cells.new.work)
     self_is (most-at_any inner.rows inner.cols c.lg_of-lg.result _ _ c.lg_of-lg.ensures.value c.in_ok-recovered_cells.ensures.most)
 
@@ -29,7 +29,7 @@ pub returns-clause-exact : goal.returns-clause-exact
 returns-clause-exact g c =
     let inner = c.matrix.inside in
     let self_is : evaluations inner.rows inner.cols inner.cells.items c.self.inside.filled ≡ c.args.self =
-        ap (λ m. record { matrix = m; filled = c.self.inside.filled }) c.matrix.view_is ∙ c.self.view_is in
+    ap (λ m. record { matrix = m; filled = c.self.inside.filled }) c.matrix.view_is ∙ c.self.view_is in
     subst (λ (e : EvaluationsOf g.row.F.Denot). (m : ℕ) → e.matrix.rows ≡ 2 ^ m → IsExactWork m e c.args.work.now c.recovered_cells.new.work)
     self_is (exact-at_any inner.rows inner.cols c.lg_of-lg.result inner.cells.items c.self.inside.filled _ _ c.lg_of-lg.ensures.value (rw c.deref_mut.ensures.value at c.in_ok-recovered_cells.ensures.exact))
 
@@ -38,7 +38,7 @@ returns-clause-only g c =
     let F = g.met.F in
     let inner = c.matrix.inside in
     let self_is : evaluations inner.rows inner.cols inner.cells.items c.self.inside.filled ≡ c.args.self =
-        ap (λ m. record { matrix = m; filled = c.self.inside.filled }) c.matrix.view_is ∙ c.self.view_is in
+    ap (λ m. record { matrix = m; filled = c.self.inside.filled }) c.matrix.view_is ∙ c.self.view_is in
     let lg = c.lg_of-lg.result in
     let domain = c.requires.domain lg (sym (ap (λ (e : EvaluationsOf g.row.F.Denot). e.matrix.rows) self_is) ∙ c.lg_of-lg.ensures.value) in
     let long : length c.self.inside.filled ≡ 2 ^ lg = c.self.invariant.1 ∙ sym (ap (λ (m : MatrixOf g.row.F.Denot). m.rows) c.matrix.view_is) ∙ c.lg_of-lg.ensures.value in
