@@ -1,4 +1,4 @@
-//! Values of polynomials at the points of domains.
+//! Values of polynomials at the points of domains, and polynomials that vanish at some.
 
 ghost use Rattle.std.specs.Prelude.{IsTrue};
 ghost use Rattle.math_ntt.specs.DomainValues.{HasDomain};
@@ -7,8 +7,9 @@ use super::matrices::{matrix, put_matrix};
 use super::vectors::padded;
 use crate::answer::{Answer, put};
 use crate::fault::Fault;
-use crate::words::{number, parted};
-use commonware_math::ntt::{EvaluationVector, Work};
+use crate::words::{number, parted, short};
+use commonware_math::algebra::{Field, Multiplicative, Object};
+use commonware_math::ntt::{EvaluationColumn, EvaluationVector, VanishingPoints, Work};
 use math_samples::elements::Element;
 use std::alloc::Global;
 
@@ -27,6 +28,8 @@ pub fn run<R: Element>(
         "evaluate_work" => {
             let _values = evaluated(alloc, arguments, answer)?;
         }
+        "vanishing" => put_vanishing(alloc, arguments, answer)?,
+        "vanishing_polynomial" => put_polynomial(alloc, arguments, answer)?,
         _ => return Ok(false),
     }
     Ok(true)
@@ -63,4 +66,77 @@ fn evaluated<R: Element>(
     write!(answer.text, " {}", work.butterflies())?;
     put(&mut answer.text, values.filled_rows() as u64)?;
     Ok(values)
+}
+
+/// The points of which those in the list do not vanish, from `LG ; [I, ..]`.
+fn points(alloc: Global, text: &str) -> Result<VanishingPoints, Fault> {
+    let (lg, list) = parted(text, ';')?;
+    let lg = short(lg)?;
+    if lg >= 64 {
+        return Err(Fault::OutOfRange("lg above 63"));
+    }
+    let mut points = VanishingPoints::new(alloc, lg)?;
+    for word in list.split(',') {
+        let word = word.trim().trim_start_matches('[').trim_end_matches(']');
+        let index = number(word)?;
+        if index >> points.lg_size() != 0 {
+            return Err(Fault::OutOfRange("no such point"));
+        }
+        points.set_non_vanishing(index);
+    }
+    Ok(points)
+}
+
+/// The inverse of the value at zero, and the values, of what vanishes at the other points.
+fn vanishing<R: Element>(
+    alloc: Global,
+    points: &VanishingPoints,
+) -> Result<(R, EvaluationColumn<R>), Fault> {
+    if points.count_non_vanishing() == 0 || !has_domain::<R>(1 << points.lg_size()) {
+        return Err(Fault::OutOfRange("no such domain"));
+    }
+    let (at_zero, values) = EvaluationColumn::<R>::vanishing(alloc, points)?;
+    Ok((at_zero.inv(alloc)?, values))
+}
+
+/// `vanishing LG ; [I, ..]`: the values of what vanishes at the points that are not listed, at those that
+/// are, each over the value at zero.
+fn put_vanishing<R: Element>(
+    alloc: Global,
+    arguments: &str,
+    answer: &mut Answer<R>,
+) -> Result<(), Fault> {
+    let points = points(alloc, arguments)?;
+    let (scale, values) = vanishing::<R>(alloc, &points)?;
+    answer.text.push_str(" values over the value at zero")?;
+    let size: u64 = 1 << points.lg_size();
+    for (index, value) in (0..size).zip(values.values()) {
+        if points.get(index) {
+            answer.keyed(index, value.clone(alloc)?.mul(alloc, &scale)?)?;
+        }
+    }
+    Ok(())
+}
+
+/// `vanishing_polynomial LG ; [I, ..]`: its coefficients, and after `:` its values at all points, each over
+/// the value at zero.
+fn put_polynomial<R: Element>(
+    alloc: Global,
+    arguments: &str,
+    answer: &mut Answer<R>,
+) -> Result<(), Fault> {
+    let (scale, values) = vanishing::<R>(alloc, &points(alloc, arguments)?)?;
+    let count = values.values().len();
+    if !has_domain::<R>(count) {
+        return Err(Fault::OutOfRange("no such domain"));
+    }
+    let polynomial = values.interpolate(alloc)?;
+    for i in 0..count {
+        answer.element(polynomial.coefficient(i).clone(alloc)?.mul(alloc, &scale)?)?;
+    }
+    answer.text.push_str(" :")?;
+    for value in polynomial.evaluate(alloc)?.values() {
+        answer.element(value.clone(alloc)?.mul(alloc, &scale)?)?;
+    }
+    Ok(())
 }
