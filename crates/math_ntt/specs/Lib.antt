@@ -14,3 +14,4 @@ pub mod RecoveryWork
 pub mod CombinedCells
 pub mod LevelTables
 pub mod RecoveredRows
+pub mod RecoveredValues
