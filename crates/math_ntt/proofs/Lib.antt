@@ -31,3 +31,4 @@ pub mod RecoveryCounts
 pub mod OnDomain
 pub mod OneColumn
 pub mod RecoveredWholes
+pub mod RecoveredFromValues

@@ -154,3 +154,8 @@ module _ (start stride : ℕ) (filled : List Bool) (n : ℕ) where
   -- among more places there are no fewer
   pub count_false-rises : (m : ℕ) → m ≤ n → count_false (places m) ≤ count_false (places n)
   count_false-rises m h = let e : m + (n - m) ≡ n = omega arith in rw e at (rises-by m (n - m))
+
+-- of n filled places n are filled
+pub count_true-all : (n : ℕ) → count_true (replicate n true) ≡ n
+count_true-all zero = refl
+count_true-all (suc n) = count_true-true (replicate n true) ∙ ap suc (count_true-all n)

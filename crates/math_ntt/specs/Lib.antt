@@ -15,3 +15,4 @@ pub mod RecoveryWork
 pub mod CombinedCells
 pub mod LevelTables
 pub mod RecoveredRows
+pub mod RecoveredValues

@@ -2,3 +2,4 @@
 
 pub mod places;
 pub mod transforms;
+pub mod recovery;
