@@ -5,9 +5,10 @@ ghost use Rattle.std.specs.Fn.{FnReturnsAt};
 ghost use Rattle.std.specs.Map.{keys_of};
 ghost use Rattle.math_theory.specs.Powers.{multiple};
 ghost use Rattle.math_theory.specs.Sums.{number_of_limbs, weighted_sum};
-ghost use Rattle.commonware_math.specs.Synthetics.{HasTerm, IsRising, HasIndices, IsMapOfCombinations, AnyHasTerm, AreSameCombinations};
-ghost use Rattle.commonware_math.specs.Synthetics.{map_weights, combination_zero, combination_sum, combination_difference};
-ghost use Rattle.commonware_math.specs.Synthetics.{combination_negative, combination_multiple};
+ghost use Rattle.commonware_math.specs.Synthetics.{HasTerm, IsRising, HasIndices, IsMapOfCombinations, AnyHasTerm};
+ghost use Rattle.commonware_math.specs.Synthetics.{AreSameCombinations, map_weights, combination_zero};
+ghost use Rattle.commonware_math.specs.Synthetics.{combination_sum, combination_difference, combination_negative};
+ghost use Rattle.commonware_math.specs.Synthetics.{combination_multiple};
 ghost use Rattle.commonware_math.specs.SyntheticLaws.{combinations_equality, combinations_group, combinations_module};
 
 use super::Synthetic;
@@ -28,7 +29,8 @@ impl<F: Ring, G: Space<F>> Synthetic<F, G> {
             (on_weights : F → F) (on_points : G → G)
             → IsMapOfCombinations F.same F.sum G.same G.sum G.scaling on_weights on_points
             → ((w x : F) → FnReturnsAt A.Fn f w (Ok x) → F.same x (on_weights w))
-            → AreSameCombinations F.same F.zero F.sum G.same c (map_weights on_weights self.now.0, on_points self.now.1)) }
+            → AreSameCombinations F.same F.zero F.sum G.same c
+            (map_weights on_weights self.now.0, on_points self.now.1)) }
     {
         let mut free = Vec::new(alloc);
         for term in &self.free {
