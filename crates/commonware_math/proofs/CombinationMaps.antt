@@ -88,7 +88,8 @@ module _ {A B : Type 0} {same : A → A → Type 0} {zero_of : A} {sum : A → A
       rw (power-suc (combination_zero {A = A} zero_point) (combination_sum sum_points) c n, power-suc zero_point sum_points c.1 n) (ap (λ p. sum_points p c.1) (points_of_repeated_sum c n))
 
   pub repeated : (c : List (ℕ × A) × B) (n : ℕ)
-      → AreSameCombinations same zero_of sum same_point (map_weights (λ w. multiple zero_of sum w n) c.0, multiple zero_point sum_points c.1 n) (multiple (combination_zero zero_point) (combination_sum sum_points) c n)
+      → AreSameCombinations same zero_of sum same_point (map_weights (λ w. multiple zero_of sum w n) c.0, multiple zero_point sum_points c.1 n)
+      (multiple (combination_zero zero_point) (combination_sum sum_points) c n)
   repeated c n = record {
     weights = λ i. E.transitive _ _ _ (weight_at-map E G (multiple_is_additive E G n) c.0 i) (E.symmetric _ _ (weight_of_repeated_sum c n i));
     points = rw (points_of_repeated_sum c n) (E'.reflexive _);

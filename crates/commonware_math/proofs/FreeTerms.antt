@@ -58,7 +58,8 @@ module _ {A : Type 0} where
       ]
 
   -- the index of the last term is the greatest
-  pub greatest_from_last : (terms : List (ℕ × A)) (last : Option ℕ) → IsRising terms → (terms ≡ [] → last ≡ None) → ((before : List (ℕ × A)) (term : ℕ × A) → terms ≡ before ++ term ∷ [] → last ≡ Some term.0)
+  pub greatest_from_last : (terms : List (ℕ × A)) (last : Option ℕ) → IsRising terms → (terms ≡ [] → last ≡ None)
+      → ((before : List (ℕ × A)) (term : ℕ × A) → terms ≡ before ++ term ∷ [] → last ≡ Some term.0)
       → IfNone last (terms ≡ []) × IfSome last (λ i. IsGreatestIndex terms i)
   greatest_from_last [] None r n h = (refl, tt)
   greatest_from_last [] (Some i) r n h = absurd (cc (n refl))
@@ -190,7 +191,8 @@ module _ {A : Type 0} {same : A → A → Type 0} {zero : A} {sum : A → A → 
   weight_of_both false t v w h = E.symmetric _ _ (G.identity zero)
 
   -- the last terms of both lists, which have one index, are taken
-  both_taken : (p q a b rest : List (ℕ × A)) (term : ℕ × A) (v w : A) → same term.1 (sum v w) → IsMerging same zero sum p q (a ++ (term.0, v) ∷ []) (b ++ (term.0, w) ∷ []) rest → IsMerging same zero sum p q a b (term ∷ rest)
+  both_taken : (p q a b rest : List (ℕ × A)) (term : ℕ × A) (v w : A) → same term.1 (sum v w) → IsMerging same zero sum p q (a ++ (term.0, v) ∷ []) (b ++ (term.0, w) ∷ []) rest
+      → IsMerging same zero sum p q a b (term ∷ rest)
   both_taken p q a b rest term v w e h = record {
     first = rising-first a ((term.0, v) ∷ []) h.first;
     second = rising-first b ((term.0, w) ∷ []) h.second;

@@ -37,7 +37,8 @@ module _ {A : Type 0} where
       (λ i k. rw (← f) (h.0 i (HasTerm-keys b a (sym rest) i k)), rising-keys a b rest h.1)
 
   -- the indices of two lists are those of their copies
-  pub indices-of_copies : (a a' b b' terms : List (ℕ × A)) → keys_of a' ≡ keys_of a → keys_of b' ≡ keys_of b → HasIndices terms (λ i. HasTerm a' i ⊎ HasTerm b' i) → HasIndices terms (λ i. HasTerm a i ⊎ HasTerm b i)
+  pub indices-of_copies : (a a' b b' terms : List (ℕ × A)) → keys_of a' ≡ keys_of a → keys_of b' ≡ keys_of b
+      → HasIndices terms (λ i. HasTerm a' i ⊎ HasTerm b' i) → HasIndices terms (λ i. HasTerm a i ⊎ HasTerm b i)
   indices-of_copies a a' b b' terms e f h = record {
     rising = h.rising;
     indices = λ i. (
@@ -70,5 +71,6 @@ module _ {A B : Type 0} {same : A → A → Type 0} {sum : A → A → A} {same_
   points-under (t ∷ pairs) (u ∷ images) h =
       let s = E.symmetric in
       let r = E.transitive in
-      r _ _ _ (G.respects_sum _ _ _ _ (r _ _ _ (respects_points u.1 t.1 u.0 h.0.1) (r _ _ _ (respects_weights t.1 u.0 (f t.0) (answers t.0 u.0 h.0.0)) (M.scaled t.1 t.0))) (points-under pairs images h.1))
+      r _ _ _ (G.respects_sum _ _ _ _ (r _ _ _ (respects_points u.1 t.1 u.0 h.0.1) (r _ _ _ (respects_weights t.1 u.0 (f t.0) (answers t.0 u.0 h.0.0)) (M.scaled t.1 t.0)))
+      (points-under pairs images h.1))
       (s _ _ (M.points.of_sum _ _))

@@ -28,7 +28,8 @@ module _ {A B : Type 0} where
       rw e record { rising = r; indices = λ i. (λ h. inl (HasTerm-keys terms c.0 k i h), λ o. elim o [ inl h ↦ HasTerm-keys c.0 terms (sym k) i h | inr h ↦ absurd h ]) }
 
   -- the indices of both halves
-  pub indices-of_halves : (combinations : List (List (ℕ × A) × B)) (m : ℕ) (a b terms : List (ℕ × A)) → HasIndices a (AnyHasTerm (take m combinations)) → HasIndices b (AnyHasTerm (drop m combinations))
+  pub indices-of_halves : (combinations : List (List (ℕ × A) × B)) (m : ℕ) (a b terms : List (ℕ × A))
+      → HasIndices a (AnyHasTerm (take m combinations)) → HasIndices b (AnyHasTerm (drop m combinations))
       → HasIndices terms (λ i. HasTerm a i ⊎ HasTerm b i) → HasIndices terms (AnyHasTerm combinations)
   indices-of_halves combinations m a b terms h k l =
       rw (← take-append-drop m combinations) record {
@@ -55,7 +56,8 @@ module _ {A B : Type 0} {same : A → A → Type 0} {zero_of : A} {sum : A → A
 
   -- the sums of both halves
   pub weighted_sum-of_halves : (points : List A) (scalars : List B) (m : ℕ) → length (take m points) ≡ length (take m scalars)
-      → same (sum (weighted_sum zero_of sum scaling (take m points) (take m scalars)) (weighted_sum zero_of sum scaling (drop m points) (drop m scalars))) (weighted_sum zero_of sum scaling points scalars)
+      → same (sum (weighted_sum zero_of sum scaling (take m points) (take m scalars)) (weighted_sum zero_of sum scaling (drop m points) (drop m scalars)))
+      (weighted_sum zero_of sum scaling points scalars)
   weighted_sum-of_halves points scalars m e =
       let both = weighted_sum-append (take m points) (drop m points) (take m scalars) (drop m scalars) e in
       E.symmetric _ _ (rw (take-append-drop, take-append-drop) at both)

@@ -89,7 +89,8 @@ module _ {A B : Type 0} {same : A → A → Type 0} {zero : A} {sum : A → A �
     {same_point : B → B → Type 0} {zero_point : B} {sum_points : B → B → B} {scaling : B → A → B}
     (E : IsEquality same) (G : IsGroup same zero sum negative) (P : IsProduct same product) (R : IsRing same sum product one)
     (M : IsModule same_point zero_point sum_points scaling same zero sum product one) where
-  pub combinations_module : IsModule (AreSameCombinations same zero sum same_point) (combination_zero zero_point) (combination_sum sum_points) (combination_multiple product scaling) same zero sum product one
+  pub combinations_module : IsModule (AreSameCombinations same zero sum same_point) (combination_zero zero_point) (combination_sum sum_points)
+      (combination_multiple product scaling) same zero sum product one
   combinations_module =
       let s = E.symmetric in
       let t = E.transitive in

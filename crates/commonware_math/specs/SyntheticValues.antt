@@ -13,8 +13,10 @@ HaveSameValues {A} {B} S R = (generators : List A) (c d : List (ℕ × B) × A) 
 
 -- the value of a sum is the sum of the values
 abbrev pub HaveValuesOfSums : {A B : Type 0} → SpaceOf A B → RingOf B → Type 0
-HaveValuesOfSums {A} {B} S R = (generators : List A) (c d : List (ℕ × B) × A) → S.same (value_in S R generators (combination_sum S.sum c d)) (S.sum (value_in S R generators c) (value_in S R generators d))
+HaveValuesOfSums {A} {B} S R = (generators : List A) (c d : List (ℕ × B) × A)
+    → S.same (value_in S R generators (combination_sum S.sum c d)) (S.sum (value_in S R generators c) (value_in S R generators d))
 
 -- the value of a multiple is the multiple of the value
 abbrev pub HaveValuesOfMultiples : {A B : Type 0} → SpaceOf A B → RingOf B → Type 0
-HaveValuesOfMultiples {A} {B} S R = (generators : List A) (c : List (ℕ × B) × A) (x : B) → S.same (value_in S R generators (combination_multiple R.product S.scaling c x)) (S.scaling (value_in S R generators c) x)
+HaveValuesOfMultiples {A} {B} S R = (generators : List A) (c : List (ℕ × B) × A) (x : B)
+    → S.same (value_in S R generators (combination_multiple R.product S.scaling c x)) (S.scaling (value_in S R generators c) x)

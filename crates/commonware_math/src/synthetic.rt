@@ -12,7 +12,8 @@
 
 ghost use Rattle.std.specs.Prelude.{◌≡◌, ◌<◌, ◌≤◌, ◌^◌, ℕ, List, [], length, IfOk, IfSome, IfNone, None};
 ghost use Rattle.std.specs.Iterator.{IsFiniteIterable, Drains};
-ghost use Rattle.commonware_math.specs.Synthetics.{HasTerm, IsGreatestIndex, combination_zero, concrete_sum, value_under};
+ghost use Rattle.commonware_math.specs.Synthetics.{HasTerm, IsGreatestIndex, combination_zero, concrete_sum};
+ghost use Rattle.commonware_math.specs.Synthetics.{value_under};
 
 mod algebra;
 mod generators;
@@ -64,7 +65,9 @@ impl<F: Ring, G: Space<F>> Synthetic<F, G> {
     where
         P::IntoIter: Drop,
         requires { IsFiniteIterable P.into_iter_gives P.IntoIter.can_next P.IntoIter.remaining weighted_points }
-        ensures { IfOk result (λ c. (it : P.IntoIter) × (xs : List (F × G)) × P.into_iter_gives weighted_points it × Drains P.IntoIter.next_gives it xs × (c ≡ ([], concrete_sum G.zero G.sum G.scaling xs))) }
+        ensures { IfOk result (λ c.
+            (it : P.IntoIter) × (xs : List (F × G)) × P.into_iter_gives weighted_points it
+            × Drains P.IntoIter.next_gives it xs × (c ≡ ([], concrete_sum G.zero G.sum G.scaling xs))) }
     {
         let mut concrete = Vec::new(alloc);
         for weighted_point in weighted_points {
@@ -90,7 +93,8 @@ impl<F: Ring, G: Space<F>> Synthetic<F, G> {
     /// Each stored index has to be below the number of generators.
     pub fn eval(self, alloc: Global, generators: &[G]) -> Mem<G>
         requires { (i : ℕ) → HasTerm self.0 i → i < length generators.now }
-        ensures { IfOk result (λ answer. G.same answer (value_under F.zero F.sum G.zero G.sum G.scaling generators.now self)) }
+        ensures { IfOk result (λ answer.
+            G.same answer (value_under F.zero F.sum G.zero G.sum G.scaling generators.now self)) }
     {
         let mut points = Vec::new(alloc);
         let mut weights = Vec::new(alloc);

@@ -4,8 +4,8 @@ use Rattle.std.proofs.lemmas.List.{get_or_past, length-replicate}
 use Rattle.math_theory.specs.Laws.{IsEquality, IsGroup, IsProduct, IsRing, IsField}
 use Rattle.math_theory.specs.Recovery.{count_true}
 use Rattle.math_theory.specs.RootLaws.{HasRootsOfUnity}
-use Rattle.math_theory.proofs.CarriedDomains.{HasCoset-of_order-same}
-use Rattle.math_theory.proofs.CarriedRecovery.{fits_once-same}
+use Rattle.math_theory.proofs.domains.CarriedDomains.{HasCoset-of_order-same}
+use Rattle.math_theory.proofs.recovery.CarriedRecovery.{fits_once-same}
 use Rattle.math_base.specs.Members.{RingOf}
 use Rattle.math_ntt.specs.Matrices.{MatrixOf, column_of}
 use Rattle.math_ntt.specs.RecoveredValues.{HoldsValues, RecoversFromSome, RecoversFromAll}

@@ -3,6 +3,8 @@
 #![tactic(auto)]
 
 #[cfg(test)]
+mod combinations;
+#[cfg(test)]
 mod encodings;
 #[cfg(test)]
 mod iterators;

@@ -5,7 +5,10 @@ ghost use Rattle.std.specs.Fn.{FnReturnsAt};
 ghost use Rattle.std.specs.Map.{keys_of};
 ghost use Rattle.math_theory.specs.Powers.{multiple};
 ghost use Rattle.math_theory.specs.Sums.{number_of_limbs, weighted_sum};
-ghost use Rattle.commonware_math.specs.Synthetics.{HasTerm, IsRising, HasIndices, IsMapOfCombinations, AnyHasTerm, AreSameCombinations, map_weights, combination_zero, combination_sum, combination_difference, combination_negative, combination_multiple};
+ghost use Rattle.commonware_math.specs.Synthetics.{HasTerm, IsRising, HasIndices, IsMapOfCombinations, AnyHasTerm};
+ghost use Rattle.commonware_math.specs.Synthetics.{AreSameCombinations, map_weights, combination_zero};
+ghost use Rattle.commonware_math.specs.Synthetics.{combination_sum, combination_difference, combination_negative};
+ghost use Rattle.commonware_math.specs.Synthetics.{combination_multiple};
 ghost use Rattle.commonware_math.specs.SyntheticLaws.{combinations_equality, combinations_group, combinations_module};
 
 use super::Synthetic;
@@ -22,8 +25,12 @@ impl<F: Ring, G: Space<F>> Synthetic<F, G> {
         requires { A.IsAlwaysCallable f }
         ensures rising { IfOk result (λ c. IsRising c.0) }
         ensures indices { IfOk result (λ c. keys_of c.0 ≡ keys_of self.now.0) }
-        ensures ok { IfOk result (λ c. (on_weights : F → F) (on_points : G → G) → IsMapOfCombinations F.same F.sum G.same G.sum G.scaling on_weights on_points
-            → ((w x : F) → FnReturnsAt A.Fn f w (Ok x) → F.same x (on_weights w)) → AreSameCombinations F.same F.zero F.sum G.same c (map_weights on_weights self.now.0, on_points self.now.1)) }
+        ensures ok { IfOk result (λ c.
+            (on_weights : F → F) (on_points : G → G)
+            → IsMapOfCombinations F.same F.sum G.same G.sum G.scaling on_weights on_points
+            → ((w x : F) → FnReturnsAt A.Fn f w (Ok x) → F.same x (on_weights w))
+            → AreSameCombinations F.same F.zero F.sum G.same c
+            (map_weights on_weights self.now.0, on_points self.now.1)) }
     {
         let mut free = Vec::new(alloc);
         for term in &self.free {
@@ -40,7 +47,8 @@ impl<F: Ring, G: Space<F>> Synthetic<F, G> {
     /// The negative of each weight.
     fn negative(&self, alloc: Global) -> Mem<Self>
         ensures indices { IfOk result (λ c. keys_of c.0 ≡ keys_of self.now.0) }
-        ensures ok { IfOk result (λ c. AreSameCombinations F.same F.zero F.sum G.same c (combination_negative F.negative G.negative self.now)) }
+        ensures ok { IfOk result (λ c.
+            AreSameCombinations F.same F.zero F.sum G.same c (combination_negative F.negative G.negative self.now)) }
     {
         let out = self.with_weights(
             alloc,
@@ -59,7 +67,9 @@ impl<F: Ring, G: Space<F>> Synthetic<F, G> {
     fn times(&self, alloc: Global, r: &F) -> Mem<Self>
         ensures rising { IfOk result (λ c. IsRising c.0) }
         ensures indices { IfOk result (λ c. keys_of c.0 ≡ keys_of self.now.0) }
-        ensures ok { IfOk result (λ c. AreSameCombinations F.same F.zero F.sum G.same c (combination_multiple F.product G.scaling self.now r.now)) }
+        ensures ok { IfOk result (λ c.
+            AreSameCombinations F.same F.zero F.sum G.same c
+            (combination_multiple F.product G.scaling self.now r.now)) }
     {
         let out = self.with_weights(
             alloc,
@@ -77,7 +87,8 @@ impl<F: Ring, G: Space<F>> Synthetic<F, G> {
     /// The sum, whose terms are moved.
     fn joined(self, alloc: Global, other: Self) -> Mem<Self>
         ensures indices { IfOk result (λ c. HasIndices c.0 (λ i. HasTerm self.0 i ⊎ HasTerm other.0 i)) }
-        ensures ok { IfOk result (λ c. AreSameCombinations F.same F.zero F.sum G.same c (combination_sum G.sum self other)) }
+        ensures ok { IfOk result (λ c.
+            AreSameCombinations F.same F.zero F.sum G.same c (combination_sum G.sum self other)) }
     {
         let Synthetic { free, mut concrete } = self;
         let Synthetic {
@@ -99,7 +110,10 @@ fn weighted_sum_by_halves<F: Ring, G: Space<F>>(
 ) -> Mem<Synthetic<F, G>>
     requires { length combinations.now ≡ length scalars.now }
     ensures indices { IfOk result (λ c. HasIndices c.0 (AnyHasTerm combinations.now)) }
-    ensures ok { IfOk result (λ c. AreSameCombinations F.same F.zero F.sum G.same c (weighted_sum (combination_zero G.zero) (combination_sum G.sum) (combination_multiple F.product G.scaling) combinations.now scalars.now)) }
+    ensures ok { IfOk result (λ c.
+        AreSameCombinations F.same F.zero F.sum G.same c
+        (weighted_sum (combination_zero G.zero) (combination_sum G.sum)
+        (combination_multiple F.product G.scaling) combinations.now scalars.now)) }
 {
     let count = combinations.len();
     if count == 0 {
@@ -174,7 +188,8 @@ impl<F: Ring, G: Space<F>> Additive for Synthetic<F, G> {
 
     /// Zero, without a term.
     fn zero(alloc: Global) -> Mem<Self>
-        ensures ok { IfOk result (λ answer. AreSameCombinations F.same F.zero F.sum G.same answer (combination_zero G.zero)) }
+        ensures ok { IfOk result (λ answer.
+            AreSameCombinations F.same F.zero F.sum G.same answer (combination_zero G.zero)) }
         ensures indices { IfOk result (λ answer. answer.0 ≡ []) }
     {
         Ok(Self::default(alloc))
@@ -183,7 +198,8 @@ impl<F: Ring, G: Space<F>> Additive for Synthetic<F, G> {
     /// Adds `rhs` to this combination, which then stores the indices of both. Where it is refused, the
     /// combination is as it was.
     fn add_assign(&mut self, alloc: Global, rhs: &Self) -> Mem<()>
-        ensures ok { OnOk result (AreSameCombinations F.same F.zero F.sum G.same self.new (combination_sum G.sum self.old rhs.now)) }
+        ensures ok { OnOk result
+            (AreSameCombinations F.same F.zero F.sum G.same self.new (combination_sum G.sum self.old rhs.now)) }
         ensures indices { OnOk result (HasIndices self.new.0 (λ i. HasTerm self.old.0 i ⊎ HasTerm rhs.now.0 i)) }
         ensures err { OnErr result (self.new ≡ self.old) }
     {
@@ -195,7 +211,9 @@ impl<F: Ring, G: Space<F>> Additive for Synthetic<F, G> {
     /// Takes `rhs` from this combination, which then stores the indices of both, also where a weight
     /// became zero. Where it is refused, the combination is as it was.
     fn sub_assign(&mut self, alloc: Global, rhs: &Self) -> Mem<()>
-        ensures ok { OnOk result (AreSameCombinations F.same F.zero F.sum G.same self.new (combination_difference F.negative G.sum G.negative self.old rhs.now)) }
+        ensures ok { OnOk result
+            (AreSameCombinations F.same F.zero F.sum G.same self.new
+            (combination_difference F.negative G.sum G.negative self.old rhs.now)) }
         ensures indices { OnOk result (HasIndices self.new.0 (λ i. HasTerm self.old.0 i ⊎ HasTerm rhs.now.0 i)) }
         ensures err { OnErr result (self.new ≡ self.old) }
     {
@@ -206,7 +224,8 @@ impl<F: Ring, G: Space<F>> Additive for Synthetic<F, G> {
 
     /// The negative, with the same indices.
     fn neg(self, alloc: Global) -> Mem<Self>
-        ensures ok { IfOk result (λ answer. AreSameCombinations F.same F.zero F.sum G.same answer (combination_negative F.negative G.negative self)) }
+        ensures ok { IfOk result (λ answer.
+            AreSameCombinations F.same F.zero F.sum G.same answer (combination_negative F.negative G.negative self)) }
         ensures indices { IfOk result (λ answer. keys_of answer.0 ≡ keys_of self.0) }
     {
         let out = self.negative(alloc)?;
@@ -215,7 +234,8 @@ impl<F: Ring, G: Space<F>> Additive for Synthetic<F, G> {
 
     /// The sum, with the indices of both.
     fn add(self, alloc: Global, rhs: &Self) -> Mem<Self>
-        ensures ok { IfOk result (λ answer. AreSameCombinations F.same F.zero F.sum G.same answer (combination_sum G.sum self rhs.now)) }
+        ensures ok { IfOk result (λ answer.
+            AreSameCombinations F.same F.zero F.sum G.same answer (combination_sum G.sum self rhs.now)) }
         ensures indices { IfOk result (λ answer. HasIndices answer.0 (λ i. HasTerm self.0 i ⊎ HasTerm rhs.now.0 i)) }
     {
         let terms = rhs.clone(alloc)?;
@@ -225,7 +245,9 @@ impl<F: Ring, G: Space<F>> Additive for Synthetic<F, G> {
 
     /// The difference, with the indices of both, also where a weight became zero.
     fn sub(self, alloc: Global, rhs: &Self) -> Mem<Self>
-        ensures ok { IfOk result (λ answer. AreSameCombinations F.same F.zero F.sum G.same answer (combination_difference F.negative G.sum G.negative self rhs.now)) }
+        ensures ok { IfOk result (λ answer.
+            AreSameCombinations F.same F.zero F.sum G.same answer
+            (combination_difference F.negative G.sum G.negative self rhs.now)) }
         ensures indices { IfOk result (λ answer. HasIndices answer.0 (λ i. HasTerm self.0 i ⊎ HasTerm rhs.now.0 i)) }
     {
         let terms = rhs.negative(alloc)?;
@@ -235,7 +257,8 @@ impl<F: Ring, G: Space<F>> Additive for Synthetic<F, G> {
 
     /// Doubles each weight, so indices and points stay. Where it is refused, the combination is as it was.
     fn double(&mut self, alloc: Global) -> Mem<()>
-        ensures ok { OnOk result (AreSameCombinations F.same F.zero F.sum G.same self.new (combination_sum G.sum self.old self.old)) }
+        ensures ok { OnOk result
+            (AreSameCombinations F.same F.zero F.sum G.same self.new (combination_sum G.sum self.old self.old)) }
         ensures indices { OnOk result (keys_of self.new.0 ≡ keys_of self.old.0) }
         ensures err { OnErr result (self.new ≡ self.old) }
     {
@@ -256,8 +279,11 @@ impl<F: Ring, G: Space<F>> Additive for Synthetic<F, G> {
     /// The n-fold sum, n being the number that the limbs write, the lowest limb first. It has no term
     /// where they write 0; else it has the indices and points of this combination, with n-fold weights.
     fn scale(&self, alloc: Global, bits_le: &[u64]) -> Mem<Self>
-        ensures ok { IfOk result (λ answer. AreSameCombinations F.same F.zero F.sum G.same answer (multiple (combination_zero G.zero) (combination_sum G.sum) self.now (number_of_limbs bits_le.now))) }
-        ensures indices { IfOk result (λ answer. 0 < number_of_limbs bits_le.now → keys_of answer.0 ≡ keys_of self.now.0) }
+        ensures ok { IfOk result (λ answer.
+            AreSameCombinations F.same F.zero F.sum G.same answer
+            (multiple (combination_zero G.zero) (combination_sum G.sum) self.now (number_of_limbs bits_le.now))) }
+        ensures indices { IfOk result (λ answer.
+            0 < number_of_limbs bits_le.now → keys_of answer.0 ≡ keys_of self.now.0) }
         ensures indices_of_zero { IfOk result (λ answer. number_of_limbs bits_le.now ≡ 0 → answer.0 ≡ []) }
     {
         if bits_le.iter().all(|limb| *limb == 0) {
@@ -266,7 +292,8 @@ impl<F: Ring, G: Space<F>> Additive for Synthetic<F, G> {
         let out = self.with_weights(
             alloc,
             |w: &F| -> Mem<F>
-                ensures { IfOk result (λ x. F.same x (multiple F.zero F.sum w.now (number_of_limbs bits_le.entry.now))) }
+                ensures { IfOk result (λ x.
+                    F.same x (multiple F.zero F.sum w.now (number_of_limbs bits_le.entry.now))) }
             { w.scale(alloc, bits_le) },
         )?;
         Ok(out)
@@ -282,7 +309,9 @@ impl<F: Ring, G: Space<F>> Space<F> for Synthetic<F, G> {
     /// Scales each weight by `r`, so indices and points stay. Where it is refused, the combination is as
     /// it was.
     fn scale_assign(&mut self, alloc: Global, r: &F) -> Mem<()>
-        ensures ok { OnOk result (AreSameCombinations F.same F.zero F.sum G.same self.new (combination_multiple F.product G.scaling self.old r.now)) }
+        ensures ok { OnOk result
+            (AreSameCombinations F.same F.zero F.sum G.same self.new
+            (combination_multiple F.product G.scaling self.old r.now)) }
         ensures indices { OnOk result (keys_of self.new.0 ≡ keys_of self.old.0) }
         ensures err { OnErr result (self.new ≡ self.old) }
     {
@@ -292,7 +321,9 @@ impl<F: Ring, G: Space<F>> Space<F> for Synthetic<F, G> {
 
     /// The combination scaled by `r`, with the same indices and points.
     fn scaled(self, alloc: Global, r: &F) -> Mem<Self>
-        ensures ok { IfOk result (λ answer. AreSameCombinations F.same F.zero F.sum G.same answer (combination_multiple F.product G.scaling self r.now)) }
+        ensures ok { IfOk result (λ answer.
+            AreSameCombinations F.same F.zero F.sum G.same answer
+            (combination_multiple F.product G.scaling self r.now)) }
         ensures indices { IfOk result (λ answer. keys_of answer.0 ≡ keys_of self.0) }
     {
         let out = self.times(alloc, r)?;
@@ -302,8 +333,12 @@ impl<F: Ring, G: Space<F>> Space<F> for Synthetic<F, G> {
     /// The sum of combination i scaled by scalar i, over the shorter of both slices; zero for none. It has
     /// the indices of all combinations that have a scalar.
     fn msm(alloc: Global, points: &[Self], scalars: &[F]) -> Mem<Self>
-        ensures ok { IfOk result (λ answer. AreSameCombinations F.same F.zero F.sum G.same answer (weighted_sum (combination_zero G.zero) (combination_sum G.sum) (combination_multiple F.product G.scaling) points.now scalars.now)) }
-        ensures indices { IfOk result (λ answer. HasIndices answer.0 (AnyHasTerm (take (length scalars.now) points.now))) }
+        ensures ok { IfOk result (λ answer.
+            AreSameCombinations F.same F.zero F.sum G.same answer
+            (weighted_sum (combination_zero G.zero) (combination_sum G.sum)
+            (combination_multiple F.product G.scaling) points.now scalars.now)) }
+        ensures indices { IfOk result (λ answer.
+            HasIndices answer.0 (AnyHasTerm (take (length scalars.now) points.now))) }
     {
         let count = points.len().min(scalars.len());
         let out = weighted_sum_by_halves(alloc, &points[..count], &scalars[..count])?;

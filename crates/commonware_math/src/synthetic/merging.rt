@@ -42,7 +42,8 @@ fn pop_greatest<F: Additive>(
     requires first { IsRising a.old.items }
     requires second { IsRising b.old.items }
     ensures none { IfOk result (λ popped. IfNone popped ((a.old.items ≡ []) × (b.old.items ≡ []))) }
-    ensures some { IfOk result (λ popped. IfSome popped (λ term. IsPopped F.same F.sum a.old.items b.old.items term a.new.items b.new.items)) }
+    ensures some { IfOk result (λ popped.
+        IfSome popped (λ term. IsPopped F.same F.sum a.old.items b.old.items term a.new.items b.new.items)) }
 {
     let end = index_end(a);
     let other_end = index_end(b);

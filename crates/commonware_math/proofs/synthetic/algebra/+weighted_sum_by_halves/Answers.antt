@@ -22,7 +22,8 @@ returns-then-count-eq1-clause-ok g t c =
 
 pub returns-clause-indices : goal.returns-clause-indices
 returns-clause-indices g t c =
-    indices-of_halves c.args.combinations.now _ _ _ _ (rw c.split_at.ensures.front at c.in_ok-sum.ensures.indices) (rw c.split_at.ensures.back at c.in_ok-other_sum.ensures.indices) c.in_ok-out-2.ensures.indices
+    indices-of_halves c.args.combinations.now _ _ _ _ (rw c.split_at.ensures.front at c.in_ok-sum.ensures.indices)
+    (rw c.split_at.ensures.back at c.in_ok-other_sum.ensures.indices) c.in_ok-out-2.ensures.indices
 
 pub returns-clause-ok : goal.returns-clause-ok
 returns-clause-ok g t c =
@@ -34,5 +35,6 @@ returns-clause-ok g t c =
     let even : length (take m c.args.combinations.now) ≡ length (take m c.args.scalars.now) =
     omega (arith, length-take m c.args.combinations.now, length-take m c.args.scalars.now, c.requires) in
     Q.transitive _ _ _ c.in_ok-out-2.ensures.ok
-    (Q.transitive _ _ _ (P.respects_sum _ _ _ _ (rw (c.split_at.ensures.front, c.split_at-2.ensures.front) at c.in_ok-sum.ensures.ok) (rw (c.split_at.ensures.back, c.split_at-2.ensures.back) at c.in_ok-other_sum.ensures.ok))
+    (Q.transitive _ _ _ (P.respects_sum _ _ _ _ (rw (c.split_at.ensures.front, c.split_at-2.ensures.front) at c.in_ok-sum.ensures.ok)
+    (rw (c.split_at.ensures.back, c.split_at-2.ensures.back) at c.in_ok-other_sum.ensures.ok))
     (weighted_sum-of_halves Q P (combination_multiple g.F.Multiplicative.product g.G.Space.scaling) c.args.combinations.now c.args.scalars.now m even))
