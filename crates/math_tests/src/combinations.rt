@@ -1,3 +1,5 @@
+//! Combinations of free generators and points, at the Goldilocks field, the boxed field and the quotients modulo 97.
+
 use commonware_math::algebra::{Additive, Mem, Object, Ring, Space};
 use commonware_math::codec::{LengthRange, decode};
 use commonware_math::fields::goldilocks::F;
