@@ -10,7 +10,7 @@
 //! values under all generators, so an equation between commitments may be worked out on combinations,
 //! and costs one `msm` in the end.
 
-ghost use Rattle.std.specs.Prelude.{◌≡◌, ◌<◌, ◌≤◌, ◌^◌, ℕ, List, [], length, IfOk, IfSome, IfNone, None};
+ghost use Rattle.std.specs.Prelude.{◌≡◌, ◌<◌, ℕ, List, [], length, IfOk, IfSome, IfNone};
 ghost use Rattle.std.specs.Iterator.{IsFiniteIterable, Drains};
 ghost use Rattle.commonware_math.specs.Synthetics.{HasTerm, IsGreatestIndex, combination_zero, concrete_sum};
 ghost use Rattle.commonware_math.specs.Synthetics.{value_under};

@@ -1,6 +1,6 @@
 //! Combinations as a space: their equality, sums and multiples.
 
-ghost use Rattle.std.specs.Prelude.{◌≡◌, ◌↔◌, ◌<◌, ◌⊎◌, false, IsTrue, IfOk, Ok, OnOk, OnErr, List, [], length, take};
+ghost use Rattle.std.specs.Prelude.{◌≡◌, ◌<◌, ◌⊎◌, false, IfOk, Ok, OnOk, OnErr, [], length, take};
 ghost use Rattle.std.specs.Fn.{FnReturnsAt};
 ghost use Rattle.std.specs.Map.{keys_of};
 ghost use Rattle.math_theory.specs.Powers.{multiple};

@@ -1,9 +1,8 @@
 //! Single free generators.
 
-ghost use Rattle.std.specs.Prelude.{◌≡◌, ◌≤◌, ◌<◌, ◌^◌, ◌∷◌, [], ℕ, IfOk, Some, None};
+ghost use Rattle.std.specs.Prelude.{◌≤◌, ◌<◌, ◌^◌, ℕ, IfOk};
 ghost use Rattle.std.specs.Iterator.{YieldsThen, at_most};
 ghost use Rattle.std.specs.List.{HoldsAt};
-ghost use Rattle.commonware_math.specs.Synthetics.{HasIndices, AreSameCombinations};
 ghost use Rattle.commonware_math.specs.SyntheticGenerators.{IsGenerator, GivesGenerator, AreGenerators, indices_left};
 
 use super::Synthetic;

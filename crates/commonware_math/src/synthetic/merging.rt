@@ -1,6 +1,6 @@
 //! Free terms of two combinations, joined by rising index.
 
-ghost use Rattle.std.specs.Prelude.{◌≡◌, ◌+◌, ◌++◌, ◌∷◌, ◌⊎◌, [], ℕ, IfOk, IfSome, IfNone, Some, None};
+ghost use Rattle.std.specs.Prelude.{◌≡◌, ◌++◌, ◌∷◌, ◌⊎◌, [], IfOk, IfSome, IfNone, Some, None};
 ghost use Rattle.commonware_math.specs.Synthetics.{HasTerm, IsRising, HasIndices, HaveSameWeights};
 ghost use Rattle.commonware_math.specs.SyntheticTerms.{IsIndexEnd, IsPopped};
 
