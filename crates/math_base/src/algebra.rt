@@ -33,7 +33,8 @@ pub trait Object: Sized + Debug + Drop {
 
     ghost NEVER_REFUSES: { Bool };
 
-    /// Whether `clone`, `equals` and each call of this module's traits on this type answers `Ok`.
+    /// Whether `clone`, `equals` and each call of `Additive`, `Multiplicative`, `Ring`, `Field`, `FieldNTT`,
+    /// `Space` and `CryptoGroup` on this type answers `Ok`.
     const NEVER_REFUSES: bool;
 
     /// A value that is the same as this one.
