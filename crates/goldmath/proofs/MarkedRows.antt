@@ -8,19 +8,6 @@ use Rattle.std.proofs.lemmas.List.Sums.{sum_by-set}
 use Rattle.math_theory.specs.Recovery.{count_true}
 use Rattle.goldmath.specs.Recoveries.{MarksFirst}
 
--- at the start none is
-pub marks_none : (rows : List ℕ) (size : ℕ) → MarksFirst rows 0 (replicate size false)
-marks_none rows size = record {
-  marked = λ k l. absurd (omega arith);
-  only = λ p e. absurd (false≢true (sym (unmarked p) ∙ e));
-}
-  where
-    unmarked : (p : ℕ) → get_or (replicate size false) p false ≡ false
-    unmarked p = elim (cases_lt p size) [
-      inl l ↦ get_or-replicate size p false false l
-      | inr l ↦ get_or_past (replicate size false) p false (omega (arith, length-replicate size false))
-    ]
-
 -- one row more
 pub marks_more : (rows : List ℕ) (n : ℕ) (marks : List Bool) → MarksFirst rows n marks → get_or rows n 0 < length marks → MarksFirst rows (n + 1) (set marks (get_or rows n 0) true)
 marks_more rows n marks h l = record {

@@ -37,7 +37,8 @@ placed_more lg rows m n v w h l cols below distinct filled =
         inl before ↦
           let other : get_or rows i 0 ≢ row = λ e. distinct i n 0 before l e in
           let there : get_or rows i 0 < 2 ^ lg = below i 0 (omega arith) in
-          subst (λ x. same x (cell_of (residue 0) m i k)) (sym (alone.1.others (residue 0) (get_or rows i 0) k (omega (arith, h.size.0)) (omega (arith, h.size.1)) (λ e _. other e))) (h.cells i k before t)
+          subst (λ x. same x (cell_of (residue 0) m i k))
+          (sym (alone.1.others (residue 0) (get_or rows i 0) k (omega (arith, h.size.0)) (omega (arith, h.size.1)) (λ e _. other e))) (h.cells i k before t)
         | inr after ↦
           let e : i ≡ n = omega arith in
           subst (λ j. same (cell_of (residue 0) w.matrix (get_or rows j 0) k) (cell_of (residue 0) m j k)) (sym e)

@@ -16,16 +16,17 @@ use Rattle.math_base.specs.ElementEncodingLaws.{element_again, element_apart}
 use Rattle.math_ntt.specs.Matrices.{MatrixOf, AreSame}
 use Rattle.math_ntt.specs.MatrixEncoding.{AdmitsMatrix, scan_count, scan_matrix}
 use Rattle.math_ntt.specs.MatrixEncodingLaws.{count_again, matrix_again, matrix_apart}
-use Rattle.goldmath.specs.Recoveries.{most_cells, spelling_of, IsEncodedMatrix, HasSize, IsRecovered, EncodesRecovered, judged, scan_rows}
+use Rattle.goldmath.specs.Recoveries.{most_cells, spelling_of, IsEncodedMatrix, HasSize, IsRecovered, EncodesRecovered, scan_size, scan_rows}
 use Rattle.goldmath.proofs.EncodedPolynomials.{all_below}
 
 -- what is wrong with a matrix that was read is what is wrong with its numbers of rows and of columns
 pub scan_rows-read : (lg words : ℕ) (bytes : List ℕ) (m : MatrixOf F) → m.rows ≤ most_cells → m.cols ≤ most_cells → bytes ≡ spelling_of m
-    → scan_exactly (scan_matrix most_cells scan_element) bytes ≡ Ok tt → scan_rows lg words bytes ≡ judged lg words m.rows m.cols
+    → scan_exactly (scan_matrix most_cells scan_element) bytes ≡ Ok tt → scan_rows lg words bytes ≡ scan_size lg words m.rows m.cols
 unfolding scan_rows
 scan_rows-read lg words bytes m rows cols spelled read =
     let rest : List ℕ = list_spelling (λ a. to_be_bytes w64 (number a)) m.cells in
-    let first : scan_count most_cells bytes ≡ Ok (m.rows, length_spelling m.cols ++ rest) = ap (scan_count most_cells) spelled ∙ count_again most_cells m.rows (length_spelling m.cols ++ rest) (omega arith) rows in
+    let first : scan_count most_cells bytes ≡ Ok (m.rows, length_spelling m.cols ++ rest) =
+    ap (scan_count most_cells) spelled ∙ count_again most_cells m.rows (length_spelling m.cols ++ rest) (omega arith) rows in
     let second : scan_count most_cells (length_spelling m.cols ++ rest) ≡ Ok (m.cols, rest) = count_again most_cells m.cols rest (omega arith) cols in
     rw (read, first, second) refl
 

@@ -51,22 +51,6 @@ recover_words text_of words a b l e f command lg rows size small each distinct =
   distinct = distinct;
 }
 
--- and what the words of the command are
-pub words_of_recover : {W : Type 0} (text_of : W → List ℕ) (words : List W) (a b : W) → 2 ≤ length words → a ≡ get_or words 0 a → b ≡ get_or words 1 b
-    → (lg : ℕ) (rows : List ℕ) → AreRecoverWords (map text_of words) lg rows
-    → (text_of a ≡ codes "recover") × WritesNumber (text_of b) lg × AllZip (WritesRow lg) (map text_of (drop 2 words)) rows
-words_of_recover text_of words a b l e f lg rows h =
-    let all : text_of a ∷ text_of b ∷ map text_of (drop 2 words) ≡ codes "recover" ∷ h.text ∷ h.texts = sym (ap (map text_of) (two_and_more words a b l e f)) ∙ h.command in
-    let text : h.text ≡ text_of b = cc in
-    let texts : h.texts ≡ map text_of (drop 2 words) = cc in
-    (cc, subst (λ t. WritesNumber t lg) text h.size, subst (λ ts. AllZip (WritesRow lg) ts rows) texts h.each)
-
--- fewer than two words are not those of the command
-pub too_few_words : {W : Type 0} (text_of : W → List ℕ) (words : List W) → length words < 2 → (lg : ℕ) (rows : List ℕ) → AreRecoverWords (map text_of words) lg rows → ⊥
-too_few_words text_of [] l lg rows h = let e = h.command in cc
-too_few_words text_of (w ∷ []) l lg rows h = let e = h.command in cc
-too_few_words text_of (v ∷ w ∷ words) l lg rows h = omega (arith, l)
-
 -- rows that words write are below 2^lg
 pub rows_below : (lg : ℕ) (texts : List (List ℕ)) (rows : List ℕ) → AllZip (WritesRow lg) texts rows → All (λ row. row < 2 ^ lg) rows
 rows_below lg [] [] h = All-nil (λ row. row < 2 ^ lg)

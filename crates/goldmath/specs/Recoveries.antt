@@ -45,19 +45,19 @@ abbrev pub HasSize : ℕ → ℕ → MatrixOf F → Type 0
 HasSize lg words m = (m.rows ≡ words) × (2 ^ lg * m.cols ≤ most_cells)
 
 -- what is wrong with a matrix of these numbers of rows and of columns for this number of words and this domain: nothing, or the first fault
-abbrev pub judged : ℕ → ℕ → ℕ → ℕ → Result (Unit {0}) Fault
-judged lg words rows cols =
+abbrev pub scan_size : ℕ → ℕ → ℕ → ℕ → Result (Unit {0}) Fault
+scan_size lg words rows cols =
     if rows == words
     then (if nat_lt most_cells (2 ^ lg * cols) then Err (Invalid (codes "Matrix") (codes "too many cells")) else Ok tt)
     else Err (Invalid (codes "Matrix") (codes "row count does not match words"))
 
--- what reading the matrix and nothing more, and then judging it, meets: no fault, or the first one
+-- what reading the matrix and nothing more, and then looking at its size, meets: no fault, or the first one
 unfoldable pub scan_rows : ℕ → ℕ → List ℕ → Result (Unit {0}) Fault
 scan_rows lg words bytes = do
   read ← scan_exactly (scan_matrix most_cells scan_element) bytes
   rows ← scan_count most_cells bytes
   cols ← scan_count most_cells rows.1
-  judged lg words rows.0 cols.0
+  scan_size lg words rows.0 cols.0
 
 -- the value at power i of the root of order 2^lg
 abbrev pub value_at : ℕ → List F → ℕ → F

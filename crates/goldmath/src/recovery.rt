@@ -6,7 +6,7 @@ ghost use Rattle.math_codec.specs.Faults.{Agrees, IsMemory};
 ghost use Rattle.math_ntt.specs.Matrices.{MatrixOf};
 ghost use Rattle.goldmath.specs.Numerals.{WritesNumber, WritesRow};
 ghost use Rattle.goldmath.specs.Recoveries.{
-    most_cells, AreRecoverWords, EncodesRecovered, HasSize, HoldsRows, IsEncodedMatrix, judged, scan_rows,
+    most_cells, AreRecoverWords, EncodesRecovered, HasSize, HoldsRows, IsEncodedMatrix, scan_rows, scan_size,
 };
 
 use crate::text::number_in;
@@ -48,7 +48,8 @@ fn row_in(word: &str, lg: usize) -> Option<u64>
 /// The numbers of the rows, where each word writes one.
 fn rows_in(alloc: Global, words: &[String], lg: usize) -> Mem<Option<Vec<u64>>>
     requires { lg < 64 }
-    ensures written { IfOk result (λ answer. IfSome answer (λ rows. AllZip (WritesRow lg) (map string_bytes words.now) rows.items)) }
+    ensures written { IfOk result (λ answer. IfSome answer (λ rows.
+        AllZip (WritesRow lg) (map string_bytes words.now) rows.items)) }
     ensures found { (rows : List ℕ) → AllZip (WritesRow lg) (map string_bytes words.now) rows
         → IfOk result (λ answer. IsSome answer × IfSome answer (λ found. found.items ≡ rows)) }
 {
@@ -80,7 +81,8 @@ fn are_distinct(alloc: Global, rows: &[u64], lg: usize) -> Mem<bool>
 
 /// LG and the rows, where the words are those of the command.
 pub fn recovery_in(alloc: Global, words: &[String]) -> Mem<Option<Recovery>>
-    ensures written { IfOk result (λ answer. IfSome answer (λ found. AreRecoverWords (map string_bytes words.now) found.lg found.rows.items)) }
+    ensures written { IfOk result (λ answer. IfSome answer (λ found.
+        AreRecoverWords (map string_bytes words.now) found.lg found.rows.items)) }
     ensures found { (lg : ℕ) (rows : List ℕ) → AreRecoverWords (map string_bytes words.now) lg rows
         → IfOk result (λ answer. IsSome answer × IfSome answer (λ found. (found.lg ≡ lg) × (found.rows.items ≡ rows))) }
 {
@@ -106,7 +108,8 @@ pub fn recovery_in(alloc: Global, words: &[String]) -> Mem<Option<Recovery>>
 /// cells at 2^lg rows.
 fn check_size(recovery: &Recovery, matrix: &Matrix<F>) -> Result<(), codec::Error>
     requires { recovery.now.lg ≤ 24 }
-    ensures { Agrees (λ _. tt) result (judged recovery.now.lg (length recovery.now.rows.items) matrix.now.rows matrix.now.cols) }
+    ensures { Agrees (λ _. tt) result
+        (scan_size recovery.now.lg (length recovery.now.rows.items) matrix.now.rows matrix.now.cols) }
 {
     if matrix.rows() != recovery.rows.len() {
         return Err(Error::Invalid("Matrix", "row count does not match words"));
@@ -124,7 +127,8 @@ fn placed(alloc: Global, recovery: &Recovery, matrix: &Matrix<F>) -> Mem<Evaluat
     requires distinct { AllPairs (λ i j. i ≢ j) recovery.now.rows.items }
     requires rows { matrix.now.rows ≡ length recovery.now.rows.items }
     requires cells { 2 ^ recovery.now.lg * matrix.now.cols ≤ most_cells }
-    ensures { IfOk result (HoldsRows recovery.now.lg recovery.now.rows.items matrix.now (length recovery.now.rows.items)) }
+    ensures { IfOk result
+        (HoldsRows recovery.now.lg recovery.now.rows.items matrix.now (length recovery.now.rows.items)) }
 {
     let mut values = EvaluationVector::empty(alloc, recovery.lg, matrix.cols())?;
     for i in 0..recovery.rows.len() {

@@ -8,7 +8,8 @@ use Rattle.goldmath.proofs.recovery.are_distinct.Goals as goal
 pub returns-then-get : goal.returns-then-get
 returns-then-get c =
     let rows = c.args.rows.now in
-    let seen : get_or c.loop-row.seen (get_or rows c.loop-row.row-index 0) false ≡ true = get_or_from_slice_get c.loop-row.seen (get_or rows c.loop-row.row-index 0) c.get.result false c.get.ensures ∙ c.if-get.true in
+    let seen : get_or c.loop-row.seen (get_or rows c.loop-row.row-index 0) false ≡ true =
+    get_or_from_slice_get c.loop-row.seen (get_or rows c.loop-row.row-index 0) c.get.result false c.get.ensures ∙ c.if-get.true in
     let found = c.loop-row.invariant.marks.only (get_or rows c.loop-row.row-index 0) seen in
     (λ e. absurd (false≢true e), λ apart. absurd (apart found.0 c.loop-row.row-index 0 found.1 c.loop-row-test.true found.2))
 

@@ -18,4 +18,5 @@ returns-clause-written c =
     let each = rw (c.in-Some-2.is, all) at c.in_ok-rows.ensures.written in
     let size = rw c.as_str-2.ensures.value at c.in-Some.ensures.written in
     let distinct = rw c.deref.ensures.value at (c.in_ok-are_distinct.ensures.0 c.if-not-branch.false) in
-    recover_words string_bytes c.args.words.now c.command-item.result c.lg-item.result (omega arith) c.command-item.is c.lg-item.is command c.in-Some.lg c.in-Some-2.rows.items size.0 size.1 each distinct
+    recover_words string_bytes c.args.words.now c.command-item.result c.lg-item.result (omega arith) c.command-item.is c.lg-item.is
+    command c.in-Some.lg c.in-Some-2.rows.items size.0 size.1 each distinct

@@ -15,7 +15,8 @@ pub loop-word-preserved : goal.loop-word-preserved
 loop-word-preserved c =
     let written = rw c.as_str.ensures.value at c.in-Some.ensures.written in
     rw c.in_ok-push.ensures.items
-    (written_more (WritesRow c.args.lg) string_bytes c.args.words.now c.loop-word.rows.items c.loop-word.word-index c.word-item.result c.in-Some.row (omega arith) c.word-item.is c.loop-word.invariant written)
+    (written_more (WritesRow c.args.lg) string_bytes c.args.words.now c.loop-word.rows.items c.loop-word.word-index
+    c.word-item.result c.in-Some.row (omega arith) c.word-item.is c.loop-word.invariant written)
 
 pub returns-clause-found : goal.returns-clause-found
 returns-clause-found c = λ rows h.
