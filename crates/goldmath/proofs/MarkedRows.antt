@@ -12,11 +12,11 @@ use Rattle.goldmath.specs.Recoveries.{MarksFirst}
 pub marks_more : (rows : List ℕ) (n : ℕ) (marks : List Bool) → MarksFirst rows n marks → get_or rows n 0 < length marks → MarksFirst rows (n + 1) (set marks (get_or rows n 0) true)
 marks_more rows n marks h l = record {
   marked = λ k m. elim (cases_eq (get_or rows k 0) (get_or rows n 0)) [
-    inl e ↦ subst (λ p. get_or (set marks (get_or rows n 0) true) p false ≡ true) (sym e) (get_or-set_same marks (get_or rows n 0) true false l)
+    | inl e ↦ subst (λ p. get_or (set marks (get_or rows n 0) true) p false ≡ true) (sym e) (get_or-set_same marks (get_or rows n 0) true false l)
     | inr e ↦ get_or-set_other marks (get_or rows n 0) (get_or rows k 0) true false e ∙ h.marked k (before k m e)
   ];
   only = λ p e. elim (cases_eq p (get_or rows n 0)) [
-    inl f ↦ (n, omega arith, sym f)
+    | inl f ↦ (n, omega arith, sym f)
     | inr f ↦ let found = h.only p (sym (get_or-set_other marks (get_or rows n 0) p true false f) ∙ e) in (found.0, omega (arith, found.1), found.2)
   ];
 }
@@ -42,7 +42,7 @@ count_marked marks p n l e c =
 pub distinct_more : (rows : List ℕ) (n : ℕ) (marks : List Bool) → MarksFirst rows n marks → get_or marks (get_or rows n 0) false ≡ false
     → ((i j : ℕ) → i < j → j < n → get_or rows i 0 ≢ get_or rows j 0) → (i j : ℕ) → i < j → j < n + 1 → get_or rows i 0 ≢ get_or rows j 0
 distinct_more rows n marks h new before i j l m = elim (cases_lt j n) [
-  inl s ↦ before i j l s
+  | inl s ↦ before i j l s
   | inr s ↦ let here : j ≡ n = omega arith in λ e. unmarked_apart rows n marks h new i (omega arith) (e ∙ ap (λ k. get_or rows k 0) here)
 ]
 

@@ -15,7 +15,7 @@ use Rattle.goldmath.proofs.MarkedRows.{marks_more, count_marked}
 -- row n is not marked, where no earlier row is the same
 unmarked : (rows : List ℕ) (n : ℕ) (marks : List Bool) → MarksFirst rows n marks → n < length rows → AllPairs (λ i j. i ≢ j) rows → get_or marks (get_or rows n 0) false ≡ false
 unmarked rows n marks h l distinct = elim (cases_Bool (get_or marks (get_or rows n 0) false)) [
-  inl e ↦ let found = h.only (get_or rows n 0) e in absurd (distinct found.0 n 0 found.1 l found.2)
+  | inl e ↦ let found = h.only (get_or rows n 0) e in absurd (distinct found.0 n 0 found.1 l found.2)
   | inr e ↦ e
 ]
 
@@ -34,25 +34,25 @@ placed_more lg rows m n v w h l cols below distinct filled =
       marks = rw filled.3 (marks_more rows n v.filled h.marks (omega (arith, h.places)));
       count = rw filled.3 (count_marked v.filled row n (omega (arith, h.places)) new h.count);
       cells = λ i k s t. elim (cases_lt i n) [
-        inl before ↦
-          let other : get_or rows i 0 ≢ row = λ e. distinct i n 0 before l e in
-          let there : get_or rows i 0 < 2 ^ lg = below i 0 (omega arith) in
-          subst (λ x. same x (cell_of (residue 0) m i k))
-          (sym (alone.1.others (residue 0) (get_or rows i 0) k (omega (arith, h.size.0)) (omega (arith, h.size.1)) (λ e _. other e))) (h.cells i k before t)
+        | inl before ↦
+            let other : get_or rows i 0 ≢ row = λ e. distinct i n 0 before l e in
+            let there : get_or rows i 0 < 2 ^ lg = below i 0 (omega arith) in
+            subst (λ x. same x (cell_of (residue 0) m i k))
+            (sym (alone.1.others (residue 0) (get_or rows i 0) k (omega (arith, h.size.0)) (omega (arith, h.size.1)) (λ e _. other e))) (h.cells i k before t)
         | inr after ↦
-          let e : i ≡ n = omega arith in
-          subst (λ j. same (cell_of (residue 0) w.matrix (get_or rows j 0) k) (cell_of (residue 0) m j k)) (sym e)
-          (alone.0 k (residue 0) (omega arith) ∙ ap (λ x. x.value) (rows_hold_cells m n k (residue 0) t))
+            let e : i ≡ n = omega arith in
+            subst (λ j. same (cell_of (residue 0) w.matrix (get_or rows j 0) k) (cell_of (residue 0) m j k)) (sym e)
+            (alone.0 k (residue 0) (omega arith) ∙ ap (λ x. x.value) (rows_hold_cells m n k (residue 0) t))
       ];
     }
 
 -- the domain of at most 2^24 points is there
 pub has_domain : (lg rows : ℕ) → lg ≤ 24 → rows ≡ 2 ^ lg → (l : ℕ) → rows ≡ 2 ^ l → l ≤ 32
 has_domain lg rows small e l f = elim (cases_lt 32 l) [
-  inl great ↦
-    let first : 32 ≤ l = omega (arith, great) in
-    let less : 2 ^ lg ≤ 2 ^ 24 = pow-le-pow_right (lit< tt) small in
-    let more : 2 ^ 32 ≤ 2 ^ l = pow-le-pow_right (lit< tt) first in
-    absurd (omega arith)
+  | inl great ↦
+      let first : 32 ≤ l = omega (arith, great) in
+      let less : 2 ^ lg ≤ 2 ^ 24 = pow-le-pow_right (lit< tt) small in
+      let more : 2 ^ 32 ≤ 2 ^ l = pow-le-pow_right (lit< tt) first in
+      absurd (omega arith)
   | inr good ↦ good
 ]

@@ -69,7 +69,7 @@ columns_of_recovered lg rows m v p h r k t = record {
       (r.agrees found.0 k found.1 t ∙ sym (h.cells found.0 k found.1 t)
       ∙ sym (ap (λ x. x.value) (columns_hold_cells v.matrix (get_or rows found.0 0) k nought nought (omega (arith, h.size.0)) (omega (arith, h.size.1)))));
   zero_from = λ i l. elim (cases_lt i (2 ^ lg)) [
-    inl b ↦ ap (λ x. x.value) (columns_hold_cells p i k nought nought (omega (arith, r.size.0)) (omega (arith, r.size.1))) ∙ r.zero_from i k (omega (arith, h.count)) b t
+    | inl b ↦ ap (λ x. x.value) (columns_hold_cells p i k nought nought (omega (arith, r.size.0)) (omega (arith, r.size.1))) ∙ r.zero_from i k (omega (arith, h.count)) b t
     | inr b ↦ ap (λ x. x.value) (get_or_past (column_of nought p k) i nought (omega (arith, columns_are_full p k nought, r.size.0)))
   ];
 }
@@ -88,8 +88,9 @@ pub encodes : (lg : ℕ) (rows : List ℕ) (m : MatrixOf F) (v : EvaluationsOf F
     → ((k : ℕ) → k < v.matrix.cols → (p : List F) → length p ≡ v.matrix.rows → FitsColumn lg v k p → (i : ℕ) → i < v.matrix.rows → same (get_or p i nought) (cell_of nought q i k))
     → bytes ≡ spelling_of q → EncodesRecovered lg rows m bytes
 encodes lg rows m v q bytes h size below fits only spelled =
-    let whole : IsOfSize q (2 ^ lg) m.cols = (size.0 ∙ h.size.0, size.1 ∙ h.size.1, size.2 ∙ ap₂ (λ x y. x * y) h.size.0 h.size.1) in
-    (q,
-     recovered_by_columns lg rows m v q h whole (λ i l. below i 0 l) (λ k t. fits k (omega (arith, h.size.1))),
-     only_by_columns lg rows m v q h whole (λ k t p e f i l. only k (omega (arith, h.size.1)) p (e ∙ sym h.size.0) f i (omega (arith, h.size.0))),
-     spelled)
+    let whole : IsOfSize q (2 ^ lg) m.cols = (size.0 ∙ h.size.0, size.1 ∙ h.size.1, size.2 ∙ ap₂ (λ x y. x * y) h.size.0 h.size.1) in (
+      q,
+      recovered_by_columns lg rows m v q h whole (λ i l. below i 0 l) (λ k t. fits k (omega (arith, h.size.1))),
+      only_by_columns lg rows m v q h whole (λ k t p e f i l. only k (omega (arith, h.size.1)) p (e ∙ sym h.size.0) f i (omega (arith, h.size.0))),
+      spelled,
+    )

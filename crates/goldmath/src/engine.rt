@@ -7,11 +7,19 @@ ghost use Rattle.math_base.specs.declared.fields.goldilocks.F.{F};
 ghost use Rattle.math_base.specs.Elements.{same};
 ghost use Rattle.goldmath.specs.Answers.{IsUsage, IsOutOfMemory, IsUsageOrOutOfMemory, Meets, WhereOutOfMemory};
 ghost use Rattle.goldmath.specs.Evaluations.{
-    AreEvalWords, IsEncodedPolynomial, PolynomialGrows, scan_polynomial, eval_line,
+  AreEvalWords,
+  IsEncodedPolynomial,
+  PolynomialGrows,
+  scan_polynomial,
+  eval_line,
 };
 ghost use Rattle.goldmath.specs.Commands.{AreNoRecoverWords, AreWrongWords};
 ghost use Rattle.goldmath.specs.Recoveries.{
-    AreRecoverWords, EncodesRecovered, HasSize, IsEncodedMatrix, scan_rows,
+  AreRecoverWords,
+  EncodesRecovered,
+  HasSize,
+  IsEncodedMatrix,
+  scan_rows,
 };
 ghost use Rattle.math_ntt.specs.Matrices.{MatrixOf};
 ghost use Rattle.math_codec.specs.declared.codec.error.Error.TheVariants.{Memory};

@@ -6,7 +6,14 @@ ghost use Rattle.math_codec.specs.Faults.{Agrees, IsMemory};
 ghost use Rattle.math_ntt.specs.Matrices.{MatrixOf};
 ghost use Rattle.goldmath.specs.Numerals.{WritesNumber, WritesRow};
 ghost use Rattle.goldmath.specs.Recoveries.{
-    most_cells, AreRecoverWords, EncodesRecovered, HasSize, HoldsRows, IsEncodedMatrix, scan_rows, scan_size,
+  most_cells,
+  AreRecoverWords,
+  EncodesRecovered,
+  HasSize,
+  HoldsRows,
+  IsEncodedMatrix,
+  scan_rows,
+  scan_size,
 };
 
 use crate::text::number_in;
@@ -139,7 +146,11 @@ fn placed(alloc: Global, recovery: &Recovery, matrix: &Matrix<F>) -> Mem<Evaluat
 
 /// What `recovered` answers.
 #[tactic(auto, unfolding(crate::specs::Recoveries::scan_rows))]
-fn recovered_exactly(alloc: Global, recovery: &Recovery, bytes: &[u8]) -> Result<Vec<u8>, codec::Error>
+fn recovered_exactly(
+    alloc: Global,
+    recovery: &Recovery,
+    bytes: &[u8],
+) -> Result<Vec<u8>, codec::Error>
     requires small { recovery.now.lg ≤ 24 }
     requires below { All (λ row. row < 2 ^ recovery.now.lg) recovery.now.rows.items }
     requires distinct { AllPairs (λ i j. i ≢ j) recovery.now.rows.items }

@@ -1,5 +1,5 @@
 //! Laws, each the contract of a function that does nothing.
 
 pub mod places;
-pub mod transforms;
 pub mod recovery;
+pub mod transforms;

@@ -221,7 +221,12 @@ fn recover_counted<R: Element>(
         values.fill(alloc, row, &cells)?;
     }
     let (polynomials, work) = values.recovered(alloc)?;
-    write!(answer.text, " {} {}", work.butterflies(), work.root_products())?;
+    write!(
+        answer.text,
+        " {} {}",
+        work.butterflies(),
+        work.root_products()
+    )?;
     put_matrix(alloc, &polynomials.data(), answer)?;
     Ok(())
 }
@@ -265,7 +270,12 @@ fn recover_within<R: Element>(
     {
         answer.text.push_str(" within")?;
     } else {
-        write!(answer.text, " {} {}", work.butterflies(), work.root_products())?;
+        write!(
+            answer.text,
+            " {} {}",
+            work.butterflies(),
+            work.root_products()
+        )?;
     }
     Ok(())
 }

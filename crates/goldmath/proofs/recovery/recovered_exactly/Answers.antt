@@ -19,12 +19,14 @@ returns-clause-answer c =
     let m = c.in_ok-matrix.matrix in
     let v = c.in_ok-placed.field-0 in
     let q = c.in_ok-recover.field-0 in
-    let taken = c.in_ok-matrix.ensures.taken in
-    (m, encoded c.args.bytes.now m taken.0 taken.1,
-     encodes lg rows m v q c.write.new.out.items c.in_ok-placed.ensures c.in_ok-recover.ensures.size c.requires.below
-     (λ k t. c.in_ok-recover.ensures.fits lg k c.in_ok-placed.ensures.size.0 t)
-     (λ k t p e f. c.in_ok-recover.ensures.only lg k c.in_ok-placed.ensures.size.0 t p e f)
-     (rw (c.new-out.ensures.items, c.data-polynomials.ensures) at c.in_ok-write.ensures.ok))
+    let taken = c.in_ok-matrix.ensures.taken in (
+      m,
+      encoded c.args.bytes.now m taken.0 taken.1,
+      encodes lg rows m v q c.write.new.out.items c.in_ok-placed.ensures c.in_ok-recover.ensures.size c.requires.below
+          (λ k t. c.in_ok-recover.ensures.fits lg k c.in_ok-placed.ensures.size.0 t)
+          (λ k t p e f. c.in_ok-recover.ensures.only lg k c.in_ok-placed.ensures.size.0 t p e f)
+          (rw (c.new-out.ensures.items, c.data-polynomials.ensures) at c.in_ok-write.ensures.ok),
+    )
 
 pub returns-clause-exact : goal.returns-clause-exact
 returns-clause-exact c =
