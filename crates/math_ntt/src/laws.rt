@@ -1,4 +1,4 @@
 //! Laws, each the contract of a function that does nothing.
 
-pub mod transforms;
 pub mod recovery;
+pub mod transforms;
