@@ -100,7 +100,8 @@ impl<F: FieldNTT> EvaluationColumn<F> {
     pub fn vanishing(alloc: Global, points: &VanishingPoints) -> Mem<(F, Self)>
         requires domain { HasDomain F.MAX_LG_ROOT_ORDER (length points.now) }
         requires some { 0 < count_true points.now }
-        ensures { IfOk result (λ answer. (lg : ℕ) → length points.now ≡ 2 ^ lg → IsVanishing F.Ring (F.root lg) points.now answer.0 answer.1) }
+        ensures { IfOk result (λ answer. (lg : ℕ) → length points.now ≡ 2 ^ lg
+            → IsVanishing F.Ring (F.root lg) points.now answer.0 answer.1) }
     {
         let lg = points.lg_size() as u8;
         let (at_zero, values) = vanishing_values(alloc, points, lg)?;

@@ -13,7 +13,8 @@ use std::alloc::Global;
 pub(super) fn inverses<F: Field>(alloc: Global, items: &[F]) -> Mem<Vec<F>>
     ensures count { IfOk result (λ v. length v.items ≡ length items.now) }
     ensures each { IfOk result (λ v. All (λ d. ¬ (F.same d F.zero)) items.now
-        → (k : ℕ) → k < length items.now → F.same (F.product (slice_index_or v.items k F.zero) (slice_index_or items.now k F.zero)) F.one) }
+        → (k : ℕ) → k < length items.now
+        → F.same (F.product (slice_index_or v.items k F.zero) (slice_index_or items.now k F.zero)) F.one) }
 {
     let (mut out, whole) = products_before(alloc, items)?;
     let inverse = whole.inv(alloc)?;
@@ -24,7 +25,8 @@ pub(super) fn inverses<F: Field>(alloc: Global, items: &[F]) -> Mem<Vec<F>>
 /// For each place the product of the factors before it, and then the product of all.
 fn products_before<R: Ring>(alloc: Global, factors: &[R]) -> Mem<(Vec<R>, R)>
     ensures count { IfOk result (λ answer. length answer.0.items ≡ length factors.now) }
-    ensures before { IfOk result (λ answer. (k : ℕ) → k < length factors.now → R.same (slice_index_or answer.0.items k R.zero) (total R.one R.product (take k factors.now))) }
+    ensures before { IfOk result (λ answer. (k : ℕ) → k < length factors.now
+        → R.same (slice_index_or answer.0.items k R.zero) (total R.one R.product (take k factors.now))) }
     ensures all { IfOk result (λ answer. R.same answer.1 (total R.one R.product factors.now)) }
 {
     let mut out = Vec::new(alloc);
@@ -41,7 +43,8 @@ fn products_before<R: Ring>(alloc: Global, factors: &[R]) -> Mem<(Vec<R>, R)>
 fn times_after<R: Ring>(alloc: Global, items: &mut [R], start: R, factors: &[R]) -> Mem<()>
     requires { length items.old ≡ length factors.now }
     ensures { OnOk result ((k : ℕ) → k < length factors.now
-        → R.same (slice_index_or items.new k R.zero) (R.product (slice_index_or items.old k R.zero) (R.product start (total R.one R.product (drop (suc k) factors.now))))) }
+        → R.same (slice_index_or items.new k R.zero) (R.product (slice_index_or items.old k R.zero)
+        (R.product start (total R.one R.product (drop (suc k) factors.now))))) }
 {
     let mut after = start;
     for i in (0..items.len()).rev() {

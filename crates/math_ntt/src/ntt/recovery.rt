@@ -1,15 +1,17 @@
 //! Recovery of polynomials from some of the rows of their values.
 //!
-//! Let the domain have N points, and let V be a polynomial that vanishes at exactly the points of the missing rows. Let f
-//! be the polynomial that fits the filled cells of a column: its coefficients from the number of filled rows on are zero,
-//! so that f V has at most N coefficients. On the domain the values of f V are the cells times the values of V, whatever
-//! the missing cells hold, since V is zero there. So f V is had by interpolation. On the domain it can't be divided by V,
-//! but on the coset of the domain by the shift V has no zero: there f V and V are evaluated, the quotients are values of f,
-//! and these are interpolated. Multiplying coefficient i by power i of the shift moves a polynomial to the coset, and by
-//! power i of its inverse back.
+//! Let the domain have N points, and let V be a polynomial that vanishes at exactly the points of the
+//! missing rows. Let f be the polynomial that fits the filled cells of a column: its coefficients from
+//! the number of filled rows on are zero, so that f V has at most N coefficients. On the domain the
+//! values of f V are the cells times the values of V, whatever the missing cells hold, since V is zero
+//! there. So f V is had by interpolation. On the domain it can't be divided by V, but on the coset of
+//! the domain by the shift V has no zero: there f V and V are evaluated, the quotients are values of f,
+//! and these are interpolated. Multiplying coefficient i by power i of the shift moves a polynomial to
+//! the coset, and by power i of its inverse back.
 //!
-//! One inversion serves all divisions. With no row filled the answer is zero, and with all it is what has the cells as its
-//! values: then there is no polynomial that vanishes, and each is one interpolation.
+//! One inversion serves all divisions. With no row filled the answer is zero, and with all it is what
+//! has the cells as its values: then there is no polynomial that vanishes, and each is one
+//! interpolation.
 
 ghost use Rattle.std.specs.Prelude.{◌≡◌, ◌+◌, ◌-◌, ◌*◌, ◌<◌, ◌≤◌, ◌^◌, ℕ, List, IfOk, OnOk, length, slice_index_or};
 ghost use Rattle.std.specs.List.{All};
@@ -39,11 +41,12 @@ use math_base::algebra::{Additive, FieldNTT, Mem};
 use std::alloc::Global;
 
 impl<F: FieldNTT> EvaluationVector<F> {
-    /// In each column the polynomial with N coefficients, N being the number of rows, that has the cells of the filled rows
-    /// as its values, and whose coefficients from the number of filled rows on are zero. It is the only one.
+    /// In each column the polynomial with N coefficients, N being the number of rows, that has the cells
+    /// of the filled rows as its values, and whose coefficients from the number of filled rows on are
+    /// zero. It is the only one.
     ///
-    /// lg N is at most `F::MAX_LG_ROOT_ORDER`. Takes memory for six columns of cells at most: the coefficients stand where
-    /// the cells stood.
+    /// lg N is at most `F::MAX_LG_ROOT_ORDER`. Takes memory for six columns of cells at most: the
+    /// coefficients stand where the cells stood.
     pub fn recover(self, alloc: Global) -> Mem<PolynomialVector<F>>
         requires domain { HasDomain F.MAX_LG_ROOT_ORDER self.matrix.rows }
         ensures size { IfOk result (λ v. IsOfSize v self.matrix.rows self.matrix.cols) }
@@ -57,10 +60,11 @@ impl<F: FieldNTT> EvaluationVector<F> {
 
     /// As `recover`, and adds the work that was done.
     ///
-    /// At entry `work` has at most 2^127 butterflies and at most 2^127 root products. Whatever the outcome, at most
-    /// N lg N (3 lg N + 3 c + 2) / 2 butterflies and 128 N root products are added, c being the number of columns. Where no
-    /// row or all rows are filled, c N lg N / 2 butterflies are, and no root product. Where v rows are missing, some and not
-    /// all, and lg N is at most 8, N lg N (3 c + 3) / 2 butterflies are, and v (v + 1) / 2 root products.
+    /// At entry `work` has at most 2^127 butterflies and at most 2^127 root products. Whatever the
+    /// outcome, at most N lg N (3 lg N + 3 c + 2) / 2 butterflies and 128 N root products are added, c
+    /// being the number of columns. Where no row or all rows are filled, c N lg N / 2 butterflies are,
+    /// and no root product. Where v rows are missing, some and not all, and lg N is at most 8, N lg N (3
+    /// c + 3) / 2 butterflies are, and v (v + 1) / 2 root products.
     pub fn recover_counted(self, alloc: Global, work: &mut Work) -> Mem<PolynomialVector<F>>
         requires domain { HasDomain F.MAX_LG_ROOT_ORDER self.matrix.rows }
         requires room { work.old.butterflies ≤ 2 ^ 127 }
@@ -69,8 +73,10 @@ impl<F: FieldNTT> EvaluationVector<F> {
         ensures fits { IfOk result (λ v. AreRecovered F.Ring F.root self v) }
         ensures only { IfOk result (λ v. AreOnlyRecovered F.Ring F.root self v) }
         ensures most { (lg : ℕ) → self.matrix.rows ≡ 2 ^ lg
-            → AddsWithin (self.matrix.rows * lg * (3 * lg + 3 * self.matrix.cols + 2)) (128 * self.matrix.rows) work.old work.new }
-        ensures exact { IfOk result (λ _. (lg : ℕ) → self.matrix.rows ≡ 2 ^ lg → IsExactWork lg self work.old work.new) }
+            → AddsWithin (self.matrix.rows * lg * (3 * lg + 3 * self.matrix.cols + 2)) (128 * self.matrix.rows)
+            work.old work.new }
+        ensures exact { IfOk result (λ _. (lg : ℕ) → self.matrix.rows ≡ 2 ^ lg
+            → IsExactWork lg self work.old work.new) }
     {
         let mut matrix = self.matrix;
         let lg = lg_of(matrix.rows);
@@ -105,9 +111,12 @@ fn recovered_cells<F: FieldNTT>(
     requires product_room { work.old.root_products ≤ 2 ^ 127 }
     requires fits { 2 ^ lg * cols < 2 ^ 64 }
     ensures size { length cells.new ≡ length cells.old }
-    ensures fits { OnOk result (AreRecovered F.Ring F.root (record { matrix = matrix_of (2 ^ lg) cols cells.old; filled = points.now }) (matrix_of (2 ^ lg) cols cells.new)) }
+    ensures fits { OnOk result (AreRecovered F.Ring F.root
+        (record { matrix = matrix_of (2 ^ lg) cols cells.old; filled = points.now })
+        (matrix_of (2 ^ lg) cols cells.new)) }
     ensures most { AddsWithin (2 ^ lg * lg * (3 * lg + 3 * cols + 2)) (128 * 2 ^ lg) work.old work.new }
-    ensures exact { OnOk result (IsExactWork lg (record { matrix = matrix_of (2 ^ lg) cols cells.old; filled = points.now }) work.old work.new) }
+    ensures exact { OnOk result (IsExactWork lg
+        (record { matrix = matrix_of (2 ^ lg) cols cells.old; filled = points.now }) work.old work.new) }
 {
     let filled = points.count_non_vanishing() as usize;
     if filled == 0 {
@@ -147,7 +156,8 @@ fn interpolated<F: FieldNTT>(
     requires size { length cells.old ≡ 2 ^ lg * cols }
     requires room { 2 * work.old.butterflies + cols * 2 ^ lg * lg < 2 ^ 129 }
     ensures size { length cells.new ≡ length cells.old }
-    ensures values { OnOk result (AreValuesAtPowers F.Ring (F.root lg) (matrix_of (2 ^ lg) cols cells.new) (matrix_of (2 ^ lg) cols cells.old)) }
+    ensures values { OnOk result (AreValuesAtPowers F.Ring (F.root lg) (matrix_of (2 ^ lg) cols cells.new)
+        (matrix_of (2 ^ lg) cols cells.old)) }
     ensures counted { OnOk result (2 * work.new.butterflies ≡ 2 * work.old.butterflies + cols * 2 ^ lg * lg) }
     ensures bounded { AddsAtMost (cols * 2 ^ lg * lg) work.old work.new }
 {
@@ -176,7 +186,8 @@ fn times_vanishing<F: FieldNTT>(
     requires room { 2 * work.old.butterflies + (cols + 2) * 2 ^ lg * lg < 2 ^ 129 }
     ensures size { length cells.new ≡ length cells.old }
     ensures vanishing_size { length vanishing.new ≡ length vanishing.old }
-    ensures products { OnOk result (AreProductsOnDomain F.Ring (F.root lg) (matrix_of (2 ^ lg) cols cells.old) vanishing.old (matrix_of (2 ^ lg) cols cells.new)) }
+    ensures products { OnOk result (AreProductsOnDomain F.Ring (F.root lg)
+        (matrix_of (2 ^ lg) cols cells.old) vanishing.old (matrix_of (2 ^ lg) cols cells.new)) }
     ensures again { OnOk result (HaveSameValuesOnDomain F.Ring (F.root lg) (2 ^ lg) vanishing.old vanishing.new) }
     ensures counted { OnOk result (2 * work.new.butterflies ≡ 2 * work.old.butterflies + (cols + 2) * 2 ^ lg * lg) }
     ensures bounded { AddsAtMost ((cols + 2) * 2 ^ lg * lg) work.old work.new }
@@ -188,8 +199,8 @@ fn times_vanishing<F: FieldNTT>(
     Ok(())
 }
 
-/// The coefficients in each column of the polynomial divided by V: both are moved to the coset by the shift, evaluated, and
-/// the quotients interpolated and moved back.
+/// The coefficients in each column of the polynomial divided by V: both are moved to the coset by the
+/// shift, evaluated, and the quotients interpolated and moved back.
 fn divided<F: FieldNTT>(
     alloc: Global,
     cells: &mut [F],
@@ -209,8 +220,10 @@ fn divided<F: FieldNTT>(
     requires room { 2 * work.old.butterflies + (cols + cols + 1) * 2 ^ lg * lg < 2 ^ 129 }
     ensures size { length cells.new ≡ length cells.old }
     ensures quotients { OnOk result (IsNonzeroOnCoset F.Ring (F.root lg) F.shift (2 ^ lg) vanishing.old
-        → AreQuotientsOnCoset F.Ring (F.root lg) F.shift (matrix_of (2 ^ lg) cols cells.old) vanishing.old (matrix_of (2 ^ lg) cols cells.new)) }
-    ensures counted { OnOk result (2 * work.new.butterflies ≡ 2 * work.old.butterflies + (cols + cols + 1) * 2 ^ lg * lg) }
+        → AreQuotientsOnCoset F.Ring (F.root lg) F.shift (matrix_of (2 ^ lg) cols cells.old) vanishing.old
+        (matrix_of (2 ^ lg) cols cells.new)) }
+    ensures counted { OnOk result (2 * work.new.butterflies
+        ≡ 2 * work.old.butterflies + (cols + cols + 1) * 2 ^ lg * lg) }
     ensures bounded { AddsAtMost ((cols + cols + 1) * 2 ^ lg * lg) work.old work.new }
 {
     let rows = vanishing.len();
@@ -245,10 +258,14 @@ fn recovered<F: FieldNTT>(
     requires product_room { work.old.root_products ≤ 2 ^ 127 }
     requires fits { 2 ^ lg * cols < 2 ^ 64 }
     ensures size { length cells.new ≡ length cells.old }
-    ensures fits { OnOk result (AreRecovered F.Ring F.root (record { matrix = matrix_of (2 ^ lg) cols cells.old; filled = points.now }) (matrix_of (2 ^ lg) cols cells.new)) }
+    ensures fits { OnOk result (AreRecovered F.Ring F.root
+        (record { matrix = matrix_of (2 ^ lg) cols cells.old; filled = points.now })
+        (matrix_of (2 ^ lg) cols cells.new)) }
     ensures most { AddsWithin (2 ^ lg * lg * (3 * lg + 3 * cols + 2)) (128 * 2 ^ lg) work.old work.new }
-    ensures butterflies { OnOk result (lg ≤ 8 → 2 * work.new.butterflies ≡ 2 * work.old.butterflies + 2 ^ lg * lg * (3 * cols + 3)) }
-    ensures root_products { OnOk result (lg ≤ 8 → 2 * work.new.root_products ≡ 2 * work.old.root_products + count_false points.now * (count_false points.now + 1)) }
+    ensures butterflies { OnOk result (lg ≤ 8 → 2 * work.new.butterflies
+        ≡ 2 * work.old.butterflies + 2 ^ lg * lg * (3 * cols + 3)) }
+    ensures root_products { OnOk result (lg ≤ 8 → 2 * work.new.root_products
+        ≡ 2 * work.old.root_products + count_false points.now * (count_false points.now + 1)) }
 {
     let evaluation = evaluation_table(alloc, lg)?;
     let interpolation = interpolation_table(alloc, lg)?;

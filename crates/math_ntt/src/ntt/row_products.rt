@@ -26,7 +26,8 @@ pub(super) fn multiply_rows<F: Ring>(
     factors: &[F],
 ) -> Mem<()>
     requires { length cells.old ≡ length factors.now * cols }
-    ensures { OnOk result (AreRowProducts F.Ring (length factors.now) cols (λ i. slice_index_or factors.now i F.zero) cells.old cells.new) }
+    ensures { OnOk result (AreRowProducts F.Ring (length factors.now) cols (λ i.
+        slice_index_or factors.now i F.zero) cells.old cells.new) }
 {
     for i in 0..factors.len() {
         let from = i * cols;
@@ -45,7 +46,8 @@ pub(super) fn dilate_rows<F: Ring>(
     ratio: &F,
 ) -> Mem<()>
     requires { length cells.old ≡ rows * cols }
-    ensures { OnOk result (AreRowProducts F.Ring rows cols (λ i. power F.one F.product ratio.now i) cells.old cells.new) }
+    ensures { OnOk result (AreRowProducts F.Ring rows cols (λ i.
+        power F.one F.product ratio.now i) cells.old cells.new) }
 {
     let mut factor = F::one(alloc)?;
     for i in 0..rows {

@@ -1,10 +1,11 @@
 //! Polynomials that vanish at the missing points of a domain.
 //!
-//! The domain is that of the powers of the root w of order N = 2^lg, and a point is missing where the bitmap has `false`.
-//! The points of even index are the powers of w², the root of order N / 2, and those of odd index are w times these. So a
-//! polynomial for all missing points is had from two for half as many points: p for those of even index, and q for those of
-//! odd index, taken at X / w, so that its roots move from the powers of w² to w times these. The product p(X) q(X / w)
-//! vanishes at exactly the missing points.
+//! The domain is that of the powers of the root w of order N = 2^lg, and a point is missing where the
+//! bitmap has `false`. The points of even index are the powers of w², the root of order N / 2, and those
+//! of odd index are w times these. So a polynomial for all missing points is had from two for half as
+//! many points: p for those of even index, and q for those of odd index, taken at X / w, so that its
+//! roots move from the powers of w² to w times these. The product p(X) q(X / w) vanishes at exactly the
+//! missing points.
 //!
 //! Few points make a base chunk, whose polynomial is built factor by factor, one for each missing point.
 
@@ -27,14 +28,15 @@ use super::work::Work;
 use math_base::algebra::{Additive, Field, FieldNTT, Mem, Multiplicative, Object, Ring};
 use std::alloc::Global;
 
-/// Up to 2^8 points are one base chunk. A domain of more points is cut into chunks of 2^6: a chunk of n points takes up to
-/// n / 2 root products a point, and a merge into m points 3 lg(m) / 2 butterflies a point.
+/// Up to 2^8 points are one base chunk. A domain of more points is cut into chunks of 2^6: a chunk of n
+/// points takes up to n / 2 root products a point, and a merge into m points 3 lg(m) / 2 butterflies a
+/// point.
 const WHOLE_LG: u8 = 8;
 
 const CHUNK_LG: u8 = 6;
 
-/// A polynomial that vanishes at the missing ones of n points, and at no others: one where none is missing, X^n - 1 where
-/// all are, and else n coefficients.
+/// A polynomial that vanishes at the missing ones of n points, and at no others: one where none is
+/// missing, X^n - 1 where all are, and else n coefficients.
 #[derive(Drop)]
 pub(super) enum Piece<F: Drop> {
     Nowhere,
@@ -98,11 +100,14 @@ fn chunk_product<F: Ring>(
     requires few { count ≤ 256 }
     requires room { work.old.root_products + 2 ^ 16 < 2 ^ 128 }
     ensures length { IfOk result (λ p. vec_len p ≡ count_false (every start stride count points.now) + 1) }
-    ensures values { IfOk result (λ p. (r : F) → F.same (value_in_ring F.Ring p.items r) (missing_product F.Ring r root.now (every start stride count points.now))) }
+    ensures values { IfOk result (λ p. (r : F) → F.same (value_in_ring F.Ring p.items r)
+        (missing_product F.Ring r root.now (every start stride count points.now))) }
     ensures butterflies { work.new.butterflies ≡ work.old.butterflies }
-    ensures exact { IfOk result (λ _. let v = count_false (every start stride count points.now) in 2 * work.new.root_products ≡ 2 * work.old.root_products + v * (v + 1)) }
+    ensures exact { IfOk result (λ _. let v = count_false (every start stride count points.now) in
+        2 * work.new.root_products ≡ 2 * work.old.root_products + v * (v + 1)) }
     ensures no_fewer { work.old.root_products ≤ work.new.root_products }
-    ensures no_more { let v = count_false (every start stride count points.now) in 2 * work.new.root_products ≤ 2 * work.old.root_products + v * (v + 1) }
+    ensures no_more { let v = count_false (every start stride count points.now) in
+        2 * work.new.root_products ≤ 2 * work.old.root_products + v * (v + 1) }
 {
     let mut coefficients = Vec::new(alloc);
     coefficients.push(F::one(alloc)?)?;
@@ -148,10 +153,14 @@ fn chunk<F: FieldNTT>(
     requires fits { length points.now < 2 ^ 64 }
     requires room { work.old.root_products + 2 ^ 16 < 2 ^ 128 }
     ensures length { IfOk result (λ piece. HasLength (2 ^ lg) piece) }
-    ensures vanishes { IfOk result (λ piece. VanishesAtFalse F.Ring (F.root lg) (every start stride (2 ^ lg) points.now) (piece_value F.Ring (2 ^ lg) piece)) }
-    ensures everywhere { IfOk result (λ piece. IsEverywhere piece → count_true (every start stride (2 ^ lg) points.now) ≡ 0) }
+    ensures vanishes { IfOk result (λ piece.
+        VanishesAtFalse F.Ring (F.root lg) (every start stride (2 ^ lg) points.now)
+        (piece_value F.Ring (2 ^ lg) piece)) }
+    ensures everywhere { IfOk result (λ piece. IsEverywhere piece
+        → count_true (every start stride (2 ^ lg) points.now) ≡ 0) }
     ensures butterflies { work.new.butterflies ≡ work.old.butterflies }
-    ensures exact { IfOk result (λ _. let v = count_false (every start stride (2 ^ lg) points.now) in v < 2 ^ lg → 2 * work.new.root_products ≡ 2 * work.old.root_products + v * (v + 1)) }
+    ensures exact { IfOk result (λ _. let v = count_false (every start stride (2 ^ lg) points.now) in v < 2 ^ lg
+        → 2 * work.new.root_products ≡ 2 * work.old.root_products + v * (v + 1)) }
     ensures bounded { AddsWithin 0 (128 * 2 ^ lg) work.old work.new }
 {
     let count = size_of(lg);
@@ -187,7 +196,8 @@ fn with_multiple<F: Ring>(alloc: Global, low: Vec<F>, factor: &F) -> Mem<Vec<F>>
     requires { vec_len low + vec_len low < 2 ^ 64 }
     ensures length { IfOk result (λ p. vec_len p ≡ vec_len low + vec_len low) }
     ensures values { IfOk result (λ p. (r : F) → F.same (value_in_ring F.Ring p.items r)
-        (F.product (F.sum F.one (F.product factor.now (power F.one F.product r (vec_len low)))) (value_in_ring F.Ring low.items r))) }
+        (F.product (F.sum F.one (F.product factor.now
+        (power F.one F.product r (vec_len low)))) (value_in_ring F.Ring low.items r))) }
 {
     let mut high = copies(alloc, &low)?;
     multiply_row(alloc, &mut high, factor)?;
@@ -196,8 +206,8 @@ fn with_multiple<F: Ring>(alloc: Global, low: Vec<F>, factor: &F) -> Mem<Vec<F>>
     Ok(all)
 }
 
-/// Turns the coefficients of two polynomials into those of the polynomial whose values on the domain are the products of
-/// theirs, which stand where the first ones stood.
+/// Turns the coefficients of two polynomials into those of the polynomial whose values on the domain are
+/// the products of theirs, which stand where the first ones stood.
 fn multiply_values<F: FieldNTT>(
     alloc: Global,
     left: &mut [F],
@@ -216,7 +226,8 @@ fn multiply_values<F: FieldNTT>(
     requires room { 2 * work.old.butterflies + 3 * 2 ^ lg * lg < 2 ^ 129 }
     ensures size { length left.new ≡ length left.old }
     ensures values { OnOk result ((i : ℕ) → i < 2 ^ lg → let x = power F.one F.product (F.root lg) i in
-        F.same (value_in_ring F.Ring left.new x) (F.product (value_in_ring F.Ring left.old x) (value_in_ring F.Ring right.old x))) }
+        F.same (value_in_ring F.Ring left.new x)
+        (F.product (value_in_ring F.Ring left.old x) (value_in_ring F.Ring right.old x))) }
     ensures bounded { AddsAtMost (3 * 2 ^ lg * lg) work.old work.new }
 {
     evaluate_rows(alloc, left, 1, lg, evaluation, work)?;
@@ -245,7 +256,8 @@ fn multiplied<F: FieldNTT>(
     requires interpolation { ArePowersByLevel F.Ring (λ l. F.inverse (F.root l)) lg interpolation.now }
     requires room { 2 * work.old.butterflies + 3 * 2 ^ lg * lg < 2 ^ 129 }
     ensures length { IfOk result (λ p. vec_len p ≡ 2 ^ lg) }
-    ensures values { IfOk result (λ p. (r : F) → F.same (value_in_ring F.Ring p.items r) (F.product (value_in_ring F.Ring left.items r) (value_in_ring F.Ring right.items r))) }
+    ensures values { IfOk result (λ p. (r : F) → F.same (value_in_ring F.Ring p.items r)
+        (F.product (value_in_ring F.Ring left.items r) (value_in_ring F.Ring right.items r))) }
     ensures bounded { AddsAtMost (3 * 2 ^ lg * lg) work.old work.new }
 {
     let n = size_of(lg);
@@ -285,7 +297,9 @@ fn merged<F: FieldNTT>(
     requires interpolation { ArePowersByLevel F.Ring (λ l. F.inverse (F.root l)) lg interpolation.now }
     requires room { 2 * work.old.butterflies + 3 * 2 ^ lg * lg < 2 ^ 129 }
     ensures length { IfOk result (λ piece. HasLength (2 ^ lg) piece) }
-    ensures merged { IfOk result (λ piece. IsMerged F.Ring (F.inverse (F.root lg)) (piece_value F.Ring (2 ^ (lg - 1)) left) (piece_value F.Ring (2 ^ (lg - 1)) right) (piece_value F.Ring (2 ^ lg) piece)) }
+    ensures merged { IfOk result (λ piece. IsMerged F.Ring (F.inverse (F.root lg))
+        (piece_value F.Ring (2 ^ (lg - 1)) left) (piece_value F.Ring (2 ^ (lg - 1)) right)
+        (piece_value F.Ring (2 ^ lg) piece)) }
     ensures everywhere { IfOk result (λ piece. IsEverywhere piece → IsEverywhere left × IsEverywhere right) }
     ensures bounded { AddsAtMost (3 * 2 ^ lg * lg) work.old work.new }
 {
@@ -366,10 +380,14 @@ fn tree<F: FieldNTT>(
     requires room { 2 * work.old.butterflies + 2 ^ lg * lg * (3 * lg - 1) < 2 ^ 129 }
     requires product_room { work.old.root_products + 128 * 2 ^ lg + 2 ^ 16 < 2 ^ 128 }
     ensures length { IfOk result (λ piece. HasLength (2 ^ lg) piece) }
-    ensures vanishes { IfOk result (λ piece. VanishesAtFalse F.Ring (F.root lg) (every start stride (2 ^ lg) points.now) (piece_value F.Ring (2 ^ lg) piece)) }
-    ensures everywhere { IfOk result (λ piece. IsEverywhere piece → count_true (every start stride (2 ^ lg) points.now) ≡ 0) }
+    ensures vanishes { IfOk result (λ piece.
+        VanishesAtFalse F.Ring (F.root lg) (every start stride (2 ^ lg) points.now)
+        (piece_value F.Ring (2 ^ lg) piece)) }
+    ensures everywhere { IfOk result (λ piece. IsEverywhere piece
+        → count_true (every start stride (2 ^ lg) points.now) ≡ 0) }
     ensures butterflies { lg ≤ base → work.new.butterflies ≡ work.old.butterflies }
-    ensures exact { IfOk result (λ _. let v = count_false (every start stride (2 ^ lg) points.now) in lg ≤ base → v < 2 ^ lg → 2 * work.new.root_products ≡ 2 * work.old.root_products + v * (v + 1)) }
+    ensures exact { IfOk result (λ _. let v = count_false (every start stride (2 ^ lg) points.now) in lg ≤ base
+        → v < 2 ^ lg → 2 * work.new.root_products ≡ 2 * work.old.root_products + v * (v + 1)) }
     ensures bounded { AddsWithin (2 ^ lg * lg * (3 * lg - 1)) (128 * 2 ^ lg) work.old work.new }
 {
     if lg <= base {
@@ -405,8 +423,8 @@ fn tree<F: FieldNTT>(
     Ok(all)
 }
 
-/// The N coefficients of a polynomial that vanishes at the missing points of a domain of N = 2^lg points, and at no others.
-/// Some point is not missing.
+/// The N coefficients of a polynomial that vanishes at the missing points of a domain of N = 2^lg
+/// points, and at no others. Some point is not missing.
 pub(super) fn vanishing_coefficients<F: FieldNTT>(
     alloc: Global,
     points: &VanishingPoints,
@@ -426,7 +444,8 @@ pub(super) fn vanishing_coefficients<F: FieldNTT>(
     ensures length { IfOk result (λ p. vec_len p ≡ 2 ^ lg) }
     ensures vanishes { IfOk result (λ p. VanishesAtFalse F.Ring (F.root lg) points.now (value_in_ring F.Ring p.items)) }
     ensures butterflies { lg ≤ 8 → work.new.butterflies ≡ work.old.butterflies }
-    ensures exact { IfOk result (λ _. lg ≤ 8 → 2 * work.new.root_products ≡ 2 * work.old.root_products + count_false points.now * (count_false points.now + 1)) }
+    ensures exact { IfOk result (λ _. lg ≤ 8 → 2 * work.new.root_products
+        ≡ 2 * work.old.root_products + count_false points.now * (count_false points.now + 1)) }
     ensures bounded { AddsWithin (2 ^ lg * lg * (3 * lg - 1)) (128 * 2 ^ lg) work.old work.new }
 {
     let base = if lg <= WHOLE_LG { WHOLE_LG } else { CHUNK_LG };
@@ -451,8 +470,8 @@ pub(super) fn vanishing_coefficients<F: FieldNTT>(
     }
 }
 
-/// The value at zero, and the values on the domain of 2^lg points, of a polynomial that vanishes at the missing points and
-/// at no others. Some point is not missing.
+/// The value at zero, and the values on the domain of 2^lg points, of a polynomial that vanishes at the
+/// missing points and at no others. Some point is not missing.
 pub(super) fn vanishing_values<F: FieldNTT>(
     alloc: Global,
     points: &VanishingPoints,
