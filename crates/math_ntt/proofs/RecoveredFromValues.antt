@@ -1,14 +1,14 @@
 -- What is recovered from the values of polynomials are these polynomials.
-use Rattle.std.proofs.Common.{◌≡◌, ◌∙◌, ℕ, ◌<◌, ◌≤◌, ◌^◌, true, length, replicate, get_or, sym, ap, arith}
-use Rattle.std.proofs.lemmas.List.{get_or_past, length-replicate}
+use Rattle.std.proofs.Common.{◌≡◌, ◌∙◌, ℕ, ◌<◌, ◌^◌, length, sym, ap, arith}
+use Rattle.std.proofs.lemmas.List.{get_or_past}
 use Rattle.math_theory.specs.Laws.{IsEquality, IsGroup, IsProduct, IsRing, IsField}
 use Rattle.math_theory.specs.Recovery.{count_true}
 use Rattle.math_theory.specs.RootLaws.{HasRootsOfUnity}
 use Rattle.math_theory.proofs.domains.CarriedDomains.{HasCoset-of_order-same}
 use Rattle.math_theory.proofs.recovery.CarriedRecovery.{fits_once-same}
 use Rattle.math_base.specs.Members.{RingOf}
-use Rattle.math_ntt.specs.Matrices.{MatrixOf, column_of}
-use Rattle.math_ntt.specs.RecoveredValues.{HoldsValues, RecoversFromSome, RecoversFromAll}
+use Rattle.math_ntt.specs.Matrices.{column_of}
+use Rattle.math_ntt.specs.RecoveredValues.{RecoversFromSome, RecoversFromAll}
 use Rattle.math_ntt.proofs.DomainSteps.{column-cell}
 use Rattle.math_ntt.proofs.MatrixRows.{length-column}
 use Rattle.math_ntt.proofs.MissingPlaces.{count_true-all}

@@ -13,16 +13,13 @@
 //! has the cells as its values: then there is no polynomial that vanishes, and each is one
 //! interpolation.
 
-ghost use Rattle.std.specs.Prelude.{◌≡◌, ◌+◌, ◌-◌, ◌*◌, ◌<◌, ◌≤◌, ◌^◌, ℕ, List, IfOk, OnOk, length, slice_index_or};
+ghost use Rattle.std.specs.Prelude.{◌≡◌, ◌+◌, ◌*◌, ◌<◌, ◌≤◌, ◌^◌, ℕ, IfOk, OnOk, length};
 ghost use Rattle.std.specs.List.{All};
-ghost use Rattle.math_theory.specs.Coefficients.{HaveSameCoefficients};
-ghost use Rattle.math_theory.specs.Powers.{power};
 ghost use Rattle.math_theory.specs.Recovery.{count_true};
-ghost use Rattle.math_base.specs.Polynomials.{value_in_ring};
 ghost use Rattle.math_ntt.specs.CountedWork.{AddsAtMost};
 ghost use Rattle.math_ntt.specs.DomainValues.{matrix_of, AreValuesAtPowers, ArePowersByLevel, HasDomain};
-ghost use Rattle.math_ntt.specs.Matrices.{IsOfSize, column_of, cell_of};
-ghost use Rattle.math_ntt.specs.MissingPoints.{count_false, VanishesAtFalse};
+ghost use Rattle.math_ntt.specs.Matrices.{IsOfSize};
+ghost use Rattle.math_ntt.specs.MissingPoints.{count_false};
 ghost use Rattle.math_ntt.specs.RecoveredRows.{AreProductsOnDomain, AreQuotientsOnCoset, HaveSameValuesOnDomain, IsNonzeroOnCoset, AreRecovered, AreOnlyRecovered, IsExactWork};
 ghost use Rattle.math_ntt.specs.RecoveryWork.{AddsWithin};
 
@@ -45,7 +42,7 @@ impl<F: FieldNTT> EvaluationVector<F> {
     /// of the filled rows as its values, and whose coefficients from the number of filled rows on are
     /// zero. It is the only one.
     ///
-    /// lg N is at most `F::MAX_LG_ROOT_ORDER`. Takes memory for six columns of cells at most: the
+    /// lg N is at most `F::MAX_LG_ROOT_ORDER`. Takes memory for about five columns of cells: the
     /// coefficients stand where the cells stood.
     pub fn recover(self, alloc: Global) -> Mem<PolynomialVector<F>>
         requires domain { HasDomain F.MAX_LG_ROOT_ORDER self.matrix.rows }
