@@ -6,7 +6,7 @@ use Rattle.std.specs.List.{AllZip}
 use Rattle.std.specs.Int.{to_be_bytes, w64}
 use Rattle.math_numbers.specs.Goldilocks.{P}
 use Rattle.math_codec.specs.declared.codec.error.Error.{Error}
-use Rattle.math_codec.specs.Faults.{Fault, Agrees, IsMemory, fault_of, scan_exactly, ◌>>=◌}
+use Rattle.math_codec.specs.Faults.{Fault, Agrees, IsMemory, fault_of, scan_exactly}
 use Rattle.math_codec.specs.Lengths.{length_spelling}
 use Rattle.math_codec.specs.Lists.{list_spelling}
 use Rattle.math_base.specs.declared.fields.goldilocks.F.{F}

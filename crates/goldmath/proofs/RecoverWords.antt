@@ -1,5 +1,5 @@
 -- The words of the command `recover LG ROW..`.
-use Rattle.std.proofs.Common.{◌≡◌, ◌≢◌, ℕ, zero, suc, ◌+◌, ◌<◌, ◌≤◌, ◌^◌, List, [], ◌∷◌, ◌++◌, length, get_or, map, take, drop, codes, All, add-one, zero-add, sym, refl, ap, ap₂, ◌∙◌, subst, arith}
+use Rattle.std.proofs.Common.{◌≡◌, ◌≢◌, ℕ, zero, suc, ◌+◌, ◌<◌, ◌≤◌, ◌^◌, List, [], ◌∷◌, ◌++◌, length, get_or, map, take, drop, codes, All, add-one, sym, refl, ap, ap₂, ◌∙◌, subst, arith}
 use Rattle.std.specs.List.{AllZip, AllPairs}
 use Rattle.std.proofs.lemmas.List.Elements.{All-nil, All-cons}
 use Rattle.goldmath.specs.Numerals.{WritesNumber, WritesRow}

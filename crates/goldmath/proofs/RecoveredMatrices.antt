@@ -1,10 +1,10 @@
 -- Matrices that are recovered from rows of values, by columns that fit.
-use Rattle.std.proofs.Common.{◌≡◌, ◌≢◌, ℕ, zero, suc, ◌+◌, ◌*◌, ◌/◌, ◌%◌, ◌<◌, ◌≤◌, ◌^◌, Bool, true, false, List, [], ◌∷◌, length, get_or, All, sym, refl, ◌∙◌, ap, ap₂, mul-zero, subst, inl, inr, arith}
+use Rattle.std.proofs.Common.{◌≡◌, ℕ, zero, suc, ◌+◌, ◌*◌, ◌/◌, ◌%◌, ◌<◌, ◌^◌, List, [], ◌∷◌, length, get_or, All, sym, ◌∙◌, ap, ap₂, mul-zero, subst, inl, inr, arith}
 use Rattle.std.proofs.lemmas.Bool.{cases_lt}
 use Rattle.std.proofs.Math.Nat.{div-lt_iff_lt-mul, mul_comm}
 use Rattle.std.proofs.lemmas.List.{get_or_past}
 use Rattle.std.specs.List.{AllZip}
-use Rattle.math_theory.specs.Recovery.{Fits, count_true}
+use Rattle.math_theory.specs.Recovery.{Fits}
 use Rattle.math_base.specs.declared.fields.goldilocks.F.{F}
 use Rattle.math_base.specs.Elements.{residue, same, sum, product, root_of}
 use Rattle.math_ntt.specs.Matrices.{MatrixOf, IsOfSize, AreSame, cell_of, column_of}

@@ -1,5 +1,7 @@
 //! Polynomials recovered from some rows of values.
 
+ghost use Rattle.std.specs.Prelude.{◌≡◌};
+
 use super::matrices::put_matrix;
 use super::transforms::has_domain;
 use super::vectors::fill;
@@ -137,7 +139,8 @@ fn rule_in(text: &str, rows: usize) -> Result<Rule, Fault> {
 /// One column of 2^lg rows, of which those that the rule names are filled with one.
 fn ones<R: Element>(alloc: Global, lg: u64, rule: Rule) -> Result<Values<R>, Fault> {
     let mut values = Values::empty(alloc, lg, 1)?;
-    let one = [R::one(alloc)?];
+    let mut one = Vec::new(alloc);
+    one.push(R::one(alloc)?)?;
     for row in 0..values.rows {
         if rule.fills(row) {
             values.fill(alloc, row, &one)?;
@@ -309,8 +312,11 @@ fn recover_each_set<R: Element>(
     if lg > 5 {
         return Err(Fault::OutOfRange("too many sets"));
     }
+    let Some(sets) = 1u64.checked_shl(1u32 << lg) else {
+        return Err(Fault::OutOfRange("too many sets"));
+    };
     let mut fits = 0u64;
-    for set in 0..1u64 << (1u64 << lg) {
+    for set in 0..sets {
         let (polynomials, _work) = ones::<R>(alloc, lg, Rule::Bits(set))?.recovered(alloc)?;
         if is_constant(alloc, &polynomials, set > 0)? {
             fits = fits.saturating_add(1);
@@ -339,6 +345,15 @@ fn next_element<R: Element>(alloc: Global, state: &mut u64) -> Result<R, Fault> 
     Err(Fault::Unreadable("element"))
 }
 
+/// The next two elements.
+fn next_elements<R: Element>(alloc: Global, state: &mut u64) -> Result<Vec<R>, Fault> {
+    let mut out = Vec::new(alloc);
+    for _ in 0..2 {
+        out.push(next_element(alloc, state)?)?;
+    }
+    Ok(out)
+}
+
 /// One step of the hash FNV-1a, for the eight bytes of a number, lowest first.
 fn hashed(hash: u64, n: u64) -> u64 {
     let mut out = hash;
@@ -360,10 +375,7 @@ fn recover_words<R: Element>(
     let mut state = lg << 32;
     for row in 0..values.rows {
         if rule.fills(row) {
-            let cells = [
-                next_element::<R>(alloc, &mut state)?,
-                next_element::<R>(alloc, &mut state)?,
-            ];
+            let cells = next_elements::<R>(alloc, &mut state)?;
             values.fill(alloc, row, &cells)?;
         }
     }

@@ -39,7 +39,8 @@ pub fn run<R: Element>(
 pub fn has_domain<R: Element>(rows: usize) -> bool
     ensures { IsTrue result → HasDomain R.MAX_LG_ROOT_ORDER rows }
 {
-    rows.trailing_zeros() <= u32::from(R::MAX_LG_ROOT_ORDER)
+    let lg = rows.trailing_zeros() as u8;
+    lg <= R::MAX_LG_ROOT_ORDER
 }
 
 /// `evaluate N @ M`: the columns of M as polynomials of N coefficients at least, evaluated: how many
@@ -109,9 +110,10 @@ fn put_vanishing<R: Element>(
     let points = points(alloc, arguments)?;
     let (scale, values) = vanishing::<R>(alloc, &points)?;
     answer.text.push_str(" values over the value at zero")?;
-    let size: u64 = 1 << points.lg_size();
-    for (index, value) in (0..size).zip(values.values()) {
-        if points.get(index) {
+    for index in 0..1u64 << points.lg_size() {
+        if points.get(index)
+            && let Some(value) = values.values().get(index as usize)
+        {
             answer.keyed(index, value.clone(alloc)?.mul(alloc, &scale)?)?;
         }
     }

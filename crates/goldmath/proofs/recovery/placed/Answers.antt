@@ -1,4 +1,4 @@
-use Rattle.std.proofs.Common.{◌≡◌, get_or, length, ap, sym, ◌∙◌, arith, rules}
+use Rattle.std.proofs.Common.{◌≡◌, get_or, length, ap, sym, ◌∙◌, arith}
 use Rattle.std.proofs.lemmas.Grind.{get_or_default_zero}
 use Rattle.goldmath.proofs.PlacedRows.{placed_more}
 use Rattle.goldmath.proofs.recovery.placed.Goals as goal

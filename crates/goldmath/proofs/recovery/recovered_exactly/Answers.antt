@@ -1,4 +1,4 @@
-use Rattle.std.proofs.Common.{◌≡◌, length, ap, sym, ◌∙◌, arith, rules}
+use Rattle.std.proofs.Common.{◌∙◌}
 use Rattle.std.proofs.lemmas.Result.{err_from_is_err_and}
 use Rattle.goldmath.proofs.ReadMatrices.{scan_rows-read, encoded}
 use Rattle.goldmath.proofs.PlacedRows.{has_domain}

@@ -1,6 +1,5 @@
-use Rattle.std.proofs.Common.{◌≡◌, ◌≤◌, List, length, map, string_bytes, refl, arith}
+use Rattle.std.proofs.Common.{◌≤◌, length, map, string_bytes, refl, arith}
 use Rattle.std.proofs.lemmas.List.{take_all}
-use Rattle.std.specs.List.{AllZip}
 use Rattle.goldmath.specs.Numerals.{WritesRow}
 use Rattle.goldmath.proofs.RecoverWords.{written_more, written_at, rows_once}
 use Rattle.goldmath.proofs.recovery.rows_in.Goals as goal
