@@ -60,3 +60,6 @@ pub mod Halves
 pub mod ScaledPoint
 pub mod WeightedPowers
 pub mod FractionLaws
+pub mod DomainDifferences
+pub mod FilledProducts
+pub mod RootWeights
