@@ -6,3 +6,5 @@ pub mod MatrixEncodingLaws
 pub mod Bitmaps
 pub mod PolynomialRows
 pub mod Evaluations
+pub mod CountedWork
+pub mod DomainValues

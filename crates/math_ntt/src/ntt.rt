@@ -3,9 +3,12 @@
 mod evaluations;
 mod matrix;
 mod polynomials;
+mod transform;
 mod vanishing_points;
+mod work;
 
 pub use evaluations::EvaluationVector;
 pub use matrix::{Matrix, Rows};
 pub use polynomials::{CoefficientRows, PolynomialVector};
 pub use vanishing_points::VanishingPoints;
+pub use work::Work;

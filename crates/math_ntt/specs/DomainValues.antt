@@ -1,0 +1,20 @@
+-- Values of polynomials at the powers of a root, in the columns of a matrix, and tables of these powers.
+use Rattle.std.specs.Prelude.{◌≡◌, ℕ, suc, ◌+◌, ◌<◌, ◌^◌, List, length, slice_index_or}
+use Rattle.math_theory.specs.Powers.{power}
+use Rattle.math_base.specs.Members.{RingOf}
+use Rattle.math_base.specs.Polynomials.{value_in_ring}
+use Rattle.math_ntt.specs.Matrices.{MatrixOf, column_of, cell_of}
+
+-- the matrix of r rows and c columns that has these cells, row by row
+abbrev pub matrix_of : {A : Type 0} → ℕ → ℕ → List A → MatrixOf A
+matrix_of r c xs = record { rows = r; cols = c; cells = xs }
+
+-- the cell of v in row j and column k is same as the value, at power j of w, of the polynomial whose coefficients are column k of m
+abbrev pub AreValuesAtPowers : {A : Type 0} → RingOf A → A → MatrixOf A → MatrixOf A → Type 0
+AreValuesAtPowers R w m v =
+    (j k : ℕ) → j < m.rows → k < m.cols → R.same (cell_of R.zero v j k) (value_in_ring R (column_of R.zero m k) (power R.one R.product w j))
+
+-- there are 2^lg entries, and for each level l below lg, entry 2^l + i is same as power i of root l + 1, where i is below 2^l
+pub record ArePowersByLevel {A : Type 0} (R : RingOf A) (root : ℕ → A) (lg : ℕ) (table : List A) : Type 0 where
+  pub count : length table ≡ 2 ^ lg
+  pub powers : (l i : ℕ) → l < lg → i < 2 ^ l → R.same (slice_index_or table (2 ^ l + i) R.zero) (power R.one R.product (root (suc l)) i)
