@@ -21,6 +21,14 @@ filled_place-true (true ∷ filled) zero l = (omega arith, refl)
 filled_place-true (true ∷ filled) (suc k) l = let r = filled_place-true filled k (omega (arith, count_true-true filled)) in (omega (arith, r.0), r.1)
 filled_place-true (false ∷ filled) k l = let r = filled_place-true filled k (omega (arith, count_true-false filled)) in (omega (arith, r.0), r.1)
 
+-- each true value has a number
+pub filled_place-found : (filled : List Bool) (m : ℕ) → m < length filled → get_or filled m false ≡ true → (k : ℕ) × (k < count_true filled) × (filled_place filled k ≡ m)
+filled_place-found [] m l e = absurd (omega arith)
+filled_place-found (true ∷ filled) zero l e = (0, omega (arith, count_true-true filled), refl)
+filled_place-found (false ∷ filled) zero l e = absurd (true≢false (sym e))
+filled_place-found (true ∷ filled) (suc m) l e = let r = filled_place-found filled m (omega arith) e in (suc r.0, omega (arith, count_true-true filled, r.1), ap suc r.2)
+filled_place-found (false ∷ filled) (suc m) l e = let r = filled_place-found filled m (omega arith) e in (r.0, omega (arith, count_true-false filled, r.1), ap suc r.2)
+
 pub filled_items-place : {A : Type 0} (xs : List A) (filled : List Bool) (k : ℕ) (d : A) → length filled ≡ length xs → k < count_true filled → get_or (filled_items xs filled) k d ≡ get_or xs (filled_place filled k) d
 filled_items-place [] [] k d h l = absurd (omega arith)
 filled_items-place [] (b ∷ filled) k d h l = absurd (omega (arith, h))

@@ -63,3 +63,4 @@ pub mod FractionLaws
 pub mod DomainDifferences
 pub mod FilledProducts
 pub mod RootWeights
+pub mod CarriedRootWeights
