@@ -9,3 +9,4 @@ pub mod PaddedPolynomials
 pub mod FirstRows
 pub mod WrittenCells
 pub mod ComparedTruths
+pub mod CombinedPairs

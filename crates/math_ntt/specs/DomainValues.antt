@@ -1,5 +1,5 @@
 -- Values of polynomials at the powers of a root, in the columns of a matrix, and tables of these powers.
-use Rattle.std.specs.Prelude.{◌≡◌, ℕ, suc, ◌+◌, ◌<◌, ◌^◌, List, length, slice_index_or}
+use Rattle.std.specs.Prelude.{◌≡◌, ℕ, suc, ◌+◌, ◌<◌, ◌≤◌, ◌^◌, List, length, slice_index_or}
 use Rattle.math_theory.specs.Powers.{power}
 use Rattle.math_base.specs.Members.{RingOf}
 use Rattle.math_base.specs.Polynomials.{value_in_ring}
@@ -18,3 +18,15 @@ AreValuesAtPowers R w m v =
 pub record ArePowersByLevel {A : Type 0} (R : RingOf A) (root : ℕ → A) (lg : ℕ) (table : List A) : Type 0 where
   pub count : length table ≡ 2 ^ lg
   pub powers : (l i : ℕ) → l < lg → i < 2 ^ l → R.same (slice_index_or table (2 ^ l + i) R.zero) (power R.one R.product (root (suc l)) i)
+
+-- the matrix of one column that has these cells
+abbrev pub one_column : {A : Type 0} → List A → MatrixOf A
+one_column xs = matrix_of (length xs) 1 xs
+
+-- where n is 2^lg, lg is at most the greatest one
+abbrev pub HasDomain : ℕ → ℕ → Type 0
+HasDomain greatest n = (lg : ℕ) → n ≡ 2 ^ lg → lg ≤ greatest
+
+-- where m has 2^lg rows, v holds the values of its columns at the powers of root lg
+abbrev pub AreValuesOnDomain : {A : Type 0} → RingOf A → (ℕ → A) → MatrixOf A → MatrixOf A → Type 0
+AreValuesOnDomain R root m v = (lg : ℕ) → m.rows ≡ 2 ^ lg → AreValuesAtPowers R (root lg) m v

@@ -8,3 +8,5 @@ pub mod PolynomialRows
 pub mod Evaluations
 pub mod CountedWork
 pub mod DomainValues
+pub mod CombinedCells
+pub mod LevelTables

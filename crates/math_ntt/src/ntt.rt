@@ -1,5 +1,6 @@
 //! Bitmaps of points, matrices, and vectors of polynomials and of their values at a domain.
 
+mod columns;
 mod evaluations;
 mod matrix;
 mod polynomials;
@@ -7,6 +8,7 @@ mod transform;
 mod vanishing_points;
 mod work;
 
+pub use columns::{EvaluationColumn, PolynomialColumn};
 pub use evaluations::EvaluationVector;
 pub use matrix::{Matrix, Rows};
 pub use polynomials::{CoefficientRows, PolynomialVector};

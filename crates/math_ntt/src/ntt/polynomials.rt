@@ -1,13 +1,19 @@
 //! Vectors of polynomials.
 
-ghost use Rattle.std.specs.Prelude.{◌≡◌, ◌↔◌, ◌<◌, ◌^◌, IsTrue, IsOk, IsSome, IfOk, IfSome, length, min, take};
+ghost use Rattle.std.specs.Prelude.{◌≡◌, ◌↔◌, ◌+◌, ◌*◌, ◌<◌, ◌≤◌, ◌^◌, ℕ, true, IsTrue, IsOk, IsSome, IfOk, IfSome, OnOk, length, min, replicate, take};
 ghost use Rattle.std.specs.Int.{IsNextPowerOfTwo};
 ghost use Rattle.std.specs.Iterator.{YieldsFirstRef, item_count};
+ghost use Rattle.math_ntt.specs.CountedWork.{AddsAtMost};
+ghost use Rattle.math_ntt.specs.DomainValues.{HasDomain, AreValuesOnDomain};
 ghost use Rattle.math_ntt.specs.Matrices.{rows_of, IsOfSize, AreSame};
 ghost use Rattle.math_ntt.specs.PolynomialRows.{AreEnough, FitsPadded, HaveSamePolynomials};
 
+use super::evaluations::EvaluationVector;
 use super::matrix::{Matrix, Rows, copies, filled_up};
-use math_base::algebra::{Additive, Mem, Object};
+use super::transform::{evaluate_rows, evaluation_table, lg_of};
+use super::vanishing_points::VanishingPoints;
+use super::work::Work;
+use math_base::algebra::{Additive, FieldNTT, Mem, Object};
 use std::alloc::Global;
 use std::marker::Model;
 
@@ -98,6 +104,47 @@ impl<F: Object> PolynomialVector<F> {
     {
         let out = self.coefficients.equals(alloc, &other.coefficients)?;
         Ok(out)
+    }
+}
+
+impl<F: FieldNTT> PolynomialVector<F> {
+    /// The values of the polynomials at the powers of the root of order N, where N is the number of rows:
+    /// in each column cell j is the value of that column's polynomial at power j. All rows are filled.
+    ///
+    /// lg N is at most `F::MAX_LG_ROOT_ORDER`. Takes memory for a table of N elements and for a bitmap
+    /// of N bits; the values stand where the coefficients stood.
+    pub fn evaluate(self, alloc: Global) -> Mem<EvaluationVector<F>>
+        requires domain { HasDomain F.MAX_LG_ROOT_ORDER self.rows }
+        ensures size { IfOk result (λ v. IsOfSize v.matrix self.rows self.cols) }
+        ensures values { IfOk result (λ v. AreValuesOnDomain F.Ring F.root self v.matrix) }
+        ensures filled { IfOk result (λ v. v.filled ≡ replicate self.rows true) }
+    {
+        let mut work = Work::new();
+        let out = self.evaluate_counted(alloc, &mut work)?;
+        Ok(out)
+    }
+
+    /// As `evaluate`, and adds the work that was done: with c columns c N lg N / 2 butterflies, or at most
+    /// so many where it is refused, and no root product.
+    ///
+    /// At entry `work` has at most 2^127 butterflies.
+    pub fn evaluate_counted(self, alloc: Global, work: &mut Work) -> Mem<EvaluationVector<F>>
+        requires domain { HasDomain F.MAX_LG_ROOT_ORDER self.rows }
+        requires room { work.old.butterflies ≤ 2 ^ 127 }
+        ensures size { IfOk result (λ v. IsOfSize v.matrix self.rows self.cols) }
+        ensures values { IfOk result (λ v. AreValuesOnDomain F.Ring F.root self v.matrix) }
+        ensures filled { IfOk result (λ v. v.filled ≡ replicate self.rows true) }
+        ensures counted { OnOk result ((lg : ℕ) → self.rows ≡ 2 ^ lg
+            → 2 * work.new.butterflies ≡ 2 * work.old.butterflies + self.cols * self.rows * lg) }
+        ensures bounded { (lg : ℕ) → self.rows ≡ 2 ^ lg → AddsAtMost (self.cols * self.rows * lg) work.old work.new }
+    {
+        let mut matrix = self.coefficients;
+        let cols = matrix.cols;
+        let lg = lg_of(matrix.rows);
+        let table = evaluation_table(alloc, lg)?;
+        evaluate_rows(alloc, &mut matrix.cells, cols, lg, &table, work)?;
+        let filled = VanishingPoints::all_non_vanishing(alloc, u32::from(lg))?;
+        Ok(EvaluationVector { matrix, filled })
     }
 }
 

@@ -1,0 +1,53 @@
+//! Rows in bit-reversed order.
+
+ghost use Rattle.std.specs.Prelude.{◌≡◌, ◌≢◌, ◌+◌, ◌*◌, ◌<◌, ◌^◌, ℕ, length};
+ghost use Rattle.math_theory.specs.BitReversal.{bit_reversed};
+ghost use Rattle.math_ntt.specs.CombinedCells.{AreRowsReversed};
+ghost use Rattle.math_ntt.specs.DomainValues.{matrix_of};
+ghost use Rattle.math_ntt.specs.Matrices.{cell_of};
+
+use math_base::algebra::Additive;
+
+// The number whose lg bits are those of i in the opposite order.
+fn reversed(i: usize, lg: u8) -> usize
+    requires positive { 0 < lg }
+    requires small { lg < 64 }
+    requires below { i < 2 ^ lg }
+    ensures { result ≡ bit_reversed lg i }
+{
+    i.reverse_bits() >> (64 - u32::from(lg))
+}
+
+// Exchanges two rows of `cols` cells.
+fn swap_rows<F: Additive>(cells: &mut [F], rows: usize, cols: usize, i: usize, j: usize)
+    requires size { length cells.old ≡ rows * cols }
+    requires first { i < rows }
+    requires second { j < rows }
+    requires apart { i ≢ j }
+    ensures first { (k : ℕ) → k < cols → cell_of F.zero (matrix_of rows cols cells.new) i k ≡ cell_of F.zero (matrix_of rows cols cells.old) j k }
+    ensures second { (k : ℕ) → k < cols → cell_of F.zero (matrix_of rows cols cells.new) j k ≡ cell_of F.zero (matrix_of rows cols cells.old) i k }
+    ensures others { (r k : ℕ) → r ≢ i → r ≢ j → k < cols
+        → cell_of F.zero (matrix_of rows cols cells.new) r k ≡ cell_of F.zero (matrix_of rows cols cells.old) r k }
+{
+    for k in 0..cols {
+        cells.swap(i * cols + k, j * cols + k);
+    }
+}
+
+// Puts 2^lg rows in bit-reversed order: each pair of rows whose numbers have each other's bits in the
+// opposite order is exchanged once.
+pub(super) fn reverse_rows<F: Additive>(cells: &mut [F], cols: usize, lg: u8)
+    requires small { lg < 64 }
+    requires size { length cells.old ≡ 2 ^ lg * cols }
+    ensures { AreRowsReversed F.zero lg (matrix_of (2 ^ lg) cols cells.old) (matrix_of (2 ^ lg) cols cells.new) }
+{
+    if lg > 0 {
+        let rows = 1usize << lg;
+        for i in 0..rows {
+            let j = reversed(i, lg);
+            if i < j {
+                swap_rows(cells, rows, cols, i, j);
+            }
+        }
+    }
+}
