@@ -10,3 +10,6 @@ pub mod FirstRows
 pub mod WrittenCells
 pub mod ComparedTruths
 pub mod CombinedPairs
+pub mod DomainSteps
+pub mod PresentIndices
+pub mod RootWeightCases

@@ -10,3 +10,4 @@ pub mod CountedWork
 pub mod DomainValues
 pub mod CombinedCells
 pub mod LevelTables
+pub mod RootWeights

@@ -2,3 +2,4 @@
 #![tactic(auto)]
 
 pub mod ntt;
+pub mod weights;

@@ -1,5 +1,5 @@
 -- Products of differences from the items at the true places, without one of them, and from those at the false places.
-use Rattle.std.proofs.Common.{◌≡◌, ℕ, zero, suc, ◌<◌, List, [], ◌∷◌, Bool, true, false, length, map, get_or, refl, sym, ap, true≢false, arith}
+use Rattle.std.proofs.Common.{◌≡◌, ℕ, zero, suc, ◌+◌, ◌<◌, List, [], ◌∷◌, Bool, true, false, length, map, get_or, refl, sym, ap, true≢false, arith}
 use Rattle.std.proofs.Math.ListN.{set}
 use Rattle.std.specs.List.{remove}
 use Rattle.math_theory.specs.Recovery.{count_true, filled_items, missing_items}
@@ -20,6 +20,16 @@ filled_place-true [] k l = absurd (omega arith)
 filled_place-true (true ∷ filled) zero l = (omega arith, refl)
 filled_place-true (true ∷ filled) (suc k) l = let r = filled_place-true filled k (omega (arith, count_true-true filled)) in (omega (arith, r.0), r.1)
 filled_place-true (false ∷ filled) k l = let r = filled_place-true filled k (omega (arith, count_true-false filled)) in (omega (arith, r.0), r.1)
+
+-- the places rise
+pub filled_place-rise : (filled : List Bool) (k : ℕ) → k + 1 < count_true filled → filled_place filled k < filled_place filled (k + 1)
+filled_place-rise filled k l = let next : filled_place filled (k + 1) ≡ filled_place filled (suc k) = ap (filled_place filled) (let e : k + 1 ≡ suc k = omega arith in e) in omega (arith, next, rise filled k (omega arith))
+  where
+    rise : (filled : List Bool) (k : ℕ) → suc k < count_true filled → filled_place filled k < filled_place filled (suc k)
+    rise [] k l = absurd (omega arith)
+    rise (true ∷ filled) zero l = omega arith
+    rise (true ∷ filled) (suc k) l = omega (arith, rise filled k (omega (arith, count_true-true filled)))
+    rise (false ∷ filled) k l = omega (arith, rise filled k (omega (arith, count_true-false filled)))
 
 -- each true value has a number
 pub filled_place-found : (filled : List Bool) (m : ℕ) → m < length filled → get_or filled m false ≡ true → (k : ℕ) × (k < count_true filled) × (filled_place filled k ≡ m)

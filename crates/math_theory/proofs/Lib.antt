@@ -64,3 +64,5 @@ pub mod DomainDifferences
 pub mod FilledProducts
 pub mod RootWeights
 pub mod CarriedRootWeights
+pub mod SharedQuotients
+pub mod WeightsRespect
