@@ -113,7 +113,7 @@ append-of_none xs [] z = append-nil xs
 append-of_none xs (y ∷ ys) z = absurd (omega (arith, z))
 
 -- the pairs that are put away have the first keys and values; where one list is at its end, both are
-pub parts-all : {A : Type 0} (keys : List ℕ) (values : List A) (pairs : List (ℕ × A)) (more_keys : List ℕ) (more_values : List A) → length values ≡ length keys
+pub parts-all : {K A : Type 0} (keys : List K) (values : List A) (pairs : List (K × A)) (more_keys : List K) (more_values : List A) → length values ≡ length keys
     → keys_of pairs ++ more_keys ≡ keys → values_of pairs ++ more_values ≡ values → (length more_keys ≡ 0) ⊎ (length more_values ≡ 0) → (keys_of pairs ≡ keys) × (values_of pairs ≡ values)
 parts-all keys values pairs more_keys more_values n k v ends =
     let a : length (keys_of pairs) + length more_keys ≡ length keys = sym (length-append (keys_of pairs) more_keys) ∙ ap length k in

@@ -66,3 +66,4 @@ pub mod RootWeights
 pub mod CarriedRootWeights
 pub mod SharedQuotients
 pub mod WeightsRespect
+pub mod Rearranged
