@@ -14,3 +14,4 @@ pub mod ListSizes
 pub mod WeightLoops
 pub mod InterpolatorLaws
 pub mod EqualKeys
+pub mod KeyedRoots

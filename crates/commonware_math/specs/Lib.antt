@@ -3,3 +3,4 @@ pub mod PolynomialCounts
 pub mod PolynomialLaws
 pub mod Combinations
 pub mod Interpolators
+pub mod RootInterpolators
