@@ -8,10 +8,9 @@ use Rattle.std.specs.Map.{keys_of, values_of}
 use Rattle.std.specs.declared.cmp.Ordering.{Ordering}
 use Rattle.math_theory.specs.Interpolation.{AreWeightsAt}
 use Rattle.math_theory.specs.Laws.{IsEquality, IsGroup, IsProduct, IsRing, IsModule}
-use Rattle.math_theory.specs.ModuleLaws.{ring_is_module}
 use Rattle.math_theory.specs.Sums.{weighted_sum}
 use Rattle.math_theory.specs.Values.{value_over}
-use Rattle.math_theory.proofs.polynomials.ValuesRespect.{value_over-respects}
+use Rattle.math_theory.proofs.interpolation.WeightsRespect.{weights_at-respects}
 use Rattle.math_theory.proofs.interpolation.WeightsInSpaces.{weights-value_over}
 use Rattle.math_codec.specs.OrderedMaps.{HasFirstOfEachKey}
 use Rattle.math_base.specs.Members.{RingOf}
@@ -30,18 +29,7 @@ keyed-weights cmp R x pairs points keyed values weights e first z W =
       each = rw (← e, z, seconds-zip (keys_of points) weights count) W;
     }
 
-AllZip-reflexive : {A : Type 0} {same : A → A → Type 0} → IsEquality same → (xs : List A) → AllZip same xs xs
-AllZip-reflexive E [] = tt
-AllZip-reflexive E (x ∷ xs) = (E.reflexive x, AllZip-reflexive E xs)
-
 module _ {A : Type 0} (R : RingOf A) (E : IsEquality R.same) (G : IsGroup R.same R.zero R.sum R.negative) (P : IsProduct R.same R.product) (L : IsRing R.same R.sum R.product R.one) where
-  weights_at-respects : (x y : A) → R.same x y → (points weights : List A) → AreWeightsAt R.same R.zero R.sum R.product R.one x points weights
-      → AreWeightsAt R.same R.zero R.sum R.product R.one y points weights
-  weights_at-respects x y h points weights W = record {
-    lengths = W.lengths;
-    give = λ a l. E.transitive _ _ _ (W.give a l) (value_over-respects E G (ring_is_module E G P L) E P x y h a a (AllZip-reflexive E a));
-  }
-
   -- weights for x are weights for each point that is same as x
   pub weights_of_points-respects : (x y : A) → R.same x y → (points weights : List A) → AreWeightsOfPoints R x points weights → AreWeightsOfPoints R y points weights
   weights_of_points-respects x y h points weights W =
@@ -54,8 +42,8 @@ module _ {A : Type 0} (R : RingOf A) (E : IsEquality R.same) (G : IsGroup R.same
           λ i l s. let m : i < length points = omega (arith, l, first.0) in first.2 i l (rw (get_or_default points i y x m) (E.transitive _ _ _ s h)),
         );
         repeated = λ outside. W.repeated (λ k d l s. outside k d l (E.transitive _ _ _ s h));
-        give = λ d. weights_at-respects x y h points weights (W.give d);
-        only = λ d others V. W.only d others (weights_at-respects y x back points others V);
+        give = λ d. weights_at-respects E G P L x y h points weights (W.give d);
+        only = λ d others V. W.only d others (weights_at-respects E G P L y x back points others V);
       }
 
   pub interpolates-respects : {I : Type 0} (cmp : I → I → Ordering) (x y : A) → R.same x y → (pairs weights : List (I × A)) → InterpolatesAt cmp R x pairs weights

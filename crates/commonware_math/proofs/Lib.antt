@@ -10,3 +10,4 @@ pub mod WeightedCombinations
 pub mod EqualCombinations
 pub mod GeneratorRuns
 pub mod CombinationValues
+pub mod KeyedRoots

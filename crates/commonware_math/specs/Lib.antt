@@ -8,3 +8,4 @@ pub mod SyntheticTerms
 pub mod SyntheticLaws
 pub mod SyntheticGenerators
 pub mod SyntheticValues
+pub mod RootInterpolators

@@ -32,3 +32,6 @@ pub mod OnDomain
 pub mod OneColumn
 pub mod RecoveredWholes
 pub mod RecoveredFromValues
+pub mod RootWeightSteps
+pub mod PresentIndices
+pub mod RootWeightCases

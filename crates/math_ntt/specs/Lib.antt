@@ -16,3 +16,4 @@ pub mod CombinedCells
 pub mod LevelTables
 pub mod RecoveredRows
 pub mod RecoveredValues
+pub mod RootWeights

@@ -2,6 +2,7 @@
 
 mod columns;
 mod evaluations;
+mod lagrange;
 mod matrix;
 mod polynomials;
 mod quotients;
@@ -14,6 +15,7 @@ mod work;
 
 pub use columns::{EvaluationColumn, PolynomialColumn};
 pub use evaluations::EvaluationVector;
+pub use lagrange::{lagrange_coefficients, lagrange_coefficients_at};
 pub use matrix::{Matrix, Rows};
 pub use polynomials::{CoefficientRows, PolynomialVector};
 pub use vanishing_points::VanishingPoints;

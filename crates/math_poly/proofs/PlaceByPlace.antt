@@ -1,9 +1,7 @@
 -- Lists that are related place by place.
-use Rattle.std.proofs.Common.{◌≡◌, inl, inr, ℕ, ◌+◌, ◌<◌, List, [], ◌∷◌, ◌++◌, length, take, get_or, arith}
+use Rattle.std.proofs.Common.{◌≡◌, ℕ, ◌+◌, ◌<◌, List, [], ◌∷◌, ◌++◌, length, take, get_or}
 use Rattle.std.specs.List.{AllZip}
-use Rattle.std.proofs.Math.Seq.{get_or-append_seam}
-use Rattle.std.proofs.lemmas.Bool.{cases_lt}
-use Rattle.std.proofs.lemmas.List.{take_more, get_or_append_left}
+use Rattle.std.proofs.lemmas.List.{take_more}
 use Rattle.math_base.proofs.PlaceByPlace.{AllZip-append}
 
 -- one more place
@@ -17,12 +15,3 @@ AllZip-weaker R S k [] [] h = tt
 AllZip-weaker R S k [] (y ∷ ys) h = absurd h
 AllZip-weaker R S k (x ∷ xs) [] h = absurd h
 AllZip-weaker R S k (x ∷ xs) (y ∷ ys) h = (k x y h.0, AllZip-weaker R S k xs ys h.1)
-
--- what holds of each place and of the next
-pub each_place_next : {A : Type 0} (d : A) (P : ℕ → A → Type 0) (xs : List A) (i : ℕ) (x : A) → length xs ≡ i
-    → ((k : ℕ) → k < i → P k (get_or xs k d)) → P i x → (k : ℕ) → k < i + 1 → P k (get_or (xs ++ x ∷ []) k d)
-each_place_next d P xs i x e h p k l =
-    elim (cases_lt k i) [
-      | inl m ↦ let n : k < length xs = omega arith in rw (get_or_append_left xs (x ∷ []) d k n) (h k m)
-      | inr m ↦ let n : k ≡ length xs = omega arith in rw (n, get_or-append_seam xs x [] d, e) p
-    ]

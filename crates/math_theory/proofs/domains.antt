@@ -6,3 +6,5 @@ pub mod MissingProducts
 pub mod CarriedDomains
 pub mod BuiltVanishing
 pub mod MergedPieces
+pub mod DomainDifferences
+pub mod FilledProducts

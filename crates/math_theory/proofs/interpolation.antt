@@ -5,3 +5,8 @@ pub mod WeightsInSpaces
 pub mod SharedInverse
 pub mod DifferenceProducts
 pub mod CarriedInterpolation
+pub mod RootWeights
+pub mod CarriedRootWeights
+pub mod SharedQuotients
+pub mod WeightsRespect
+pub mod Rearranged

@@ -1,5 +1,6 @@
 -- Columns of cells at the powers of a root, some of which are filled, and the coefficients that fit the filled ones.
 use Rattle.std.specs.Prelude.{◌≡◌, ◌<◌, ◌≤◌, ℕ, List, [], ◌∷◌, Bool, true, false, length, slice_index_or, count_by}
+use Rattle.std.specs.List.{range_with_len}
 use Rattle.math_theory.specs.Coefficients.{coefficient}
 use Rattle.math_theory.specs.Powers.{power}
 use Rattle.math_theory.specs.Values.{value}
@@ -28,3 +29,7 @@ pub record Fits {A : Type 0} (same : A → A → Type 0) (zero : A) (sum : A →
   pub agrees : (j : ℕ) → j < length cells → slice_index_or filled j false ≡ true
       → same (value zero sum product one (power one product w j) q) (slice_index_or cells j zero)
   pub zero_from : (i : ℕ) → count_true filled ≤ i → same (coefficient zero q i) zero
+
+-- the indices of the true places, in rising order
+abbrev pub filled_places : List Bool → List ℕ
+filled_places filled = filled_items (range_with_len 0 (length filled)) filled

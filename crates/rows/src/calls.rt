@@ -10,6 +10,7 @@ mod maps;
 mod matrices;
 mod polynomials;
 mod recovery;
+mod root_weights;
 mod sampling;
 mod transforms;
 mod vectors;
@@ -38,6 +39,7 @@ fn at_any<R: Element>(alloc: Global, row: Row<'_>, answer: &mut Answer<R>) -> Re
             || vectors::run(alloc, call, arguments, answer)?
             || transforms::run(alloc, call, arguments, answer)?
             || recovery::run(alloc, call, arguments, answer)?
+            || root_weights::run(alloc, call, arguments, answer)?
             || goldilocks::run(alloc, call, arguments, &mut answer.text)?
             || encodings::run(alloc, call, arguments, &mut answer.text)?
             || maps::run(alloc, call, arguments, &mut answer.text)?

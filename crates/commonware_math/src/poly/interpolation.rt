@@ -10,6 +10,7 @@ ghost use Rattle.math_base.specs.Members.{value};
 ghost use Rattle.math_base.specs.Polynomials.{AreWeightsAt};
 ghost use Rattle.commonware_math.specs.Interpolators.{InterpolatesAt, HaveEqualKeys};
 
+mod roots;
 mod weights;
 
 use math_base::algebra::{Field, Mem, Space};

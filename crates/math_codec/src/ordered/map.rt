@@ -132,6 +132,24 @@ impl<I: Ord + Drop, V: Drop> Map<I, V> {
         &self.values
     }
 
+    /// The map of these keys, which strictly rise, and values, key by key.
+    pub fn from_parts(keys: Vec<I>, values: Vec<V>) -> Self
+        requires rise { IsStrictlySortedBy I.cmp keys.items }
+        requires count { length values.items ≡ length keys.items }
+        ensures { result ≡ zip keys.items values.items }
+    {
+        Map { keys, values }
+    }
+
+    /// The keys, which strictly rise, and the values, in the order of their keys.
+    pub fn into_parts(self) -> (Vec<I>, Vec<V>)
+        ensures keys { result.0.items ≡ keys_of self }
+        ensures values { result.1.items ≡ values_of self }
+        ensures rise { KeysRise I.cmp self }
+    {
+        (self.keys, self.values)
+    }
+
     /// The values alone, in the order of their keys.
     pub fn into_values(self) -> Vec<V>
         ensures { result.items ≡ values_of self }

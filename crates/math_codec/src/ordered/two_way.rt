@@ -158,7 +158,8 @@ impl<I: Ord + Drop, V: Ord + Drop> BiMap<I, V> {
 
     /// The pairs as a sorted map.
     pub fn into_map(self) -> Map<I, V>
-        ensures { result ≡ self }
+        ensures pairs { result ≡ self }
+        ensures differ { ValuesDiffer V.cmp self }
     {
         self.pairs
     }

@@ -1,6 +1,7 @@
 -- Domains up to a type's own equality: exact orders, cosets, and the product over all points, carried from the classes.
 use Rattle.std.proofs.Common.{◌≡◌, ℕ, zero, suc, ◌<◌, ◌^◌, List, Bool, length, get_or, sym, ◌∙◌, ap, subst, arith}
 use Rattle.std.proofs.lemmas.List.FromFn.{length-map-range_with_len, get_or-map-range_with_len}
+use Rattle.math_theory.specs.Interpolation.{AreApart}
 use Rattle.math_theory.specs.Recovery.{missing_items}
 use Rattle.math_theory.specs.Laws.{IsEquality, IsGroup, IsProduct, IsRing, IsField}
 use Rattle.math_theory.specs.Rings.{CommutativeRing}
@@ -48,26 +49,29 @@ module _ {A : Type 0} {same : A → A → Type 0} {zero_of : A} {sum : A → A �
         least = λ m positive small e. o.least m positive small (power-class E G P R w m ∙ class_same E _ _ e);
       }
 
-  -- the powers of a root of exact order n are apart, and so is their coset by a number that is no power of it
+  -- the powers of a root of exact order n are apart
+  pub powers_apart-same : (w : A) (n : ℕ) → HasExactOrder same one product w n → AreApart same (powers one product w n)
+  powers_apart-same w n o i j d l m e =
+      let b : j < n = omega (arith, m, long) in
+      power-apart C (class E w) n i j (HasExactOrder-classes w n o) l b
+      (power-class E G P R w i ∙ class_same E _ _ (subst (λ x. same x (power one product w j)) (at i (omega arith)) (subst (λ y. same (get_or (powers one product w n) i d) y) (at j b) e)) ∙ sym (power-class E G P R w j))
+    where
+      long : length (powers one product w n) ≡ n
+      long = length-map-range_with_len (power one product w) 0 n
+
+      at : (i : ℕ) → i < n → get_or (powers one product w n) i d ≡ power one product w i
+      at i l = get_or-map-range_with_len (power one product w) 0 n i i d l (omega arith)
+
+  -- and so is their coset by a number that is no power of it
   pub HasCoset-of_order-same : (w s : A) (n : ℕ) → HasExactOrder same one product w n → ¬ (same s zero_of) → IsNoPower same one product w s → HasCoset same zero_of product one w s n
   HasCoset-of_order-same w s n o nonzero outside = record {
-    distinct = λ i j d l m e.
-        let b : j < n = omega (arith, m, long) in
-        power-apart C (class E w) n i j (HasExactOrder-classes w n o) l b
-        (power-class E G P R w i ∙ class_same E _ _
-        (subst (λ x. same x (power one product w j)) (at i d (omega arith)) (subst (λ y. same (get_or (powers one product w n) i d) y) (at j d b) e)) ∙ sym (power-class E G P R w j));
+    distinct = powers_apart-same w n o;
     shift_nonzero = nonzero;
     apart = λ i j l m e.
         coset-apart C (class E w) (class E s) n o.positive (power-class E G P R w n ∙ class_same E _ _ o.power_is_one)
         (λ k f. outside k (same_class E _ _ (f ∙ power-class E G P R w k))) i j
         (ap (C.product (class E s)) (power-class E G P R w i) ∙ class_same E _ _ e ∙ sym (power-class E G P R w j));
   }
-    where
-      long : length (powers one product w n) ≡ n
-      long = length-map-range_with_len (power one product w) 0 n
-
-      at : (i : ℕ) (d : A) → i < n → get_or (powers one product w n) i d ≡ power one product w i
-      at i d l = get_or-map-range_with_len (power one product w) 0 n i i d l (omega arith)
 
   -- over the whole domain of n points the product is r ^ n - 1
   pub root_product-powers-same : (lg : ℕ) (r w : A) → IsPrincipalRoot same one negative product lg w

@@ -31,7 +31,7 @@ module _ {A : Type 0} (R : CommutativeRing A) where
       ∙ ap (λ y. product y (product (sum (product s' r) (negative x)) (root_product R (product s' r) xs))) (sym (power-suc R.one product s (length xs)))
 
   -- some roots and their negatives: (r - x) (r + x) is r² - x²
-  root_product-negatives : (r : A) (ps : List A) → product (root_product R r ps) (root_product R r (map negative ps)) ≡ root_product R (product r r) (map (λ p. product p p) ps)
+  pub root_product-negatives : (r : A) (ps : List A) → product (root_product R r ps) (root_product R r (map negative ps)) ≡ root_product R (product r r) (map (λ p. product p p) ps)
   root_product-negatives r [] = R.product_one R.one
   root_product-negatives r (p ∷ ps) =
       combine R (r ∷ p ∷ root_product R r ps ∷ root_product R r (map negative ps) ∷ root_product R (product r r) (map (λ p. product p p) ps) ∷ [])

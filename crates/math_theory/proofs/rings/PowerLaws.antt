@@ -1,9 +1,9 @@
 -- Laws of powers in a commutative ring.
-use Rattle.std.proofs.Common.{◌≡◌, ℕ, zero, suc, ◌+◌, ◌*◌, sym, ◌∙◌, ap, ap₂, arith}
+use Rattle.std.proofs.Common.{◌≡◌, ℕ, zero, suc, ◌+◌, ◌*◌, ◌<◌, sym, ◌∙◌, ap, ap₂, arith}
 use Rattle.math_theory.specs.OverRing.{power}
 use Rattle.math_theory.specs.Powers.{power-zero, power-suc}
 use Rattle.math_theory.specs.Rings.{CommutativeRing}
-use Rattle.math_theory.proofs.rings.RingLaws.{product-one_right, product-left_comm}
+use Rattle.math_theory.proofs.rings.RingLaws.{product-one_right, product-left_comm, product-zero}
 
 module _ {A : Type 0} (R : CommutativeRing A) where
   open R use {product}
@@ -14,6 +14,11 @@ module _ {A : Type 0} (R : CommutativeRing A) where
   pub power-of_one : (n : ℕ) → power R R.one n ≡ R.one
   power-of_one zero = power-zero R.one product R.one
   power-of_one (suc n) = power-suc R.one product R.one n ∙ ap (λ x. product x R.one) (power-of_one n) ∙ R.product_one R.one
+
+  -- a positive power of zero is zero
+  pub power-of_zero : (n : ℕ) → 0 < n → power R R.zero n ≡ R.zero
+  power-of_zero zero l = absurd (omega arith)
+  power-of_zero (suc n) l = power-suc R.one product R.zero n ∙ product-zero R (power R R.zero n)
 
   pub power-add : (a : A) (m n : ℕ) → power R a (m + n) ≡ product (power R a m) (power R a n)
   power-add a m zero = let e : m + 0 ≡ m = omega arith in ap (power R a) e ∙ sym (ap (product (power R a m)) (power-zero R.one product a) ∙ product-one_right R (power R a m))

@@ -57,7 +57,7 @@ fn interpolator_at<R: Element>(
 }
 
 /// Adds the weights with their keys.
-fn put_weights<R: Element>(
+pub fn put_weights<R: Element>(
     alloc: Global,
     interpolator: &Interpolator<u64, R>,
     answer: &mut Answer<R>,

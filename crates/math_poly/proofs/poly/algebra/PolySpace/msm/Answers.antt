@@ -2,7 +2,7 @@ use Rattle.std.proofs.Common.{◌≡◌, ◌∙◌, ◌<◌, [], ◌∷◌, leng
 use Rattle.math_theory.specs.Sums.{weighted_sum}
 use Rattle.math_theory.specs.Coefficients.{coefficient, polynomial_sum, polynomial_multiple}
 use Rattle.math_poly.specs.PolynomialCounts.{greatest_count}
-use Rattle.math_poly.proofs.PlaceByPlace.{each_place_next}
+use Rattle.math_base.proofs.PlaceByPlace.{each_place_next}
 use Rattle.math_poly.proofs.PolynomialEquality.{same_by_count}
 use Rattle.math_poly.proofs.GreatestCount.{greatest_count_positive, take_shorter}
 use Rattle.math_poly.proofs.WeightedPolynomials.{weighted_sum-take, length-weighted_sum, coefficient_of_weighted_sum}
