@@ -23,7 +23,6 @@ pub mod Levels
 pub mod RootInverses
 pub mod ReversedRows
 pub mod DomainSteps
-pub mod SharedInverses
 pub mod DomainTransforms
 pub mod ScaledCells
 pub mod PowerTables

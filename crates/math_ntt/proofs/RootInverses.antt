@@ -1,21 +1,15 @@
 -- The inverses of roots of unity.
-use Rattle.std.proofs.Common.{◌≡◌, ◌≢◌, ◌∙◌, ℕ, zero, suc, ◌+◌, ◌<◌, ◌≤◌, Bool, true, false, if◌then◌else◌, [], ◌∷◌, refl, sym, ap, add-one, arith}
+use Rattle.std.proofs.Common.{◌≡◌, ◌≢◌, ◌∙◌, ℕ, suc, ◌+◌, ◌≤◌, Bool, true, false, if◌then◌else◌, [], ◌∷◌, refl, sym, ap, add-one, arith}
 use Rattle.math_theory.specs.Domains.{HasExactOrder}
 use Rattle.math_theory.specs.Laws.{IsEquality, IsGroup, IsProduct, IsRing, IsField}
-use Rattle.math_theory.specs.OverRing as OverRing
-use Rattle.math_theory.specs.Powers.{power-suc}
 use Rattle.math_theory.specs.RootLaws.{HasRootsOfUnity}
 use Rattle.math_theory.specs.Rings.{Field}
 use Rattle.math_theory.proofs.classes.Classes.{class, class_same, same_class, field_of_classes}
-use Rattle.math_theory.proofs.classes.ClassesOfLists.{power-class}
+use Rattle.math_theory.proofs.domains.MergedPieces.{root-nonzero}
 use Rattle.math_theory.proofs.rings.Normal.{combine, ◌⊗◌, ◌⊕◌, 𝟙, v0, v1}
-use Rattle.math_theory.proofs.rings.RingLaws.{product-one_right, product-zero}
+use Rattle.math_theory.proofs.rings.RingLaws.{product-one_right}
 
 module _ {A : Type 0} (F : Field A) where
-  nonzero : (r : A) (n : ℕ) → 0 < n → OverRing.power F.ring r n ≡ F.one → r ≢ F.zero
-  nonzero r zero h e z = absurd (omega (arith, h))
-  nonzero r (suc n) h e z = F.one_apart (sym e ∙ power-suc F.one F.product r n ∙ ap (F.product (OverRing.power F.ring r n)) z ∙ product-zero F.ring (OverRing.power F.ring r n))
-
   inverse-square : (r s : A) → r ≢ F.zero → s ≢ F.zero → F.product r r ≡ s → F.product (F.inverse r) (F.inverse r) ≡ F.inverse s
   inverse-square r s h k e =
       let x = F.product (F.inverse r) (F.inverse r) in
@@ -27,16 +21,13 @@ module _ {A : Type 0} (F : Field A) where
 
 module _ {A : Type 0} {same : A → A → Type 0} {zero_of : A} {sum : A → A → A} {negative : A → A} {product : A → A → A} {one : A} {inverse : A → A}
     (E : IsEquality same) (G : IsGroup same zero_of sum negative) (P : IsProduct same product) (R : IsRing same sum product one) (K : IsField same zero_of product one inverse) where
-  nonzero-class : (r : A) (n : ℕ) → HasExactOrder same one product r n → class E r ≡ class E zero_of → ⊥
-  nonzero-class r n o = nonzero (field_of_classes E G P R K) (class E r) n o.positive (power-class E G P R r n ∙ class_same E _ _ o.power_is_one)
-
   -- the inverse of a root squared is that of its square
   pub inverse_square-same : (r s : A) (m n : ℕ) → HasExactOrder same one product r m → HasExactOrder same one product s n → same (product r r) s → same (product (inverse r) (inverse r)) (inverse s)
   inverse_square-same r s m n o p e =
-      same_class E _ _ (inverse-square (field_of_classes E G P R K) (class E r) (class E s) (nonzero-class r m o) (nonzero-class s n p) (class_same E _ _ e))
-
-  pub root-inverse : (r : A) (n : ℕ) → HasExactOrder same one product r n → same (product r (inverse r)) one
-  root-inverse r n o = K.inverts r (λ z. nonzero-class r n o (class_same E _ _ z))
+      same_class E _ _ (inverse-square (field_of_classes E G P R K) (class E r) (class E s) (apart r m o) (apart s n p) (class_same E _ _ e))
+    where
+      apart : (r : A) (n : ℕ) → HasExactOrder same one product r n → class E r ≢ class E zero_of
+      apart r n o h = root-nonzero E G P R K r n o (same_class E _ _ h)
 
   -- the roots of all levels, or their inverses: each is the square of the next
   pub level_root-square : {root : ℕ → A} {shift : A} {half : A → A} {greatest : ℕ} → HasRootsOfUnity same zero_of sum product one greatest root shift half → (forward : Bool) (l : ℕ) → l + 1 ≤ greatest

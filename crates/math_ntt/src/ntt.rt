@@ -5,7 +5,6 @@ mod evaluations;
 mod lagrange;
 mod matrix;
 mod polynomials;
-mod quotients;
 mod recovery;
 mod row_products;
 mod transform;

@@ -26,7 +26,6 @@ ghost use Rattle.math_ntt.specs.RecoveryWork.{AddsWithin};
 use super::evaluations::EvaluationVector;
 use super::matrix::Matrix;
 use super::polynomials::PolynomialVector;
-use super::quotients::inverses;
 use super::row_products::{dilate_rows, multiply_rows};
 use super::transform::{
     evaluate_rows, evaluation_table, interpolate_rows, interpolation_table, lg_of, size_of,
@@ -34,6 +33,7 @@ use super::transform::{
 use super::vanishing::vanishing_coefficients;
 use super::vanishing_points::VanishingPoints;
 use super::work::Work;
+use crate::weights::quotients;
 use math_base::algebra::{Additive, FieldNTT, Mem};
 use std::alloc::Global;
 
@@ -229,8 +229,9 @@ fn divided<F: FieldNTT>(
     evaluate_rows(alloc, vanishing, 1, lg, evaluation, work)?;
     dilate_rows(alloc, cells, cols, rows, &shift)?;
     evaluate_rows(alloc, cells, cols, lg, evaluation, work)?;
-    let divisors = inverses(alloc, vanishing)?;
-    multiply_rows(alloc, cells, cols, &divisors)?;
+    let one = F::one(alloc)?;
+    let inverses = quotients(alloc, one, vanishing)?;
+    multiply_rows(alloc, cells, cols, &inverses)?;
     interpolate_rows(alloc, cells, cols, lg, interpolation, work)?;
     let back = F::coset_shift_inv(alloc)?;
     dilate_rows(alloc, cells, cols, rows, &back)?;

@@ -4,8 +4,8 @@ ghost use Rattle.std.specs.Prelude.{◌≡◌, ◌+◌, ◌<◌, ◌^◌};
 
 use std::marker::Model;
 
-/// How much counted calls did: butterflies, each of which combines a pair of cells, and root products,
-/// each of which multiplies a vanishing polynomial by one linear factor.
+/// How much counted calls did: butterflies, each of which combines a pair of cells, and root products.
+/// A root product is one coefficient times one root, when small vanishing polynomials are built.
 ///
 /// A counted call adds to it whatever its outcome.
 #[derive(Debug, Drop)]
@@ -42,7 +42,7 @@ impl Work {
         self.butterflies
     }
 
-    /// How many times a vanishing polynomial was multiplied by a linear factor.
+    /// How many times a coefficient was multiplied by a root.
     pub fn root_products(&self) -> u128
         ensures { result ≡ self.now.root_products }
     {

@@ -53,6 +53,17 @@ module _ {A : Type 0} {same : A → A → Type 0} {zero_of : A} {sum : A → A �
   power-double-same r n =
       same_class E _ _ (sym (power-class E G P R r (n + n)) ∙ power-add (ring_of_classes E G P R) (class E r) n n ∙ ap (λ x. (ring_of_classes E G P R).product x x) (power-class E G P R r n))
 
+  -- a root of unity is not zero, and has an inverse
+  pub root-nonzero : (w : A) (n : ℕ) → HasExactOrder same one product w n → ¬ (same w zero_of)
+  root-nonzero w n order h = F.distinct (E.transitive _ _ _ (E.symmetric _ _ order.power_is_one) (zero_power n order.positive))
+    where
+      zero_power : (m : ℕ) → 0 < m → same (pow w m) zero_of
+      zero_power zero l = absurd (omega arith)
+      zero_power (suc m) l = rw (power-suc one product w m) (combine_same E G P R (pow w m ∷ w ∷ []) (v0 ⊗ v1) 𝟘 v0 v1 𝟘 h refl)
+
+  pub root-inverse : (w : A) (n : ℕ) → HasExactOrder same one product w n → same (product w (inverse w)) one
+  root-inverse w n order = F.inverts w (root-nonzero w n order)
+
   -- w is a root of order 2^(lg + 1)
   module _ (w : A) (lg : ℕ) (order : HasExactOrder same one product w (2 ^ suc lg)) where
     abbrev n : ℕ
@@ -61,23 +72,13 @@ module _ {A : Type 0} {same : A → A → Type 0} {zero_of : A} {sum : A → A �
     half_turn : same (pow w n) (negative one)
     half_turn = IsPrincipalRoot-of_order-same E G P R F (suc lg) w order
 
-    root_nonzero : ¬ (same w zero_of)
-    root_nonzero h = F.distinct (E.transitive _ _ _ (E.symmetric _ _ order.power_is_one) (zero_power (2 ^ suc lg) order.positive))
-      where
-        zero_power : (m : ℕ) → 0 < m → same (pow w m) zero_of
-        zero_power zero l = absurd (omega arith)
-        zero_power (suc m) l = rw (power-suc one product w m) (combine_same E G P R (pow w m ∷ w ∷ []) (v0 ⊗ v1) 𝟘 v0 v1 𝟘 h refl)
-
-    pub root-inverse : same (product w (inverse w)) one
-    root-inverse = F.inverts w root_nonzero
-
     -- the power n at the inverse root times r
     pub moved-power : (r : A) → same (pow (product (inverse w) r) n) (negative (pow r n))
     moved-power r =
         let C : CommutativeRing (Class E) = ring_of_classes E G P R in
         let back : same (product (pow w n) (pow (inverse w) n)) one =
         same_class E _ _ (ap₂ C.product (sym (power-class E G P R w n)) (sym (power-class E G P R (inverse w) n))
-        ∙ sym (power-product C (class E w) (class E (inverse w)) n) ∙ ap (λ x. OverRing.power C x n) (class_same E _ _ root-inverse) ∙ power-of_one C n) in
+        ∙ sym (power-product C (class E w) (class E (inverse w)) n) ∙ ap (λ x. OverRing.power C x n) (class_same E _ _ (root-inverse w (2 ^ suc lg) order)) ∙ power-of_one C n) in
         E.transitive _ _ _
         (same_class E _ _ (sym (power-class E G P R (product (inverse w) r) n) ∙ power-product C (class E (inverse w)) (class E r) n ∙ ap₂ C.product (power-class E G P R (inverse w) n) (power-class E G P R r n)))
         (combine2_same E G P R (pow w n ∷ pow (inverse w) n ∷ pow r n ∷ []) (v1 ⊗ v2) (minus v2) (minus v2) (v0 ⊗ v1) 𝟙 (v1 ⊗ v2) v0 (minus 𝟙) back half_turn refl)

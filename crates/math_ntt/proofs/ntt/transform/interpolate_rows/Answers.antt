@@ -1,7 +1,7 @@
 use Rattle.std.proofs.Common.{◌≡◌, ◌∙◌, ◌*◌, ◌^◌, length, arith}
+use Rattle.math_theory.proofs.domains.MergedPieces.{root-inverse}
 use Rattle.math_ntt.proofs.Members.{ring_members}
 use Rattle.math_ntt.proofs.DomainTransforms.{values-back}
-use Rattle.math_ntt.proofs.RootInverses.{root-inverse}
 use Rattle.math_ntt.proofs.ScaledCells.{halved-no_times, scaled-by_one}
 use Rattle.math_ntt.proofs.ntt.transform.interpolate_rows.Goals as goal
 

@@ -161,6 +161,6 @@ returns-clause-vanishes g t c =
     let evens = sym (even_items-every c.args.start c.args.stride points n (2 ^ lg) double) in
     let odds = sym (odd_items-every c.args.start c.args.stride points n (2 ^ lg) double) in
     VanishesAt-halves E G P R f root (g.F.Field.inverse root) (g.F.FieldNTT.root (lg - 1)) merged.factor n (every c.args.start c.args.stride (2 ^ lg) points) _ _ _
-    (length-every c.args.start c.args.stride points (2 ^ lg) ∙ double) square (root-inverse E G P R f root (lg - 1) order)
+    (length-every c.args.start c.args.stride points (2 ^ lg) ∙ double) square (root-inverse E G P R f root (2 ^ suc (lg - 1)) order)
     (rw evens at c.in_ok-left.ensures.vanishes) (rw odds at c.in_ok-right.ensures.vanishes)
     merged.factor_is_not_zero merged.gives
