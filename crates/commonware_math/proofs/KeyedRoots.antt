@@ -44,7 +44,8 @@ pub weighted_keys-next : {I A : Type 0} (ws : List (ℕ × A)) (ys : List (I × 
 weighted_keys-next ws ys kept new key index w e h n =
     n ∙ ap (λ ks. ks ++ (key ∷ [])) h ∙ sym (map-append (λ p. p.0) (weighted_pairs ws ys) ((key, index) ∷ [])) ∙ ap keys_of (sym (weighted_pairs-next ws ys key index w e))
 
-pub weighted_values-next : {I A : Type 0} (same : A → A → Type 0) (zero_of : A) (ws : List (ℕ × A)) (ys : List (I × ℕ)) (values new : List A) (key : I) (index : ℕ) (w copy : A) → value_at nat_cmp index ws ≡ Some w
+pub weighted_values-next : {I A : Type 0} (same : A → A → Type 0) (zero_of : A) (ws : List (ℕ × A)) (ys : List (I × ℕ)) (values new : List A) (key : I) (index : ℕ) (w copy : A)
+    → value_at nat_cmp index ws ≡ Some w
     → same copy w → AllZip (λ v i. same v (weight_at zero_of ws i)) values (values_of (weighted_pairs ws ys)) → new ≡ values ++ (copy ∷ [])
     → AllZip (λ v i. same v (weight_at zero_of ws i)) new (values_of (weighted_pairs ws (ys ++ ((key, index) ∷ []))))
 weighted_values-next same zero_of ws ys values new key index w copy e s h n =
@@ -232,7 +233,8 @@ module _ {I : Type 0} (total : ℕ) (pairs : List (I × ℕ)) (indices : List �
       ap is_some (value-entry p.1 map_of ∙ ap (option_map (λ q. q.1)) (same p.1) ∙ sym (value-entry p.1 weights)) ∙ value-has weights p.1 ∙ ap (has p.1) e ∙ index-below p.1 t)
 
 -- what is looked up is the weight in its place
-pub weight-found : {A : Type 0} (zero_of : A) (weights map_of : List (ℕ × A)) (k : ℕ) → Differ (keys_of weights) → ((i : ℕ) → first_pair nat_cmp i map_of ≡ first_pair nat_cmp i weights) → k < length weights
+pub weight-found : {A : Type 0} (zero_of : A) (weights map_of : List (ℕ × A)) (k : ℕ) → Differ (keys_of weights) → ((i : ℕ) → first_pair nat_cmp i map_of ≡ first_pair nat_cmp i weights)
+    → k < length weights
     → weight_at zero_of map_of (get_or (keys_of weights) k 0) ≡ get_or (values_of weights) k zero_of
 weight-found zero_of weights map_of k d same l =
     let i = get_or (keys_of weights) k 0 in
@@ -282,7 +284,8 @@ module _ {A : Type 0} (R : RingOf A) {inverse : A → A} (E : IsEquality R.same)
     power-only i j l m s =
         let apart = powers_apart-same E G P L w n o in
         let long : length (powers R.one R.product w n) ≡ n = length-map-range_with_len (power R.one R.product w) 0 n in
-        let at : (k : ℕ) → k < n → get_or (powers R.one R.product w n) k R.zero ≡ power R.one R.product w k = λ k b. get_or-map-range_with_len (power R.one R.product w) 0 n k k R.zero b (omega arith) in
+        let at : (k : ℕ) → k < n → get_or (powers R.one R.product w n) k R.zero ≡ power R.one R.product w k =
+        λ k b. get_or-map-range_with_len (power R.one R.product w) 0 n k k R.zero b (omega arith) in
         elim (cases_eq i j) [
           | inl e ↦ e
           | inr q ↦ elim (cases_lt i j) [
@@ -306,12 +309,14 @@ module _ {A : Type 0} (R : RingOf A) {inverse : A → A} (E : IsEquality R.same)
         let m : k < length is = omega (arith, l, length-map is (power R.one R.product w)) in
         let j = get_or is k 0 in
         let t : has j is ≡ true = has-contains j is k m (get_or_default is k j 0 m) in
-        let same_index : i ≡ j = power-only i j (b i (has-head i i is refl)) (b j (has-later j i is t)) (subst (R.same (power R.one R.product w i)) (get_or-map (power R.one R.product w) is k 0 e m) s) in
+        let same_index : i ≡ j = power-only i j (b i (has-head i i is refl)) (b j (has-later j i is t))
+        (subst (R.same (power R.one R.product w i)) (get_or-map (power R.one R.product w) is k 0 e m) s) in
         true≢false (sym (subst (λ h. has h is ≡ true) (sym same_index) t) ∙ d.0))
         (points-apart is d.1 (λ j t. b j (has-later j i is t)))
 
     -- the keyed weights interpolate at the points of the kept pairs
-    pub keyed-roots : {I : Type 0} (cmp : I → I → Ordering) (x : A) (total : ℕ) (pairs : List (I × ℕ)) (weights map_of : List (ℕ × A)) (keyed : List (I × A)) (values : List A) → IsStrictlySortedBy cmp (keys_of pairs)
+    pub keyed-roots : {I : Type 0} (cmp : I → I → Ordering) (x : A) (total : ℕ) (pairs : List (I × ℕ)) (weights map_of : List (ℕ × A)) (keyed : List (I × A)) (values : List A)
+        → IsStrictlySortedBy cmp (keys_of pairs)
         → Differ (values_of pairs) → total ≤ n → AreIndicesBelow total (values_of pairs) (keys_of weights) → ((i : ℕ) → first_pair nat_cmp i map_of ≡ first_pair nat_cmp i weights)
         → AllZip (λ v i. R.same v (weight_at R.zero map_of i)) values (values_of (pairs_below total pairs)) → keys_of keyed ≡ keys_of (pairs_below total pairs) → values_of keyed ≡ values
         → AreWeightsAt R.same R.zero R.sum R.product R.one x (map (power R.one R.product w) (keys_of weights)) (values_of weights)
@@ -326,8 +331,10 @@ module _ {A : Type 0} (R : RingOf A) {inverse : A → A} (E : IsEquality R.same)
         let kept_differ : Differ (values_of js) = Differ-kept total pairs d in
         let found = AllZip-places (λ v i. R.same v (weight_at R.zero map_of i)) R.zero values (values_of js) zipped in
         let here : AreWeightsAt R.same R.zero R.sum R.product R.one x (map (power R.one R.product w) (values_of js)) values =
-        weights-members E G P R.one (weight_at R.zero map_of) (power R.one R.product w) x (keys_of weights) (values_of js) (values_of weights) values differ kept_differ (index-members total pairs (keys_of weights) h)
-        (λ k l. subst (R.same (get_or (values_of weights) k R.zero)) (sym (weight-found R.zero weights map_of k differ first (omega (arith, l, length-map weights (λ p. p.0))))) (E.reflexive (get_or (values_of weights) k R.zero)))
+        weights-members E G P R.one (weight_at R.zero map_of) (power R.one R.product w) x (keys_of weights) (values_of js) (values_of weights) values differ kept_differ
+        (index-members total pairs (keys_of weights) h)
+        (λ k l. subst (R.same (get_or (values_of weights) k R.zero)) (sym (weight-found R.zero weights map_of k differ first (omega (arith, l, length-map weights (λ p. p.0)))))
+        (E.reflexive (get_or (values_of weights) k R.zero)))
         found.0 found.1 W in
         let apart : AreApart R.same (map (power R.one R.product w) (values_of js)) = points-apart (values_of js) kept_differ (λ i t. let r = has-kept total i pairs t in omega (arith, r.1)) in
         record {

@@ -11,7 +11,8 @@ module _ {A : Type 0} {same : A → A → Type 0} {zero_of : A} {sum : A → A �
     (E : IsEquality same) (G : IsGroup same zero_of sum negative) (P : IsProduct same product) (R : IsRing same sum product one)
     (F : IsField same zero_of product one inverse) where
   -- one at the first place of x, and zero elsewhere
-  pub place-weights : (x : A) (points ws : List A) (k : ℕ) → IsFirstPlace same x points k → length ws ≡ length points → IsOneAt same zero_of one k ws → AreApart same points → AreWeightsAt same zero_of sum product one x points ws
+  pub place-weights : (x : A) (points ws : List A) (k : ℕ) → IsFirstPlace same x points k → length ws ≡ length points → IsOneAt same zero_of one k ws → AreApart same points
+      → AreWeightsAt same zero_of sum product one x points ws
   place-weights x points ws k first n h d =
       let here : same (get_or points k zero_of) x = rw (get_or_default points k zero_of x first.0) first.1 in
       weights_at_place E G P R F x points ws k d first.0 here n h
@@ -31,7 +32,8 @@ module _ {A : Type 0} {same : A → A → Type 0} {zero_of : A} {sum : A → A �
         weights_by_quotients E G P R F x points ws d outside (m ∙ count)
         (λ k l. E.transitive _ _ _ (P.respects _ _ _ _ (E.reflexive (get_or ws k zero_of)) (E.symmetric _ _ (each k l)))
         (E.transitive _ _ _ (quotients nonzero k (omega (arith, l, count)))
-        (E.transitive _ _ _ whole (E.transitive _ _ _ (P.respects _ _ _ _ unit (E.reflexive (root_product sum negative product one x points))) (R.identity (root_product sum negative product one x points))))))
+        (E.transitive _ _ _ whole (E.transitive _ _ _ (P.respects _ _ _ _ unit (E.reflexive (root_product sum negative product one x points)))
+        (R.identity (root_product sum negative product one x points))))))
 
     -- zeros, where two points are same
     pub quotients-repeated : ((k : ℕ) → k < length ds → same (get_or ds k zero_of) zero_of → All (λ v. same v zero_of) ws) → SomeAreSame same points → All (λ v. same v zero_of) ws

@@ -27,7 +27,8 @@ column_of-one d n xs e =
     get_or_default (column_of d (matrix_of n 1 xs) 0) k f d l ∙ column-cell d n 1 0 k xs b (omega arith)
     ∙ ap (λ i. get_or xs i d) (let q : k * 1 + 0 ≡ k = omega arith in q) ∙ sym (get_or_default xs k f d (omega (arith, b, e))))
 
-module _ {A : Type 0} (R : RingOf A) (E : IsEquality R.same) (G : IsGroup R.same R.zero R.sum R.negative) (P : IsProduct R.same R.product) (L : IsRing R.same R.sum R.product R.one) (w : A) (n : ℕ) where
+module _ {A : Type 0} (R : RingOf A) (E : IsEquality R.same) (G : IsGroup R.same R.zero R.sum R.negative) (P : IsProduct R.same R.product) (L : IsRing R.same R.sum R.product R.one)
+    (w : A) (n : ℕ) where
   abbrev at : ℕ → A
   at i = power R.one R.product w i
 
@@ -42,19 +43,22 @@ module _ {A : Type 0} (R : RingOf A) (E : IsEquality R.same) (G : IsGroup R.same
       rw (place, column_of-one R.zero n v e) at here
 
   -- the cells times the values of v, interpolated
-  pub products-on_domain : (c : ℕ) (v values cells scaled g : List A) → length v ≡ n → AreValuesAtPowers R w (matrix_of n 1 v) (matrix_of n 1 values) → AreRowProducts R n c (λ i. get_or values i R.zero) cells scaled
+  pub products-on_domain : (c : ℕ) (v values cells scaled g : List A) → length v ≡ n → AreValuesAtPowers R w (matrix_of n 1 v) (matrix_of n 1 values)
+      → AreRowProducts R n c (λ i. get_or values i R.zero) cells scaled
       → AreValuesAtPowers R w (matrix_of n c g) (matrix_of n c scaled) → AreProductsOnDomain R w (matrix_of n c cells) v (matrix_of n c g)
   products-on_domain c v values cells scaled g e hv hm hg i k l m =
       E.transitive _ _ _ (E.symmetric _ _ (hg i k l m)) (E.transitive _ _ _ (hm i k l m) (P.respects _ _ _ _ (E.reflexive _) (values-one v values e hv i l)))
 
   -- the values, interpolated again
-  pub values-again : (v values again : List A) → length v ≡ n → length again ≡ n → AreValuesAtPowers R w (matrix_of n 1 v) (matrix_of n 1 values) → AreValuesAtPowers R w (matrix_of n 1 again) (matrix_of n 1 values)
+  pub values-again : (v values again : List A) → length v ≡ n → length again ≡ n → AreValuesAtPowers R w (matrix_of n 1 v) (matrix_of n 1 values)
+      → AreValuesAtPowers R w (matrix_of n 1 again) (matrix_of n 1 values)
       → HaveSameValuesOnDomain R w n v again
   values-again v values again e f hv ha i l = E.transitive _ _ _ (E.symmetric _ _ (values-one again values f ha i l)) (values-one v values e hv i l)
 
   -- the values of two polynomials, multiplied and interpolated
   pub values-multiplied : (left lefts right rights products all : List A) → length left ≡ n → length right ≡ n → length all ≡ n → AreValuesAtPowers R w (matrix_of n 1 left) (matrix_of n 1 lefts)
-      → AreValuesAtPowers R w (matrix_of n 1 right) (matrix_of n 1 rights) → AreRowProducts R n 1 (λ i. get_or rights i R.zero) lefts products → AreValuesAtPowers R w (matrix_of n 1 all) (matrix_of n 1 products)
+      → AreValuesAtPowers R w (matrix_of n 1 right) (matrix_of n 1 rights) → AreRowProducts R n 1 (λ i. get_or rights i R.zero) lefts products
+      → AreValuesAtPowers R w (matrix_of n 1 all) (matrix_of n 1 products)
       → (i : ℕ) → i < n → R.same (value_in_ring R all (at i)) (R.product (value_in_ring R left (at i)) (value_in_ring R right (at i)))
   values-multiplied left lefts right rights products all e f g hl hr hm ha i l =
       let place : i * 1 + 0 ≡ i = omega arith in
@@ -73,11 +77,13 @@ module _ {A : Type 0} (R : RingOf A) (E : IsEquality R.same) (G : IsGroup R.same
       (value-at E G P L (R.product ratio r) (R.product s r) (column c cells k) (P.respects _ _ _ _ h (E.reflexive r)))
 
   -- evaluated after that, the cells are the values on the coset
-  pub coset-values : (c : ℕ) (s ratio : A) (cells dilated values : List A) → R.same ratio s → AreRowProducts R n c (λ i. power R.one R.product ratio i) cells dilated → AreValuesAtPowers R w (matrix_of n c dilated) (matrix_of n c values)
+  pub coset-values : (c : ℕ) (s ratio : A) (cells dilated values : List A) → R.same ratio s → AreRowProducts R n c (λ i. power R.one R.product ratio i) cells dilated
+      → AreValuesAtPowers R w (matrix_of n c dilated) (matrix_of n c values)
       → (i k : ℕ) → i < n → k < c → R.same (get_or values (i * c + k) R.zero) (value_in_ring R (column c cells k) (R.product s (at i)))
   coset-values c s ratio cells dilated values h hd hv i k l m = E.transitive _ _ _ (hv i k l m) (value-dilated_column c s ratio cells dilated h hd k m (at i))
 
-  pub coset-values_one : (s ratio : A) (v dilated values : List A) → length v ≡ n → R.same ratio s → AreRowProducts R n 1 (λ i. power R.one R.product ratio i) v dilated → AreValuesAtPowers R w (matrix_of n 1 dilated) (matrix_of n 1 values)
+  pub coset-values_one : (s ratio : A) (v dilated values : List A) → length v ≡ n → R.same ratio s → AreRowProducts R n 1 (λ i. power R.one R.product ratio i) v dilated
+      → AreValuesAtPowers R w (matrix_of n 1 dilated) (matrix_of n 1 values)
       → (i : ℕ) → i < n → R.same (get_or values i R.zero) (value_in_ring R v (R.product s (at i)))
   coset-values_one s ratio v dilated values e h hd hv i l =
       let place : i * 1 + 0 ≡ i = omega arith in
@@ -103,8 +109,10 @@ module _ {A : Type 0} (R : RingOf A) (E : IsEquality R.same) (G : IsGroup R.same
       (hv i k l m))
 
 -- coefficients times the powers of s: the value at r is that at s r
-pub value-moved : {A : Type 0} (R : RingOf A) (E : IsEquality R.same) (G : IsGroup R.same R.zero R.sum R.negative) (P : IsProduct R.same R.product) (L : IsRing R.same R.sum R.product R.one) (s : A) (n : ℕ) (p moved back : List A)
-    → length p ≡ n → length moved ≡ length p → length back ≡ n → ((i : ℕ) → i < n → R.same (get_or back i R.zero) (power R.one R.product s i)) → AreRowProducts R (length back) 1 (λ i. get_or back i R.zero) p moved
+pub value-moved : {A : Type 0} (R : RingOf A) (E : IsEquality R.same) (G : IsGroup R.same R.zero R.sum R.negative) (P : IsProduct R.same R.product)
+    (L : IsRing R.same R.sum R.product R.one) (s : A) (n : ℕ) (p moved back : List A)
+    → length p ≡ n → length moved ≡ length p → length back ≡ n → ((i : ℕ) → i < n → R.same (get_or back i R.zero) (power R.one R.product s i))
+    → AreRowProducts R (length back) 1 (λ i. get_or back i R.zero) p moved
     → (r : A) → R.same (value_in_ring R moved r) (value_in_ring R p (R.product s r))
 value-moved R E G P L s n p moved back lp lm lb hb h r =
     value-dilated E G P L r s p moved lm

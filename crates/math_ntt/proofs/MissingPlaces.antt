@@ -36,7 +36,8 @@ module _ (start stride : ℕ) (filled : List Bool) where
       ∙ ap (λ m. map place (range_with_len 0 n) ++ (place m ∷ [])) (let e : 0 + n ≡ n = omega arith in e)
 
 -- one place more, which is b
-pub every-next : (start stride : ℕ) (filled : List Bool) (n : ℕ) (b : Bool) → slice_get filled (start + n * stride) ≡ Some b → every start stride (n + 1) filled ≡ every start stride n filled ++ (b ∷ [])
+pub every-next : (start stride : ℕ) (filled : List Bool) (n : ℕ) (b : Bool) → slice_get filled (start + n * stride) ≡ Some b
+    → every start stride (n + 1) filled ≡ every start stride n filled ++ (b ∷ [])
 every-next start stride filled n b h = every-more start stride filled n ∙ ap (λ x. every start stride n filled ++ (x ∷ [])) (get_or_from_slice_get filled (start + n * stride) b false h)
 
 get_or-even_items : (xs : List Bool) (n i : ℕ) → length xs ≡ n + n → get_or (even_items xs) i false ≡ get_or xs (i + i) false
@@ -69,7 +70,8 @@ odd_items-every start stride filled n m e =
     same_lists (odd_items (every start stride m filled)) (every (start + stride) (stride * 2) n filled) (long ∙ sym (length-every (start + stride) (stride * 2) filled n))
     (λ k d l. let inside : k < n = omega (arith, l, long) in
     at_false (odd_items (every start stride m filled)) k d l ∙ get_or-odd_items (every start stride m filled) n k whole ∙ get_or-every start stride filled m (suc (k + k)) false (omega arith)
-    ∙ ap (λ i. get_or filled i false) (let q : start + suc (k + k) * stride ≡ start + stride + k * (stride * 2) = grind arith in q) ∙ sym (get_or-every (start + stride) (stride * 2) filled n k d inside))
+    ∙ ap (λ i. get_or filled i false) (let q : start + suc (k + k) * stride ≡ start + stride + k * (stride * 2) = grind arith in q)
+    ∙ sym (get_or-every (start + stride) (stride * 2) filled n k d inside))
 
 -- all places
 pub every-whole : (filled : List Bool) (n : ℕ) → length filled ≡ n → every 0 1 n filled ≡ filled

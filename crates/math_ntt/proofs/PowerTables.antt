@@ -52,10 +52,6 @@ module _ {A : Type 0} (R : RingOf A) (E : IsEquality R.same) (G : IsGroup R.same
   abbrev C : CommutativeRing (Class E)
   C = ring_of_classes E G P L
 
-  -- one entry, which nothing reads
-  pub powers-none : (x : A) → ArePowersByLevel R root 0 (x ∷ [])
-  powers-none x = record { count = refl; powers = λ l i a b. absurd (omega arith) }
-
   pub powers-first : (x y : A) → R.same y R.one → ArePowersByLevel R root 1 (x ∷ y ∷ [])
   powers-first x y h = record {
     count = refl;

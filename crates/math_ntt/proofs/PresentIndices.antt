@@ -64,10 +64,6 @@ true_at-skip total i xs filled b h j = (
   ],
 )
 
--- at first none is true
-pub true_at-none : (total : ℕ) (filled : List Bool) → ((i : ℕ) → get_or filled i false ≡ false) → AreTrueAt total [] filled
-true_at-none total filled h j = (λ z. absurd (true≢false (sym z ∙ h j)), λ z. let k : (k : ℕ) × (k < 0) × (get_or [] k j ≡ j) = z.0 in absurd (omega (arith, k.1)))
-
 -- the lg of a number rounded up to a power of two
 pub lg-rounded_up : (n r : ℕ) → 0 < n → n - 1 < 2 ^ r → 2 ^ r ≤ 2 * (n - 1) + 1 → IsNextPowerOfTwo n (2 ^ r)
 lg-rounded_up n r p a b = ((r, refl), omega arith, omega arith)
@@ -102,7 +98,8 @@ places-true out new filled i l t h e = e ∙ ap (λ xs. xs ++ (i ∷ [])) h ∙ 
 pub places-false : (out : List ℕ) (filled : List Bool) (i : ℕ) → i < length filled → get_or filled i false ≡ false → out ≡ filled_items (range_with_len 0 i) (take i filled)
     → out ≡ filled_items (range_with_len 0 (i + 1)) (take (i + 1) filled)
 places-false out filled i l t h =
-    h ∙ sym (append-nil (filled_items (range_with_len 0 i) (take i filled))) ∙ sym (places-next filled i l ∙ ap (λ b. filled_items (range_with_len 0 i) (take i filled) ++ filled_items (i ∷ []) (b ∷ [])) t)
+    h ∙ sym (append-nil (filled_items (range_with_len 0 i) (take i filled)))
+    ∙ sym (places-next filled i l ∙ ap (λ b. filled_items (range_with_len 0 i) (take i filled) ++ filled_items (i ∷ []) (b ∷ [])) t)
 
 -- all places are looked at
 pub places-all : (out : List ℕ) (filled : List Bool) (i : ℕ) → i ≡ length filled → out ≡ filled_items (range_with_len 0 i) (take i filled) → out ≡ filled_places filled
@@ -136,7 +133,9 @@ length-places filled = length-filled_items (range_with_len 0 (length filled)) fi
 
 pub place-number : (filled : List Bool) (k : ℕ) → k < count_true filled → get_or (filled_places filled) k 0 ≡ filled_place filled k
 place-number filled k l =
-    filled_items-place (range_with_len 0 (length filled)) filled k 0 (sym (length-range_with_len 0 (length filled))) l ∙ get_or-range_with_len 0 (length filled) (filled_place filled k) 0 (filled_place-true filled k l).0 ∙ (let e : 0 + filled_place filled k ≡ filled_place filled k = omega arith in e)
+    filled_items-place (range_with_len 0 (length filled)) filled k 0 (sym (length-range_with_len 0 (length filled))) l
+    ∙ get_or-range_with_len 0 (length filled) (filled_place filled k) 0 (filled_place-true filled k l).0
+    ∙ (let e : 0 + filled_place filled k ≡ filled_place filled k = omega arith in e)
 
 pub places-below : (filled : List Bool) → All (λ place. place < length filled) (filled_places filled)
 places-below filled k d l =

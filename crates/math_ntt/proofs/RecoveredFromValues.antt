@@ -13,7 +13,8 @@ use Rattle.math_ntt.proofs.DomainSteps.{column-cell}
 use Rattle.math_ntt.proofs.MatrixRows.{length-column}
 use Rattle.math_ntt.proofs.MissingPlaces.{count_true-all}
 
-module _ {A : Type 0} (R : RingOf A) {inverse half : A → A} (E : IsEquality R.same) (G : IsGroup R.same R.zero R.sum R.negative) (P : IsProduct R.same R.product) (L : IsRing R.same R.sum R.product R.one)
+module _ {A : Type 0} (R : RingOf A) {inverse half : A → A} (E : IsEquality R.same) (G : IsGroup R.same R.zero R.sum R.negative) (P : IsProduct R.same R.product)
+    (L : IsRing R.same R.sum R.product R.one)
     (F : IsField R.same R.zero R.product R.one inverse) (root : ℕ → A) (shift : A) (greatest : ℕ) (roots : HasRootsOfUnity R.same R.zero R.sum R.product R.one greatest root shift half) where
   pub recovers-from_some : RecoversFromSome R root greatest
   recovers-from_some lg h m v e values zeros recovered k b =

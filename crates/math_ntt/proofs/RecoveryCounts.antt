@@ -23,9 +23,6 @@ within-transforms b p n u v w h k = record {
   no_more_products = omega (arith, h.no_more_products, k.root_products);
 }
 
-pub within-none : (b p : ℕ) (u : WorkOf) → AddsWithin b p u u
-within-none b p u = record { no_fewer = omega arith; no_more = omega arith; no_fewer_products = omega arith; no_more_products = omega arith }
-
 merges-by : (k p : ℕ) → 2 * p * (k + 2) * (3 * k + 5) ≡ p * (k + 1) * (3 * k + 2) + p * (k + 1) * (3 * k + 2) + 3 * (2 * p) * (k + 2) + 2 * p * (3 * k + 2)
 merges-by k p = omega arith
 

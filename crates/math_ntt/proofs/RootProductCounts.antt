@@ -35,7 +35,8 @@ within-points y start v n l h k =
 pub none-missing : (x v : ℕ) → v ≡ 0 → 2 * x ≡ 2 * x + v * (v + 1)
 none-missing x v e = rw e (omega arith)
 
-pub chunk-bounded : (u v : WorkOf) (m n : ℕ) → m < n → n ≤ 256 → v.butterflies ≡ u.butterflies → u.root_products ≤ v.root_products → 2 * v.root_products ≤ 2 * u.root_products + m * (m + 1) → AddsWithin 0 (128 * n) u v
+pub chunk-bounded : (u v : WorkOf) (m n : ℕ) → m < n → n ≤ 256 → v.butterflies ≡ u.butterflies → u.root_products ≤ v.root_products
+    → 2 * v.root_products ≤ 2 * u.root_products + m * (m + 1) → AddsWithin 0 (128 * n) u v
 chunk-bounded u v m n l h b f k = record {
   no_fewer = omega (arith, b);
   no_more = omega (arith, b);

@@ -45,8 +45,10 @@ pub fn one_at<R: Ring>(alloc: Global, k: usize, n: usize) -> Mem<Vec<R>>
 pub fn quotients<F: Field>(alloc: Global, numerator: F, divisors: &[F]) -> Mem<Vec<F>>
     ensures count { IfOk result (λ v. length v.items ≡ length divisors.now) }
     ensures each { IfOk result (λ v. All (λ d. ¬ (F.same d F.zero)) divisors.now
-        → (k : ℕ) → k < length divisors.now → F.same (F.product (slice_index_or v.items k F.zero) (slice_index_or divisors.now k F.zero)) numerator) }
-    ensures zeros { IfOk result (λ v. (k : ℕ) → k < length divisors.now → F.same (slice_index_or divisors.now k F.zero) F.zero → All (λ w. F.same w F.zero) v.items) }
+        → (k : ℕ) → k < length divisors.now
+        → F.same (F.product (slice_index_or v.items k F.zero) (slice_index_or divisors.now k F.zero)) numerator) }
+    ensures zeros { IfOk result (λ v. (k : ℕ) → k < length divisors.now
+        → F.same (slice_index_or divisors.now k F.zero) F.zero → All (λ w. F.same w F.zero) v.items) }
 {
     let (mut out, whole) = products_before(alloc, divisors)?;
     let mut factor = whole.inv(alloc)?;
@@ -58,7 +60,8 @@ pub fn quotients<F: Field>(alloc: Global, numerator: F, divisors: &[F]) -> Mem<V
 /// For each place the product of the factors before it, and then the product of all.
 fn products_before<R: Ring>(alloc: Global, factors: &[R]) -> Mem<(Vec<R>, R)>
     ensures count { IfOk result (λ answer. length answer.0.items ≡ length factors.now) }
-    ensures before { IfOk result (λ answer. (k : ℕ) → k < length factors.now → R.same (slice_index_or answer.0.items k R.zero) (total R.one R.product (take k factors.now))) }
+    ensures before { IfOk result (λ answer. (k : ℕ) → k < length factors.now
+        → R.same (slice_index_or answer.0.items k R.zero) (total R.one R.product (take k factors.now))) }
     ensures all { IfOk result (λ answer. R.same answer.1 (total R.one R.product factors.now)) }
 {
     let mut out = Vec::with_capacity(alloc, factors.len())?;
@@ -75,7 +78,8 @@ fn products_before<R: Ring>(alloc: Global, factors: &[R]) -> Mem<(Vec<R>, R)>
 fn times_after<R: Ring>(alloc: Global, items: &mut [R], start: R, factors: &[R]) -> Mem<()>
     requires { length items.old ≡ length factors.now }
     ensures { OnOk result ((k : ℕ) → k < length factors.now
-        → R.same (slice_index_or items.new k R.zero) (R.product (slice_index_or items.old k R.zero) (R.product start (total R.one R.product (drop (suc k) factors.now))))) }
+        → R.same (slice_index_or items.new k R.zero) (R.product (slice_index_or items.old k R.zero)
+        (R.product start (total R.one R.product (drop (suc k) factors.now))))) }
 {
     let mut after = start;
     for i in (0..items.len()).rev() {

@@ -48,7 +48,8 @@ where
     P::IntoIter: Drop,
     requires finite { IsFiniteIterable P.into_iter_gives P.IntoIter.can_next P.IntoIter.remaining indices }
     requires domain { HasDomainOf F.MAX_LG_ROOT_ORDER total.value }
-    ensures indices { IfOk result (λ weights. (it : P.IntoIter) × (xs : List ℕ) × P.into_iter_gives indices it × Drains P.IntoIter.next_gives it xs
+    ensures indices { IfOk result (λ weights. (it : P.IntoIter) × (xs : List ℕ)
+        × P.into_iter_gives indices it × Drains P.IntoIter.next_gives it xs
         × AreIndicesBelow total.value xs (keys_of weights.items)) }
     ensures weights { IfOk result (λ weights. AreRootWeightsAt F.Ring F.root total.value F.zero weights.items) }
 {
@@ -75,7 +76,8 @@ where
     P::IntoIter: Drop,
     requires finite { IsFiniteIterable P.into_iter_gives P.IntoIter.can_next P.IntoIter.remaining indices }
     requires domain { HasDomainOf F.MAX_LG_ROOT_ORDER total.value }
-    ensures indices { IfOk result (λ weights. (it : P.IntoIter) × (xs : List ℕ) × P.into_iter_gives indices it × Drains P.IntoIter.next_gives it xs
+    ensures indices { IfOk result (λ weights. (it : P.IntoIter) × (xs : List ℕ)
+        × P.into_iter_gives indices it × Drains P.IntoIter.next_gives it xs
         × AreIndicesBelow total.value xs (keys_of weights.items)) }
     ensures weights { IfOk result (λ weights. AreRootWeightsAt F.Ring F.root total.value x.now weights.items) }
 {

@@ -53,7 +53,8 @@ impl<F: Additive> Matrix<F> {
         requires iterable { IsIterable P.into_iter_gives P.IntoIter.can_next «data» }
         ensures size { IfOk result (λ m. IsOfSize m rows cols) }
         ensures cells { IfOk result (λ m. ItemsMeet P.into_iter_gives
-            (GivesAtMost P.IntoIter.next_gives (rows * cols)) «data» (λ items. AreFilledUp F.same F.zero items m.cells)) }
+            (GivesAtMost P.IntoIter.next_gives (rows * cols)) «data»
+            (λ items. AreFilledUp F.same F.zero items m.cells)) }
     {
         let count = rows * cols;
         let mut cells = Vec::new(alloc);

@@ -35,9 +35,11 @@ module _ {A : Type 0} {same : A → A → Type 0} {zero_of : A} {sum : A → A �
   pub missing_product-filled : (r w y : A) (filled : List Bool) → same y (missing r w filled) → same y (missing r w (filled ++ (true ∷ [])))
   missing_product-filled r w y filled h =
       E.transitive _ _ _ h (same_class E _ _ (sym (missing_product-class E G P R r w filled)
-      ∙ sym (missing_product-push C (class E r) (class E w) filled true ∙ product-one_right C (DomainsOverRing.missing_product C (class E r) (class E w) filled)) ∙ missing_product-class E G P R r w (filled ++ (true ∷ []))))
+      ∙ sym (missing_product-push C (class E r) (class E w) filled true ∙ product-one_right C (DomainsOverRing.missing_product C (class E r) (class E w) filled))
+      ∙ missing_product-class E G P R r w (filled ++ (true ∷ []))))
 
-  pub missing_product-more : (r w p x y : A) (filled : List Bool) (n : ℕ) → length filled ≡ n → same p (power one product w n) → same x (product y (sum r (negative p))) → same y (missing r w filled) → same x (missing r w (filled ++ (false ∷ [])))
+  pub missing_product-more : (r w p x y : A) (filled : List Bool) (n : ℕ) → length filled ≡ n → same p (power one product w n) → same x (product y (sum r (negative p)))
+      → same y (missing r w filled) → same x (missing r w (filled ++ (false ∷ [])))
   missing_product-more r w p x y filled n e hp hx hy =
       E.transitive _ _ _ hx (same_class E _ _
       (ap₂ C.product (class_same E _ _ hy ∙ sym (missing_product-class E G P R r w filled))
@@ -46,7 +48,8 @@ module _ {A : Type 0} {same : A → A → Type 0} {zero_of : A} {sum : A → A �
 
   missing_product-at : (r w w' : A) (filled : List Bool) → same w w' → same (missing r w filled) (missing r w' filled)
   missing_product-at r w w' filled h =
-      same_class E _ _ (sym (missing_product-class E G P R r w filled) ∙ ap (λ x. DomainsOverRing.missing_product C (class E r) x filled) (class_same E w w' h) ∙ missing_product-class E G P R r w' filled)
+      same_class E _ _ (sym (missing_product-class E G P R r w filled) ∙ ap (λ x. DomainsOverRing.missing_product C (class E r) x filled) (class_same E w w' h)
+      ∙ missing_product-class E G P R r w' filled)
 
   abbrev Vanishes : A → List Bool → (A → A) → Type 0
   Vanishes w filled v = VanishesAt same zero_of sum negative product one (missing_points one product w filled) v
@@ -68,7 +71,8 @@ module _ {A : Type 0} {same : A → A → Type 0} {zero_of : A} {sum : A → A �
 
   module _ {inverse : A → A} (F : IsField same zero_of product one inverse) where
     both_nonzero : (a b : A) → ¬ (same a zero_of) → ¬ (same b zero_of) → ¬ (same (product a b) zero_of)
-    both_nonzero a b h k z = product-nonzero (field_of_classes E G P R F) (class E a) (class E b) (λ e. h (same_class E a zero_of e)) (λ e. k (same_class E b zero_of e)) (class_same E (product a b) zero_of z)
+    both_nonzero a b h k z = product-nonzero (field_of_classes E G P R F) (class E a) (class E b) (λ e. h (same_class E a zero_of e)) (λ e. k (same_class E b zero_of e))
+        (class_same E (product a b) zero_of z)
 
     -- where no point is missing
     pub VanishesAt-none : (w : A) (n : ℕ) (filled : List Bool) → filled ≡ replicate n true → Vanishes w filled (λ r. one)
@@ -80,12 +84,14 @@ module _ {A : Type 0} {same : A → A → Type 0} {zero_of : A} {sum : A → A �
     }
 
     -- where all are
-    pub VanishesAt-all : (w : A) (lg : ℕ) (filled : List Bool) → filled ≡ replicate (2 ^ lg) false → HasExactOrder same one product w (2 ^ lg) → Vanishes w filled (λ r. sum (power one product r (2 ^ lg)) (negative one))
+    pub VanishesAt-all : (w : A) (lg : ℕ) (filled : List Bool) → filled ≡ replicate (2 ^ lg) false → HasExactOrder same one product w (2 ^ lg)
+        → Vanishes w filled (λ r. sum (power one product r (2 ^ lg)) (negative one))
     VanishesAt-all w lg filled e o = record {
       factor = one;
       factor_is_not_zero = F.distinct;
       gives = λ r. rw e (same_class E _ _
-          (sym (class_same E _ _ (root_product-powers-same E G P R lg r w (IsPrincipalRoot-of_order-same E G P R F lg w o))) ∙ sym (C.product_one (class E (root_product sum negative product one r (powers one product w (2 ^ lg)))))
+          (sym (class_same E _ _ (root_product-powers-same E G P R lg r w (IsPrincipalRoot-of_order-same E G P R F lg w o)))
+          ∙ sym (C.product_one (class E (root_product sum negative product one r (powers one product w (2 ^ lg)))))
           ∙ ap (C.product C.one) (all_points r)));
     }
       where

@@ -54,7 +54,8 @@ module _ {A : Type 0} {same : A → A → Type 0} {zero_of : A} {sum : A → A �
   powers_apart-same w n o i j d l m e =
       let b : j < n = omega (arith, m, long) in
       power-apart C (class E w) n i j (HasExactOrder-classes w n o) l b
-      (power-class E G P R w i ∙ class_same E _ _ (subst (λ x. same x (power one product w j)) (at i (omega arith)) (subst (λ y. same (get_or (powers one product w n) i d) y) (at j b) e)) ∙ sym (power-class E G P R w j))
+      (power-class E G P R w i ∙ class_same E _ _
+      (subst (λ x. same x (power one product w j)) (at i (omega arith)) (subst (λ y. same (get_or (powers one product w n) i d) y) (at j b) e)) ∙ sym (power-class E G P R w j))
     where
       long : length (powers one product w n) ≡ n
       long = length-map-range_with_len (power one product w) 0 n

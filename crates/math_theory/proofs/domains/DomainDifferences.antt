@@ -30,7 +30,8 @@ module _ {A : Type 0} (R : CommutativeRing A) where
   removed-negatives_left : (xs : List A) (k : ℕ) (q : A) → k < length xs → get_or xs k R.zero ≡ q
       → product (root_product R q (remove xs k)) (root_product R q (map negative xs)) ≡ product (sum q q) (root_product R (product q q) (remove (map square xs) k))
   removed-negatives_left xs k q l e =
-      combine2 R (q ∷ root_product R q (remove xs k) ∷ root_product R q (map negative xs) ∷ root_product R q (map negative (remove xs k)) ∷ root_product R (product q q) (remove (map square xs) k) ∷ [])
+      combine2 R (q ∷ root_product R q (remove xs k) ∷ root_product R q (map negative xs) ∷ root_product R q (map negative (remove xs k)) ∷ root_product R (product q q)
+      (remove (map square xs) k) ∷ [])
       (v1 ⊗ v2) ((v0 ⊕ v0) ⊗ v4)
       v1 v2 ((v0 ⊖ minus v0) ⊗ v3)
       (v0 ⊕ v0) (v1 ⊗ v3) v4

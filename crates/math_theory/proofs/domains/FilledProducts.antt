@@ -23,7 +23,8 @@ filled_place-true (false ∷ filled) k l = let r = filled_place-true filled k (o
 
 -- the places rise
 pub filled_place-rise : (filled : List Bool) (k : ℕ) → k + 1 < count_true filled → filled_place filled k < filled_place filled (k + 1)
-filled_place-rise filled k l = let next : filled_place filled (k + 1) ≡ filled_place filled (suc k) = ap (filled_place filled) (let e : k + 1 ≡ suc k = omega arith in e) in omega (arith, next, rise filled k (omega arith))
+filled_place-rise filled k l = let next : filled_place filled (k + 1) ≡ filled_place filled (suc k) =
+    ap (filled_place filled) (let e : k + 1 ≡ suc k = omega arith in e) in omega (arith, next, rise filled k (omega arith))
   where
     rise : (filled : List Bool) (k : ℕ) → suc k < count_true filled → filled_place filled k < filled_place filled (suc k)
     rise [] k l = absurd (omega arith)
@@ -39,7 +40,8 @@ filled_place-found (false ∷ filled) zero l e = absurd (true≢false (sym e))
 filled_place-found (true ∷ filled) (suc m) l e = let r = filled_place-found filled m (omega arith) e in (suc r.0, omega (arith, count_true-true filled, r.1), ap suc r.2)
 filled_place-found (false ∷ filled) (suc m) l e = let r = filled_place-found filled m (omega arith) e in (r.0, omega (arith, count_true-false filled, r.1), ap suc r.2)
 
-pub filled_items-place : {A : Type 0} (xs : List A) (filled : List Bool) (k : ℕ) (d : A) → length filled ≡ length xs → k < count_true filled → get_or (filled_items xs filled) k d ≡ get_or xs (filled_place filled k) d
+pub filled_items-place : {A : Type 0} (xs : List A) (filled : List Bool) (k : ℕ) (d : A) → length filled ≡ length xs → k < count_true filled
+    → get_or (filled_items xs filled) k d ≡ get_or xs (filled_place filled k) d
 filled_items-place [] [] k d h l = absurd (omega arith)
 filled_items-place [] (b ∷ filled) k d h l = absurd (omega (arith, h))
 filled_items-place (x ∷ xs) [] k d h l = absurd (omega (arith, h))

@@ -80,5 +80,6 @@ module _ {A : Type 0} {same : A → A → Type 0} {zero_of : A} {sum : A → A �
         same_class E _ _ (ap₂ C.product (sym (power-class E G P R w n)) (sym (power-class E G P R (inverse w) n))
         ∙ sym (power-product C (class E w) (class E (inverse w)) n) ∙ ap (λ x. OverRing.power C x n) (class_same E _ _ (root-inverse w (2 ^ suc lg) order)) ∙ power-of_one C n) in
         E.transitive _ _ _
-        (same_class E _ _ (sym (power-class E G P R (product (inverse w) r) n) ∙ power-product C (class E (inverse w)) (class E r) n ∙ ap₂ C.product (power-class E G P R (inverse w) n) (power-class E G P R r n)))
+        (same_class E _ _ (sym (power-class E G P R (product (inverse w) r) n) ∙ power-product C (class E (inverse w)) (class E r) n
+        ∙ ap₂ C.product (power-class E G P R (inverse w) n) (power-class E G P R r n)))
         (combine2_same E G P R (pow w n ∷ pow (inverse w) n ∷ pow r n ∷ []) (v1 ⊗ v2) (minus v2) (minus v2) (v0 ⊗ v1) 𝟙 (v1 ⊗ v2) v0 (minus 𝟙) back half_turn refl)

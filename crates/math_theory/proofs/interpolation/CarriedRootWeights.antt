@@ -52,7 +52,8 @@ module _ {A : Type 0} {same : A → A → Type 0} {zero_of : A} {sum : A → A �
   present-items = sym (filled_items-map (power one product w) (range_with_len 0 (length filled)) filled)
 
   present-class : filled_points C.ring lg (class E w) filled h principal ≡ map (class E) present
-  present-class = ap (λ xs. filled_items xs filled) (powers-class E G P R w (length filled)) ∙ filled_items-map (class E) (powers one product w (length filled)) filled ∙ ap (map (class E)) (sym present-items)
+  present-class = ap (λ xs. filled_items xs filled) (powers-class E G P R w (length filled)) ∙ filled_items-map (class E) (powers one product w (length filled)) filled
+      ∙ ap (map (class E)) (sym present-items)
 
   pub length-present : length present ≡ count_true filled
   length-present =
@@ -102,7 +103,8 @@ module _ {A : Type 0} {same : A → A → Type 0} {zero_of : A} {sum : A → A �
   others : (k : ℕ) → k < count_true filled → C.product (C.product (class E (over (point k) (remove present k))) (class E (missing (point k) filled))) (class E (point k)) ≡ class E count
   others k l =
       sym (ap (λ y. C.product y (class E (point k))) (ap₂ C.product (others-class k) (missing_product-class E G P R (point k) w filled)))
-      ∙ subst (λ p. C.product (C.product (OverRing.root_product C.ring p (remove (filled_points C.ring lg (class E w) filled h principal) k)) (DomainsOverRing.missing_product C.ring p (class E w) filled)) p ≡ size C.ring lg)
+      ∙ subst (λ p. C.product (C.product (OverRing.root_product C.ring p (remove (filled_points C.ring lg (class E w) filled h principal) k))
+      (DomainsOverRing.missing_product C.ring p (class E w) filled)) p ≡ size C.ring lg)
       (power-class E G P R w (filled_place filled k)) (others_product-times_missing C.ring lg (class E w) filled h principal k l)
       ∙ power-class E G P R (sum one one) lg
 
@@ -111,7 +113,8 @@ module _ {A : Type 0} {same : A → A → Type 0} {zero_of : A} {sum : A → A �
 
   -- what gives the product of all differences of x, times the divisor of its place, is the weight
   weights_by_places : (x : A) (ws : List A) → All (λ p. ¬ (same p x)) present → length ws ≡ count_true filled
-      → ((k : ℕ) → k < count_true filled → C.product (class E (get_or ws k zero_of)) (C.product (C.sum (class E x) (C.negative (class E (point k)))) (class E (over (point k) (remove present k)))) ≡ class E (over x present))
+      → ((k : ℕ) → k < count_true filled → C.product (class E (get_or ws k zero_of))
+      (C.product (C.sum (class E x) (C.negative (class E (point k)))) (class E (over (point k) (remove present k)))) ≡ class E (over x present))
       → AreWeightsAt same zero_of sum product one x present ws
   weights_by_places x ws outside n each =
       weights_by_quotients E G P R F x present ws present-apart outside (n ∙ sym length-present)
@@ -140,7 +143,8 @@ module _ {A : Type 0} {same : A → A → Type 0} {zero_of : A} {sum : A → A �
           let apart : class E x ≢ class E (point k) = λ z. outside i (filled_place-true filled k l).0 (E.symmetric _ _ (same_class E _ _ z)) in
           product-nonzero C (C.product (class E vx) (class E count)) (C.sum (class E x) (C.negative (class E (point k))))
           (product-nonzero C (class E vx) (class E count) value-nonzero count-nonzero) (difference-nonzero C (class E x) (class E (point k)) apart)
-          (sym (ap₂ (λ m y. C.product (C.product (class E vx) m) (C.sum (class E x) (C.negative y))) (class_same E n count hn) (class_same E p (point k) hp)) ∙ sym (class_same E d _ hd) ∙ class_same E d zero_of e)
+          (sym (ap₂ (λ m y. C.product (C.product (class E vx) m) (C.sum (class E x) (C.negative y))) (class_same E n count hn) (class_same E p (point k) hp)) ∙ sym (class_same E d _ hd)
+          ∙ class_same E d zero_of e)
 
       -- the quotients of x ^ N - 1 and the divisors, times the points and the values there
       pub weights_outside : (n numerator : A) (points ds qs vs ws : List A) → same n count → same numerator (sum (power one product x (2 ^ lg)) (negative one)) → length ws ≡ count_true filled
@@ -164,7 +168,8 @@ module _ {A : Type 0} {same : A → A → Type 0} {zero_of : A} {sum : A → A �
           let weight-is : c (get_or ws k zero_of) ≡ C.product (C.product q p) v = class_same E _ _ (hw k l) ∙ ap₂ (λ y z. C.product (C.product q y) z) point-is (class_same E _ _ (hv k l)) in
           let quotient-is : C.product q (C.product (C.product (c vx) (c count)) d) ≡ c (sum (power one product x (2 ^ lg)) (negative one)) =
           ap (C.product q) (sym divisor-is) ∙ class_same E _ _ (hq k l) ∙ class_same E _ _ hx in
-          outside-equation C (c (get_or ws k zero_of)) (c vx) (c count) d p v (c V.factor) (c (over x present)) (c (missing x filled)) (c (missing (point k) filled)) (c (over (point k) (remove present k)))
+          outside-equation C (c (get_or ws k zero_of)) (c vx) (c count) d p v (c V.factor) (c (over x present)) (c (missing x filled)) (c (missing (point k) filled))
+          (c (over (point k) (remove present k)))
           (c (sum (power one product x (2 ^ lg)) (negative one)))
           (class_same E _ _ at_x) (value-at_place k l) (product-nonzero C (c vx) (c count) value-nonzero count-nonzero) (parted x) (others k l)
           (ap (λ y. C.product y (C.product (C.product (c vx) (c count)) d)) weight-is
@@ -184,7 +189,8 @@ module _ {A : Type 0} {same : A → A → Type 0} {zero_of : A} {sum : A → A �
         point-nonzero C (c w) (2 ^ lg) i order.power_is_one (omega arith) (power-class E G P R w i ∙ class_same E _ _ d ∙ x0) in
         let at_x : same at_zero (product V.factor (missing x filled)) =
         same_class E _ _ (class_same E _ _ V.value_at_zero
-        ∙ ap (C.product (c V.factor)) (sym (missing_product-class E G P R zero_of w filled) ∙ ap (λ r. DomainsOverRing.missing_product C.ring r (c w) filled) (sym x0) ∙ missing_product-class E G P R x w filled)) in
+        ∙ ap (C.product (c V.factor)) (sym (missing_product-class E G P R zero_of w filled) ∙ ap (λ r. DomainsOverRing.missing_product C.ring r (c w) filled) (sym x0)
+        ∙ missing_product-class E G P R x w filled)) in
         let xn = c (sum (power one product x (2 ^ lg)) (negative one)) in
         let xn-is : xn ≡ C.sum C.zero (C.negative C.one) =
         ap (λ y. C.sum y (C.negative C.one)) (sym (power-class E G P R x (2 ^ lg)) ∙ ap (λ y. OverRing.power C.ring y (2 ^ lg)) x0 ∙ power-of_zero C.ring (2 ^ lg) order.positive) in
@@ -214,8 +220,10 @@ module _ {A : Type 0} {same : A → A → Type 0} {zero_of : A} {sum : A → A �
         let c = class E in
         same_class E _ _ (class_same E vx _ e ∙ sym (value-class E G P R x v)
         ∙ value-of_missing C (c x) (c w) (c V.factor) filled (map c v) (subst (DomainsOverRing.HasExactOrder C.ring (c w)) (sym h) order) some (omega (arith, short, length-classes E v))
-        (λ i l. ap (λ r. OverRing.value C.ring r (map c v)) (power-class E G P R w i) ∙ value-class E G P R (power one product w i) v ∙ class_same E _ _ (each i l) ∙ class_same E _ _ (V.value_at_power i l)
-        ∙ ap (C.product (c V.factor)) (sym (missing_product-class E G P R (power one product w i) w filled) ∙ ap (λ r. DomainsOverRing.missing_product C.ring r (c w) filled) (sym (power-class E G P R w i))))
+        (λ i l. ap (λ r. OverRing.value C.ring r (map c v)) (power-class E G P R w i) ∙ value-class E G P R (power one product w i) v ∙ class_same E _ _ (each i l)
+        ∙ class_same E _ _ (V.value_at_power i l)
+        ∙ ap (C.product (c V.factor)) (sym (missing_product-class E G P R (power one product w i) w filled)
+        ∙ ap (λ r. DomainsOverRing.missing_product C.ring r (c w) filled) (sym (power-class E G P R w i))))
         ∙ ap (C.product (c V.factor)) (missing_product-class E G P R x w filled))
 
   module _ (m : ℕ) (b : m < length filled) (e : get_or filled m false ≡ false) where
@@ -228,16 +236,19 @@ module _ {A : Type 0} {same : A → A → Type 0} {zero_of : A} {sum : A → A �
     at_missing : C.product (C.product (class E (over y present)) (class E (missing y more))) (class E y) ≡ class E count
     at_missing =
         sym (ap (λ z. C.product z (class E y)) (ap₂ C.product (over-class y) (missing_product-class E G P R y w more)))
-        ∙ subst (λ p. C.product (C.product (OverRing.root_product C.ring p (filled_points C.ring lg (class E w) filled h principal)) (DomainsOverRing.missing_product C.ring p (class E w) more)) p ≡ size C.ring lg)
+        ∙ subst (λ p. C.product (C.product (OverRing.root_product C.ring p (filled_points C.ring lg (class E w) filled h principal))
+        (DomainsOverRing.missing_product C.ring p (class E w) more)) p ≡ size C.ring lg)
         (power-class E G P R w m) (filled_product-at_missing C.ring lg (class E w) filled h principal m b e)
         ∙ power-class E G P R (sum one one) lg
 
     others-and_missing : (k : ℕ) → k < count_true filled
-        → C.product (C.product (class E (over (point k) (remove present k))) (C.product (C.sum (class E (point k)) (C.negative (class E y))) (class E (missing (point k) more)))) (class E (point k)) ≡ class E count
+        → C.product (C.product (class E (over (point k) (remove present k))) (C.product (C.sum (class E (point k)) (C.negative (class E y))) (class E (missing (point k) more))))
+        (class E (point k)) ≡ class E count
     others-and_missing k l =
         sym (ap (λ z. C.product z (class E (point k)))
         (ap₂ C.product (others-class k) (ap₂ (λ q z. C.product (C.sum (class E (point k)) (C.negative q)) z) (power-class E G P R w m) (missing_product-class E G P R (point k) w more))))
-        ∙ subst (λ p. C.product (C.product (OverRing.root_product C.ring p (remove (filled_points C.ring lg (class E w) filled h principal) k)) (C.product (C.sum p (C.negative (OverRing.power C.ring (class E w) m))) (DomainsOverRing.missing_product C.ring p (class E w) more))) p ≡ size C.ring lg)
+        ∙ subst (λ p. C.product (C.product (OverRing.root_product C.ring p (remove (filled_points C.ring lg (class E w) filled h principal) k))
+        (C.product (C.sum p (C.negative (OverRing.power C.ring (class E w) m))) (DomainsOverRing.missing_product C.ring p (class E w) more))) p ≡ size C.ring lg)
         (power-class E G P R w (filled_place filled k)) (others_product-and_missing C.ring lg (class E w) filled h principal m b e k l)
         ∙ power-class E G P R (sum one one) lg
 

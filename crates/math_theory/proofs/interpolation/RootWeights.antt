@@ -49,7 +49,8 @@ module _ {A : Type 0} (R : CommutativeRing A) (lg : ℕ) (w : A) (filled : List 
   pub others_product-times_missing : (k : ℕ) → k < count_true filled
       → product (product (root_product R (filled_point k) (remove filled_points k)) (missing_product R (filled_point k) w filled)) (filled_point k) ≡ size R lg
   others_product-times_missing k l =
-      ap (λ z. product z (filled_point k)) (sym (root_product-without_filled R (filled_point k) (powers R w (length filled)) filled k long l)) ∙ removed (filled_place filled k) (filled_place-true filled k l).0
+      ap (λ z. product z (filled_point k)) (sym (root_product-without_filled R (filled_point k) (powers R w (length filled)) filled k long l))
+      ∙ removed (filled_place filled k) (filled_place-true filled k l).0
 
   module _ (m : ℕ) (b : m < length filled) (e : get_or filled m false ≡ false) where
     more : (r : A) → missing_product R r w (set filled m true) ≡ root_product R r (missing_items (powers R w (length filled)) (set filled m true))
@@ -59,12 +60,14 @@ module _ {A : Type 0} (R : CommutativeRing A) (lg : ℕ) (w : A) (filled : List 
     pub filled_product-at_missing : product (product (root_product R (power R w m) filled_points) (missing_product R (power R w m) w (set filled m true))) (power R w m) ≡ size R lg
     filled_product-at_missing =
         ap (λ z. product z (power R w m))
-        (ap (product (root_product R (power R w m) filled_points)) (more (power R w m)) ∙ sym (root_product-without_missing R (power R w m) (powers R w (length filled)) filled m long (omega (arith, long)) e))
+        (ap (product (root_product R (power R w m) filled_points)) (more (power R w m))
+        ∙ sym (root_product-without_missing R (power R w m) (powers R w (length filled)) filled m long (omega (arith, long)) e))
         ∙ removed m b
 
     -- at a point at a true place, without it, where a missing point counts as filled
     pub others_product-and_missing : (k : ℕ) → k < count_true filled
-        → product (product (root_product R (filled_point k) (remove filled_points k)) (product (sum (filled_point k) (negative (power R w m))) (missing_product R (filled_point k) w (set filled m true)))) (filled_point k)
+        → product (product (root_product R (filled_point k) (remove filled_points k))
+        (product (sum (filled_point k) (negative (power R w m))) (missing_product R (filled_point k) w (set filled m true)))) (filled_point k)
         ≡ size R lg
     others_product-and_missing k l =
         ap (λ z. product (product (root_product R (filled_point k) (remove filled_points k)) z) (filled_point k))

@@ -40,7 +40,8 @@ module _ {A : Type 0} {same : A → A → Type 0} {zero_of : A} {sum : A → A �
       (E.transitive _ _ _ (P.associative start (all (drop i fs)) f) (P.respects _ _ _ _ (E.reflexive start) (P.commutative (all (drop i fs)) f)))))
 
   -- one item more is multiplied
-  pub done-next : (start after item new : A) (initial items fs : List A) (i : ℕ) → 0 < i → i ≤ length items → same after (product start (all (drop i fs))) → same new (product (get_or items (i - 1) item) after)
+  pub done-next : (start after item new : A) (initial items fs : List A) (i : ℕ) → 0 < i → i ≤ length items → same after (product start (all (drop i fs)))
+      → same new (product (get_or items (i - 1) item) after)
       → ((k : ℕ) → k < i → get_or items k zero_of ≡ get_or initial k zero_of)
       → ((k : ℕ) → i ≤ k → k < length fs → same (get_or items k zero_of) (product (get_or initial k zero_of) (product start (all (drop (suc k) fs)))))
       → (k : ℕ) → i - 1 ≤ k → k < length fs → same (get_or (set items (i - 1) new) k zero_of) (product (get_or initial k zero_of) (product start (all (drop (suc k) fs))))
@@ -55,11 +56,13 @@ module _ {A : Type 0} {same : A → A → Type 0} {zero_of : A} {sum : A → A �
       ]
 
   -- an item before is as it was
-  pub before-kept : (new : A) (initial items : List A) (i : ℕ) → ((k : ℕ) → k < i → get_or items k zero_of ≡ get_or initial k zero_of) → (k : ℕ) → k < i - 1 → get_or (set items (i - 1) new) k zero_of ≡ get_or initial k zero_of
+  pub before-kept : (new : A) (initial items : List A) (i : ℕ) → ((k : ℕ) → k < i → get_or items k zero_of ≡ get_or initial k zero_of) → (k : ℕ) → k < i - 1
+      → get_or (set items (i - 1) new) k zero_of ≡ get_or initial k zero_of
   before-kept new initial items i before k l = let o : k ≢ i - 1 = omega arith in get_or-set_other items (i - 1) k new zero_of o ∙ before k (omega arith)
 
   module _ {inverse : A → A} (F : IsField same zero_of product one inverse) where
-    factor-is : (whole inverted factor numerator : A) (ds : List A) → same whole (all ds) → same inverted (inverse whole) → same factor (product inverted numerator) → same factor (product (inverse (all ds)) numerator)
+    factor-is : (whole inverted factor numerator : A) (ds : List A) → same whole (all ds) → same inverted (inverse whole) → same factor (product inverted numerator)
+        → same factor (product (inverse (all ds)) numerator)
     factor-is whole inverted factor numerator ds w i f = E.transitive _ _ _ f (P.respects _ _ _ _ (E.transitive _ _ _ i (F.respects _ _ w)) (E.reflexive numerator))
 
     module _ (whole inverted factor numerator : A) (ds old new : List A) (w : same whole (all ds)) (i : same inverted (inverse whole)) (f : same factor (product inverted numerator))

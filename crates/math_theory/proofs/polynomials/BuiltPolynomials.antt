@@ -64,7 +64,8 @@ module _ {A : Type 0} {same : A → A → Type 0} {zero_of : A} {sum : A → A �
       same_class E _ _ (sym (value-class E G P R r p) ∙ ap (OverRing.value C (class E r)) e ∙ value-class E G P R r q)
 
   -- coefficient j times power j of s: the value at r is that at s r
-  pub value-dilated : (r s : A) (p q : List A) → length q ≡ length p → ((j : ℕ) → j < length p → same (get_or q j zero_of) (product (get_or p j zero_of) (pow s j))) → same (at r q) (at (product s r) p)
+  pub value-dilated : (r s : A) (p q : List A) → length q ≡ length p → ((j : ℕ) → j < length p → same (get_or q j zero_of) (product (get_or p j zero_of) (pow s j)))
+      → same (at r q) (at (product s r) p)
   value-dilated r s p q l h =
       let dilated : List (Class E) = OverRing.polynomial_dilation C (class E s) (classes p) in
       let long : length dilated ≡ length p = length-dilation C.product C.one C.product (class E s) (classes p) ∙ length-classes E p in
@@ -72,7 +73,8 @@ module _ {A : Type 0} {same : A → A → Type 0} {zero_of : A} {sum : A → A �
       same_lists (classes q) dilated (length-classes E q ∙ l ∙ sym long)
       (λ k d m. let n : k < length p = omega (arith, m, length-classes E q, l) in
       get_or-map (class E) q k zero_of d (omega (arith, n, l)) ∙ class_same E _ _ (h k n)
-      ∙ sym (get_or_default dilated k d (class E zero_of) (omega (arith, n, long)) ∙ coefficient-dilation C (class E s) (classes p) k ∙ ap₂ C.product (coefficient-class E G P R p k) (power-class E G P R s k))) in
+      ∙ sym (get_or_default dilated k d (class E zero_of) (omega (arith, n, long)) ∙ coefficient-dilation C (class E s) (classes p) k
+      ∙ ap₂ C.product (coefficient-class E G P R p k) (power-class E G P R s k))) in
       same_class E _ _
       (sym (value-class E G P R r q) ∙ ap (OverRing.value C (class E r)) e ∙ value-dilation C (class E r) (class E s) (classes p) ∙ value-class E G P R (product s r) p)
 
@@ -98,9 +100,11 @@ module _ {A : Type 0} {same : A → A → Type 0} {zero_of : A} {sum : A → A �
       same_lists (classes high) multiple (length-classes E high ∙ lh ∙ lc ∙ sym (length-map (classes low) (λ c. C.product c (class E factor)) ∙ length-classes E low ∙ l))
       (λ k d m. let inside : k < n = omega (arith, m, length-classes E high, lh, lc) in
       get_or-map (class E) high k zero_of d (omega (arith, lh, lc)) ∙ class_same E _ _ (E.transitive _ _ _ (hh k (omega (arith, lc))) (P.respects _ _ _ _ (hc k inside) (E.reflexive factor)))
-      ∙ sym (get_or-map (λ c. C.product c (class E factor)) (classes low) k (class E zero_of) d (omega (arith, inside, l, length-classes E low)) ∙ ap (λ c. C.product c (class E factor)) (coefficient-class E G P R low k))) in
+      ∙ sym (get_or-map (λ c. C.product c (class E factor)) (classes low) k (class E zero_of) d (omega (arith, inside, l, length-classes E low))
+      ∙ ap (λ c. C.product c (class E factor)) (coefficient-class E G P R low k))) in
       let high_is : same (at r high) (product (at r low) factor) =
-      same_class E _ _ (sym (value-class E G P R r high) ∙ ap (OverRing.value C (class E r)) is_multiple ∙ value-multiple C (class E r) (classes low) (class E factor) ∙ ap (λ x. C.product x (class E factor)) (value-class E G P R r low)) in
+      same_class E _ _ (sym (value-class E G P R r high) ∙ ap (OverRing.value C (class E r)) is_multiple ∙ value-multiple C (class E r) (classes low) (class E factor)
+      ∙ ap (λ x. C.product x (class E factor)) (value-class E G P R r low)) in
       rw e (E.transitive _ _ _ (value-joined r low high n l)
       (combine_same E G P R (at r low ∷ pow r n ∷ factor ∷ at r high ∷ []) (v0 ⊕ (v1 ⊗ v3)) ((𝟙 ⊕ (v2 ⊗ v1)) ⊗ v0) v1 v3 (v0 ⊗ v2) high_is refl))
 

@@ -55,19 +55,23 @@ module _ {A : Type 0} {same : A → A → Type 0} {zero_of : A} {sum : A → A �
     domain_agreement p q l m h =
         HaveSameCoefficients-from_classes E G P R p q
         (agreement C (OverRing.powers C.ring (class E w) n) (classes p) (classes q) (short p l) (short q m) distinct
-        (All-powers C.ring (class E w) n (λ x. OverRing.value C.ring x (classes p) ≡ OverRing.value C.ring x (classes q)) (λ i b. value-at_point i p ∙ class_same E _ _ (h i b) ∙ sym (value-at_point i q))))
+        (All-powers C.ring (class E w) n (λ x. OverRing.value C.ring x (classes p) ≡ OverRing.value C.ring x (classes q))
+        (λ i b. value-at_point i p ∙ class_same E _ _ (h i b) ∙ sym (value-at_point i q))))
 
     -- what has on the domain the values of a product has them everywhere
-    pub domain_product : (all left right : List A) → length all ≤ n → length left ≤ n → length left + length right ≤ suc n → ((i : ℕ) → i < n → same (at (point w i) all) (product (at (point w i) left) (at (point w i) right)))
+    pub domain_product : (all left right : List A) → length all ≤ n → length left ≤ n → length left + length right ≤ suc n
+        → ((i : ℕ) → i < n → same (at (point w i) all) (product (at (point w i) left) (at (point w i) right)))
         → (r : A) → same (at r all) (product (at r left) (at r right))
     domain_product all left right l m both h r =
         let product_of : List (Class E) = OverRing.polynomial_product C.ring (classes left) (classes right) in
-        let few : length product_of ≤ n = length-product-le C.sum C.zero C.product (classes left) (classes right) n (omega (arith, m, length-classes E left)) (omega (arith, both, length-classes E left, length-classes E right)) in
+        let few : length product_of ≤ n = length-product-le C.sum C.zero C.product (classes left) (classes right) n (omega (arith, m, length-classes E left))
+        (omega (arith, both, length-classes E left, length-classes E right)) in
         same_class E _ _
         (sym (value-class E G P R r all)
         ∙ value-agreement C (OverRing.powers C.ring (class E w) n) (classes all) product_of (short all l) (omega (arith, few, length-powers C.ring (class E w) n)) distinct
         (All-powers C.ring (class E w) n (λ x. OverRing.value C.ring x (classes all) ≡ OverRing.value C.ring x product_of)
-        (λ i b. value-at_point i all ∙ class_same E _ _ (h i b) ∙ sym (value-product C.ring (OverRing.power C.ring (class E w) i) (classes left) (classes right) ∙ ap₂ C.product (value-at_point i left) (value-at_point i right))))
+        (λ i b. value-at_point i all ∙ class_same E _ _ (h i b)
+        ∙ sym (value-product C.ring (OverRing.power C.ring (class E w) i) (classes left) (classes right) ∙ ap₂ C.product (value-at_point i left) (value-at_point i right))))
         (class E r)
         ∙ value-product C.ring (class E r) (classes left) (classes right) ∙ ap₂ C.product (value-class E G P R r left) (value-class E G P R r right))
 
@@ -80,7 +84,8 @@ module _ {A : Type 0} {same : A → A → Type 0} {zero_of : A} {sum : A → A �
     }
 
     -- where all are, what has them as its values does
-    pub fits-all : (cells q : List A) (filled : List Bool) → length cells ≡ n → length q ≡ n → count_true filled ≡ n → ((i : ℕ) → i < n → same (at (point w i) q) (get_or cells i zero_of)) → Fits same zero_of sum product one w cells filled q
+    pub fits-all : (cells q : List A) (filled : List Bool) → length cells ≡ n → length q ≡ n → count_true filled ≡ n
+        → ((i : ℕ) → i < n → same (at (point w i) q) (get_or cells i zero_of)) → Fits same zero_of sum product one w cells filled q
     fits-all cells q filled c l all h = record {
       agrees = λ j b t. h j (omega (arith, b, c));
       zero_from = λ i b. rw (get_or_past q i zero_of (omega (arith, b, l, all))) (E.reflexive zero_of);

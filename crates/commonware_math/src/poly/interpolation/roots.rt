@@ -22,7 +22,8 @@ impl<I: Ord + Drop, F: FieldNTT> Interpolator<I, F> {
         requires { HasDomainOf F.MAX_LG_ROOT_ORDER total.value }
         ensures keys { IfOk result (λ m. keys_of m ≡ keys_of (pairs_below total.value points)) }
         ensures weights { IfOk result (λ m. (lg : ℕ) → IsNextPowerOfTwo total.value (2 ^ lg)
-            → InterpolatesAt I.cmp F.Ring F.zero (pairs_at_powers F.Ring (F.root lg) (pairs_below total.value points)) m) }
+            → InterpolatesAt I.cmp F.Ring F.zero
+            (pairs_at_powers F.Ring (F.root lg) (pairs_below total.value points)) m) }
     {
         let zero = F::zero(alloc)?;
         let out = Self::roots_of_unity_at(alloc, total, points, &zero)?;
@@ -43,7 +44,8 @@ impl<I: Ord + Drop, F: FieldNTT> Interpolator<I, F> {
         requires { HasDomainOf F.MAX_LG_ROOT_ORDER total.value }
         ensures keys { IfOk result (λ m. keys_of m ≡ keys_of (pairs_below total.value points)) }
         ensures weights { IfOk result (λ m. (lg : ℕ) → IsNextPowerOfTwo total.value (2 ^ lg)
-            → InterpolatesAt I.cmp F.Ring x.now (pairs_at_powers F.Ring (F.root lg) (pairs_below total.value points)) m) }
+            → InterpolatesAt I.cmp F.Ring x.now
+            (pairs_at_powers F.Ring (F.root lg) (pairs_below total.value points)) m) }
     {
         let (keys, indices) = points.into_map().into_parts();
         let weights = lagrange_coefficients_at(alloc, total, copied(alloc, &indices)?, x)?;
@@ -62,8 +64,10 @@ fn weights_of_keys<I: Ord + Drop, F: Additive>(
     weights: &Map<u32, F>,
 ) -> Mem<(Vec<I>, Vec<F>)>
     requires { length indices.items ≡ length keys.items }
-    ensures keys { IfOk result (λ out. out.0.items ≡ keys_of (weighted_pairs weights.now (zip keys.items indices.items))) }
-    ensures weights { IfOk result (λ out. AllZip (λ v i. F.same v (weight_at F.zero weights.now i)) out.1.items (values_of (weighted_pairs weights.now (zip keys.items indices.items)))) }
+    ensures keys { IfOk result (λ out. out.0.items
+        ≡ keys_of (weighted_pairs weights.now (zip keys.items indices.items))) }
+    ensures weights { IfOk result (λ out. AllZip (λ v i. F.same v (weight_at F.zero weights.now i)) out.1.items
+        (values_of (weighted_pairs weights.now (zip keys.items indices.items)))) }
 {
     let mut kept = Vec::new(alloc);
     let mut values = Vec::new(alloc);

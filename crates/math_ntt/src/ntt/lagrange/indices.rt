@@ -33,7 +33,8 @@ where
     requires small { lg < 64 }
     requires covers { total ≤ 2 ^ lg }
     ensures size { IfOk result (λ points. length points ≡ 2 ^ lg) }
-    ensures present { IfOk result (λ points. (it : P.IntoIter) × (xs : List ℕ) × P.into_iter_gives indices it × Drains P.IntoIter.next_gives it xs
+    ensures present { IfOk result (λ points. (it : P.IntoIter) × (xs : List ℕ)
+        × P.into_iter_gives indices it × Drains P.IntoIter.next_gives it xs
         × AreTrueAt total xs points) }
 {
     let mut points = VanishingPoints::new(alloc, u32::from(lg))?;

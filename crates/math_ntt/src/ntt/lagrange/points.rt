@@ -15,7 +15,8 @@ pub(super) fn domain_points<F: FieldNTT>(alloc: Global, lg: u8) -> Mem<Vec<F>>
     requires domain { lg ≤ F.MAX_LG_ROOT_ORDER }
     requires small { lg < 64 }
     ensures count { IfOk result (λ v. length v.items ≡ 2 ^ lg) }
-    ensures powers { IfOk result (λ v. (i : ℕ) → i < 2 ^ lg → F.same (slice_index_or v.items i F.zero) (power F.one F.product (F.root lg) i)) }
+    ensures powers { IfOk result (λ v. (i : ℕ) → i < 2 ^ lg
+        → F.same (slice_index_or v.items i F.zero) (power F.one F.product (F.root lg) i)) }
 {
     let Some(root) = F::root_of_unity(alloc, lg)? else {
         unreachable!()
@@ -34,7 +35,8 @@ pub(super) fn domain_points<F: FieldNTT>(alloc: Global, lg: u8) -> Mem<Vec<F>>
 pub(super) fn gathered<F: Additive>(alloc: Global, items: &[F], places: &[u32]) -> Mem<Vec<F>>
     requires { All (λ place. place < length items.now) places.now }
     ensures count { IfOk result (λ v. length v.items ≡ length places.now) }
-    ensures items { IfOk result (λ v. (k : ℕ) → k < length places.now → F.same (slice_index_or v.items k F.zero) (slice_index_or items.now (slice_index_or places.now k 0) F.zero)) }
+    ensures items { IfOk result (λ v. (k : ℕ) → k < length places.now
+        → F.same (slice_index_or v.items k F.zero) (slice_index_or items.now (slice_index_or places.now k 0) F.zero)) }
 {
     let mut out = Vec::new(alloc);
     for place in places {
@@ -48,7 +50,8 @@ pub(super) fn gathered<F: Additive>(alloc: Global, items: &[F], places: &[u32]) 
 pub(super) fn differences<F: Ring>(alloc: Global, factor: &F, x: &F, points: &[F]) -> Mem<Vec<F>>
     ensures count { IfOk result (λ v. length v.items ≡ length points.now) }
     ensures each { IfOk result (λ v. (k : ℕ) → k < length points.now
-        → F.same (slice_index_or v.items k F.zero) (F.product factor.now (F.sum x.now (F.negative (slice_index_or points.now k F.zero))))) }
+        → F.same (slice_index_or v.items k F.zero)
+        (F.product factor.now (F.sum x.now (F.negative (slice_index_or points.now k F.zero))))) }
 {
     let mut out = Vec::new(alloc);
     for point in points {
@@ -76,7 +79,8 @@ pub(super) fn products<F: Ring>(alloc: Global, items: Vec<F>, factors: &[F]) -> 
     requires { length items.items ≡ length factors.now }
     ensures count { IfOk result (λ v. length v.items ≡ length items.items) }
     ensures each { IfOk result (λ v. (k : ℕ) → k < length items.items
-        → F.same (slice_index_or v.items k F.zero) (F.product (slice_index_or items.items k F.zero) (slice_index_or factors.now k F.zero))) }
+        → F.same (slice_index_or v.items k F.zero)
+        (F.product (slice_index_or items.items k F.zero) (slice_index_or factors.now k F.zero))) }
 {
     let mut out = items;
     multiply_rows(alloc, &mut out, 1, factors)?;
@@ -110,7 +114,9 @@ pub(super) fn power_minus_one<F: Ring>(alloc: Global, x: &F, lg: u8) -> Mem<F>
 /// The value at x of the polynomial that has the values of the column at the points of its domain.
 pub(super) fn value_at<F: FieldNTT>(alloc: Global, column: EvaluationColumn<F>, x: &F) -> Mem<F>
     requires { HasDomain F.MAX_LG_ROOT_ORDER (length column) }
-    ensures { IfOk result (λ v. (a : List F) × (length a ≡ length column) × AreValuesOnDomain F.Ring F.root (one_column a) (one_column column) × F.same v (value_in_ring F.Ring a x.now)) }
+    ensures { IfOk result (λ v. (a : List F) × (length a ≡ length column)
+        × AreValuesOnDomain F.Ring F.root (one_column a) (one_column column)
+        × F.same v (value_in_ring F.Ring a x.now)) }
 {
     let polynomial = column.interpolate(alloc)?;
     let out = horner(alloc, &polynomial.coefficients, x)?;

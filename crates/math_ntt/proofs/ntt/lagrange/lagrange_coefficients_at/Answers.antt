@@ -20,5 +20,6 @@ returns-clause-indices g c =
 
 pub returns-clause-weights : goal.returns-clause-weights
 returns-clause-weights g c = λ lg h.
-    let same_lg : lg ≡ c.lg_of_domain-lg.result = lg-only c.args.total.value lg c.lg_of_domain-lg.result (omega (arith, c.get.ensures.nonzero, c.get.ensures.value)) h c.lg_of_domain-lg.ensures.value in
+    let same_lg : lg ≡ c.lg_of_domain-lg.result =
+    lg-only c.args.total.value lg c.lg_of_domain-lg.result (omega (arith, c.get.ensures.nonzero, c.get.ensures.value)) h c.lg_of_domain-lg.ensures.value in
     rw (same_lg, c.in_ok-out.ensures.indices, c.in_ok-out.ensures.weights) (rw c.deref.ensures.value at c.in_ok-weights.ensures)

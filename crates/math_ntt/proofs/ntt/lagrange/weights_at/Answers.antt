@@ -26,7 +26,8 @@ weights_at_missing-requires-clause-points g c =
       one = g.F.Ring.one;
     } in
     rw c.deref-in-Some-2.ensures.value
-    (gathered-points Q g.met.F.Object.equality (g.F.FieldNTT.root c.args.lg) _ c.in_ok-domain.domain.items c.deref.result.now c.in_ok-points.points.items c.args.places.now c.deref.ensures.value c.in_ok-points.ensures.count
+    (gathered-points Q g.met.F.Object.equality
+    (g.F.FieldNTT.root c.args.lg) _ c.in_ok-domain.domain.items c.deref.result.now c.in_ok-points.points.items c.args.places.now c.deref.ensures.value c.in_ok-points.ensures.count
     c.in_ok-domain.ensures.powers (places-inside c.args.present c.args.places.now c.requires.places _ (sym c.requires.size)) c.in_ok-points.ensures.items)
 
 pub weights_at_missing-requires-clause-missing : goal.weights_at_missing-requires-clause-missing
@@ -51,7 +52,8 @@ weights_outside-requires-clause-points g c =
       one = g.F.Ring.one;
     } in
     rw c.deref-4.ensures.value
-    (gathered-points Q g.met.F.Object.equality (g.F.FieldNTT.root c.args.lg) _ c.in_ok-domain.domain.items c.deref.result.now c.in_ok-points.points.items c.args.places.now c.deref.ensures.value c.in_ok-points.ensures.count
+    (gathered-points Q g.met.F.Object.equality
+    (g.F.FieldNTT.root c.args.lg) _ c.in_ok-domain.domain.items c.deref.result.now c.in_ok-points.points.items c.args.places.now c.deref.ensures.value c.in_ok-points.ensures.count
     c.in_ok-domain.ensures.powers (places-inside c.args.present c.args.places.now c.requires.places _ (sym c.requires.size)) c.in_ok-points.ensures.items)
 
 pub returns-in-Some : goal.returns-in-Some
@@ -81,14 +83,16 @@ returns-in-Some g c =
     let many : length points ≡ count_true filled = c.in_ok-points.ensures.count ∙ count in
     let first : IsFirstPlace g.F.Object.same x points k = rw c.deref-2.ensures.value at (rw c.in-Some.is at c.in_ok-k.ensures.some) in
     let at : ArePointsAt Q w places points =
-    gathered-points Q g.met.F.Object.equality (g.F.FieldNTT.root c.args.lg) _ c.in_ok-domain.domain.items c.deref.result.now c.in_ok-points.points.items c.args.places.now c.deref.ensures.value c.in_ok-points.ensures.count
+    gathered-points Q g.met.F.Object.equality
+    (g.F.FieldNTT.root c.args.lg) _ c.in_ok-domain.domain.items c.deref.result.now c.in_ok-points.points.items c.args.places.now c.deref.ensures.value c.in_ok-points.ensures.count
     c.in_ok-domain.ensures.powers (places-inside c.args.present c.args.places.now c.requires.places _ (sym c.requires.size)) c.in_ok-points.ensures.items in
     let l : k < count_true filled = omega (arith, first.0, many) in
     let here : g.F.Object.same (get_or points k zero) x = subst (λ p. g.F.Object.same p x) (get_or_default points k x zero first.0) first.1 in
     let same = E.transitive _ _ _ (E.symmetric _ _ (points-at filled places c.requires.places Q w points at k l)) here in
     let present = Carried.present E F.Additive.group F.Multiplicative.commutes F.Ring.ring F.Field.field lg w filled c.requires.size o in
     let long : length present ≡ count_true filled = Carried.length-present E F.Additive.group F.Multiplicative.commutes F.Ring.ring F.Field.field lg w filled c.requires.size o in
-    subst (λ (is : List ℕ). AreWeightsAt g.F.Object.same zero g.F.Additive.sum g.F.Multiplicative.product g.F.Ring.one x (map (power g.F.Ring.one g.F.Multiplicative.product w) is) c.in_ok-out-2.out.items)
+    subst (λ (is : List ℕ). AreWeightsAt g.F.Object.same zero g.F.Additive.sum g.F.Multiplicative.product g.F.Ring.one x
+    (map (power g.F.Ring.one g.F.Multiplicative.product w) is) c.in_ok-out-2.out.items)
     (sym c.requires.places)
     (weights_at_place E F.Additive.group F.Multiplicative.commutes F.Ring.ring F.Field.field x present c.in_ok-out-2.out.items k
     (Carried.present-apart E F.Additive.group F.Multiplicative.commutes F.Ring.ring F.Field.field lg w filled c.requires.size o) (omega (arith, l, long))

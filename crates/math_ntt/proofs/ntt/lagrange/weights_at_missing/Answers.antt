@@ -52,7 +52,8 @@ returns g c =
     let size = ap length c.set_non_vanishing.ensures ∙ length-set filled m true in
     let column = c.in_ok-column.column in
     let V =
-    subst (λ (f : List Bool). IsVanishing g.F.Object.same zero g.F.Additive.sum g.F.Additive.negative g.F.Multiplicative.product g.F.Ring.one w f c.in_ok-column.field-0-0 column) c.set_non_vanishing.ensures
+    subst (λ (f : List Bool). IsVanishing g.F.Object.same zero g.F.Additive.sum g.F.Additive.negative g.F.Multiplicative.product g.F.Ring.one w f c.in_ok-column.field-0-0 column)
+    c.set_non_vanishing.ensures
     (c.in_ok-column.ensures lg (size ∙ h)) in
     let vs = c.in_ok-values.values.items in
     let count : length places ≡ count_true filled = places-count filled places c.requires.places in
@@ -66,7 +67,8 @@ returns g c =
     E.transitive _ _ _ c.in_ok-mul_assign.ensures.ok (rw read (P.respects _ _ _ _ c.in_ok-divisor.ensures.ok (E.reflexive (get_or column m zero)))) in
     let factor =
     E.transitive _ _ _ c.in_ok-factor.ensures.ok (I.respects _ _ (E.transitive _ _ _ c.in_ok-neg.ensures.ok (G.respects_negative _ _ divided))) in
-    subst (λ (is : List ℕ). AreWeightsAt g.F.Object.same zero g.F.Additive.sum g.F.Multiplicative.product g.F.Ring.one x (map (power g.F.Ring.one g.F.Multiplicative.product w) is) c.in_ok-out.out.items)
+    subst (λ (is : List ℕ). AreWeightsAt g.F.Object.same zero g.F.Additive.sum g.F.Multiplicative.product g.F.Ring.one x
+    (map (power g.F.Ring.one g.F.Multiplicative.product w) is) c.in_ok-out.out.items)
     (sym c.requires.places)
     (Carried.weights_at_missing E G P F.Ring.ring I lg w filled h (F.FieldNTT.roots.order lg c.requires.domain) m inside
     (missing-false filled places c.requires.places Q E w x points m c.requires.points c.requires.outside inside c.requires.missing)

@@ -26,9 +26,11 @@ returns g c =
     let V = c.in_ok-at_zero.ensures c.args.lg c.requires.size in
     let count : length c.in_ok-values.values.items ≡ length places = c.in_ok-values.ensures.count in
     let some = places-count filled places c.requires.places in
-    subst (λ (is : List ℕ). AreWeightsAt g.F.Object.same g.F.Additive.zero g.F.Additive.sum g.F.Multiplicative.product g.F.Ring.one c.args.x.now (map (power g.F.Ring.one g.F.Multiplicative.product (g.F.FieldNTT.root c.args.lg)) is) c.in_ok-out.out.items)
+    subst (λ (is : List ℕ). AreWeightsAt g.F.Object.same g.F.Additive.zero g.F.Additive.sum g.F.Multiplicative.product g.F.Ring.one c.args.x.now
+    (map (power g.F.Ring.one g.F.Multiplicative.product (g.F.FieldNTT.root c.args.lg)) is) c.in_ok-out.out.items)
     (sym c.requires.places)
-    (Carried.weights_at_zero E F.Additive.group F.Multiplicative.commutes F.Ring.ring F.Field.field c.args.lg (g.F.FieldNTT.root c.args.lg) filled c.requires.size (F.FieldNTT.roots.order c.args.lg c.requires.domain)
+    (Carried.weights_at_zero E F.Additive.group F.Multiplicative.commutes F.Ring.ring F.Field.field c.args.lg (g.F.FieldNTT.root c.args.lg) filled c.requires.size
+    (F.FieldNTT.roots.order c.args.lg c.requires.domain)
     c.in_ok-at_zero.at_zero c.in_ok-at_zero.column V c.args.x.now c.in_ok-divisor.divisor c.in_ok-factor.factor c.in_ok-values.values.items c.in_ok-out.out.items
     c.requires.zero c.in_ok-divisor.ensures (E.transitive _ _ _ c.in_ok-factor.ensures.ok (F.Field.field.respects _ _ c.in_ok-mul_assign.ensures.ok)) (c.in_ok-out.ensures.count ∙ count ∙ some)
     (gathered-at filled places c.requires.places g.F.Object.same g.F.Additive.zero c.in_ok-values.values.items c.values.result.now c.in_ok-at_zero.column c.values.ensures c.in_ok-values.ensures.items)

@@ -80,7 +80,8 @@ returns g c =
     (Carried.divisor-nonzero E G P R I lg w filled h o at_zero column V x vx outside at_x n (get_or ds k zero) (get_or points k zero) k m c.in_ok-size.ensures (point k m) (divisor k m)) in
     let quotient = rw c.deref.ensures.value at c.in_ok-quotients.ensures.each in
     let last = rw c.deref-2.ensures.value at c.in_ok-out.ensures.each in
-    subst (λ (is : List ℕ). AreWeightsAt g.F.Object.same zero g.F.Additive.sum g.F.Multiplicative.product g.F.Ring.one x (map (power g.F.Ring.one g.F.Multiplicative.product w) is) c.in_ok-out.out.items)
+    subst (λ (is : List ℕ). AreWeightsAt g.F.Object.same zero g.F.Additive.sum g.F.Multiplicative.product g.F.Ring.one x
+    (map (power g.F.Ring.one g.F.Multiplicative.product w) is) c.in_ok-out.out.items)
     (sym c.requires.places)
     (Carried.weights_outside E G P R I lg w filled h o at_zero column V x vx outside at_x n c.in_ok-numerator.numerator points ds qs vs c.in_ok-out.out.items
     c.in_ok-size.ensures c.in_ok-numerator.ensures (c.in_ok-out.ensures.count ∙ multiples) point

@@ -24,10 +24,13 @@ returns-clause-quotients g c = λ nonzero.
     let moved_cells = rw rows at c.in_ok-dilate_rows-2.ensures in
     let moved_back = rw rows at c.in_ok-dilate_rows-3.ensures in
     let at_v = coset-values_one R E G P L root n shift c.in_ok-shift.shift v c.dilate_rows.new.cells divisors rows c.in_ok-shift.ensures.ok moved_v c.in_ok-evaluate_rows.ensures.values in
-    let at_cells = coset-values R E G P L root n c.args.cols shift c.in_ok-shift.shift c.args.cells.now c.dilate_rows-2.new.cells c.evaluate_rows-2.new.cells c.in_ok-shift.ensures.ok moved_cells c.in_ok-evaluate_rows-2.ensures.values in
+    let at_cells = coset-values R E G P L root n c.args.cols shift c.in_ok-shift.shift c.args.cells.now c.dilate_rows-2.new.cells c.evaluate_rows-2.new.cells c.in_ok-shift.ensures.ok
+    moved_cells c.in_ok-evaluate_rows-2.ensures.values in
     let inverted = c.in_ok-inverses.ensures.each
     (λ k d l z. let b : k < n = omega (arith, l, long) in
     nonzero k b (E.transitive _ _ _ (E.symmetric _ _ (at_v k b)) (rw (get_or_default divisors k d g.F.Additive.zero l) at z))) in
-    quotients-on_coset R E G P L root n c.args.cols shift (g.F.Field.inverse shift) c.in_ok-back.back c.args.cells.now v c.evaluate_rows-2.new.cells divisors c.in_ok-inverses.inverses.items c.multiply_rows.new.cells
-    c.interpolate_rows.new.cells c.dilate_rows-3.new.cells (F.Field.field.inverts shift F.FieldNTT.roots.shift_is_not_zero) c.in_ok-back.ensures.ok at_v at_cells (λ i l. E.transitive _ _ _ (inverted i (omega (arith, l, long))) c.in_ok-one.ensures.ok)
+    quotients-on_coset R E G P L root n c.args.cols shift
+    (g.F.Field.inverse shift) c.in_ok-back.back c.args.cells.now v c.evaluate_rows-2.new.cells divisors c.in_ok-inverses.inverses.items c.multiply_rows.new.cells
+    c.interpolate_rows.new.cells c.dilate_rows-3.new.cells (F.Field.field.inverts shift F.FieldNTT.roots.shift_is_not_zero) c.in_ok-back.ensures.ok at_v at_cells
+    (λ i l. E.transitive _ _ _ (inverted i (omega (arith, l, long))) c.in_ok-one.ensures.ok)
     (rw (c.deref.ensures.value, many) at c.in_ok-multiply_rows.ensures) c.in_ok-interpolate_rows.ensures.values moved_back

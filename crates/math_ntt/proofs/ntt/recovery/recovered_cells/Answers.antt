@@ -47,7 +47,8 @@ returns-then-filled-size_of-clause-fits g c = λ m k e b.
     let filled = c.count_non_vanishing-filled.ensures in
     let size = c.size_of.ensures in
     rw (← power_of_two-same lg m e)
-    (fits-all E F.Additive.group F.Multiplicative.commutes F.Ring.ring F.Field.field (g.F.FieldNTT.root lg) n (F.FieldNTT.roots.order lg c.requires.domain) (column_of zero cells k) (column_of zero out k) c.args.points.now
+    (fits-all E F.Additive.group F.Multiplicative.commutes F.Ring.ring F.Field.field (g.F.FieldNTT.root lg) n (F.FieldNTT.roots.order lg c.requires.domain) (column_of zero cells k)
+    (column_of zero out k) c.args.points.now
     (length-column zero cells k) (length-column zero out k) (omega arith)
     (λ i l. rw (column-cell zero n cols k i c.args.cells.now l b) (E.symmetric _ _ (c.in_ok-interpolated-2.ensures.values i k l b))))
 
@@ -65,6 +66,7 @@ returns-then-filled-eq0-clause-fits g c = λ m k e b.
     let none = all_missing c.args.points.now n c.requires.points (omega arith) in
     let long : length c.zeros.new.cells ≡ n * cols = c.zeros.auto.cells ∙ c.requires.size in
     rw (← power_of_two-same lg m e)
-    (fits-none E F.Additive.group F.Multiplicative.commutes F.Ring.ring F.Field.field (g.F.FieldNTT.root lg) n (F.FieldNTT.roots.order lg c.requires.domain) (column_of zero cells k) (column_of zero out k) c.args.points.now
+    (fits-none E F.Additive.group F.Multiplicative.commutes F.Ring.ring F.Field.field (g.F.FieldNTT.root lg) n (F.FieldNTT.roots.order lg c.requires.domain) (column_of zero cells k)
+    (column_of zero out k) c.args.points.now
     (length-column zero cells k) (length-column zero out k) (λ j l. rw none (get_or-replicate n j false false l))
     (λ i l. E.transitive _ _ _ (E.symmetric _ _ (c.in_ok-interpolated.ensures.values i k l b)) (c.in_ok-zeros.ensures (i * cols + k) zero (omega (arith, long, mul-add-lt i cols k n l b)))))

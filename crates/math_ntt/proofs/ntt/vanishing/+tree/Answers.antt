@@ -38,9 +38,11 @@ tree-requires g t c κs within =
                     (
                       omega arith,
                       (
-                        powers-below ring g.F.FieldNTT.root lg c.size_of-half.result c.args.evaluation.now positive c.size_of-half.ensures c.requires.evaluation c.split_at.result.0.now c.split_at.ensures.front,
+                        powers-below ring g.F.FieldNTT.root lg c.size_of-half.result c.args.evaluation.now positive c.size_of-half.ensures c.requires.evaluation c.split_at.result.0.now
+                            c.split_at.ensures.front,
                         (
-                          powers-below ring inverse_root lg c.size_of-half.result c.args.interpolation.now positive c.size_of-half.ensures c.requires.interpolation c.split_at-2.result.0.now c.split_at-2.ensures.front,
+                          powers-below ring inverse_root lg c.size_of-half.result c.args.interpolation.now positive c.size_of-half.ensures c.requires.interpolation
+                              c.split_at-2.result.0.now c.split_at-2.ensures.front,
                           (omega (arith, count, points), omega (arith, points)),
                         ),
                       ),
@@ -82,9 +84,11 @@ tree-requires-2 g t c κs within =
                     (
                       omega arith,
                       (
-                        powers-below ring g.F.FieldNTT.root lg c.size_of-half.result c.args.evaluation.now positive c.size_of-half.ensures c.requires.evaluation c.split_at.result.0.now c.split_at.ensures.front,
+                        powers-below ring g.F.FieldNTT.root lg c.size_of-half.result c.args.evaluation.now positive c.size_of-half.ensures c.requires.evaluation c.split_at.result.0.now
+                            c.split_at.ensures.front,
                         (
-                          powers-below ring inverse_root lg c.size_of-half.result c.args.interpolation.now positive c.size_of-half.ensures c.requires.interpolation c.split_at-2.result.0.now c.split_at-2.ensures.front,
+                          powers-below ring inverse_root lg c.size_of-half.result c.args.interpolation.now positive c.size_of-half.ensures c.requires.interpolation
+                              c.split_at-2.result.0.now c.split_at-2.ensures.front,
                           (omega (arith, count, points, left.no_more), omega (arith, points, left.no_more_products)),
                         ),
                       ),

@@ -64,7 +64,8 @@ returns-in_err-product-clause-bounded g c =
     let other = c.if-missing-count.false in
     let below = count_false-within c.args.start c.args.stride c.args.points.now c.size_of-count.result in
     rw (← c.size_of-count.ensures)
-    (chunk-bounded c.args.work.now _ (count_false (every c.args.start c.args.stride c.size_of-count.result c.args.points.now)) c.size_of-count.result (omega arith) (omega (arith, c.size_of-count.ensures, power_of_two-few c.args.lg c.requires.small))
+    (chunk-bounded c.args.work.now _ (count_false (every c.args.start c.args.stride c.size_of-count.result c.args.points.now)) c.size_of-count.result (omega arith)
+    (omega (arith, c.size_of-count.ensures, power_of_two-few c.args.lg c.requires.small))
     c.in_err-product.ensures.butterflies c.in_err-product.ensures.no_fewer c.in_err-product.ensures.no_more)
 
 pub returns-in_err-all-clause-bounded : goal.returns-in_err-all-clause-bounded
@@ -73,7 +74,8 @@ returns-in_err-all-clause-bounded g c =
     let other = c.if-missing-count.false in
     let below = count_false-within c.args.start c.args.stride c.args.points.now c.size_of-count.result in
     rw (← c.size_of-count.ensures)
-    (chunk-bounded c.args.work.now _ (count_false (every c.args.start c.args.stride c.size_of-count.result c.args.points.now)) c.size_of-count.result (omega arith) (omega (arith, c.size_of-count.ensures, power_of_two-few c.args.lg c.requires.small))
+    (chunk-bounded c.args.work.now _ (count_false (every c.args.start c.args.stride c.size_of-count.result c.args.points.now)) c.size_of-count.result (omega arith)
+    (omega (arith, c.size_of-count.ensures, power_of_two-few c.args.lg c.requires.small))
     c.in_ok-product.ensures.butterflies c.in_ok-product.ensures.no_fewer c.in_ok-product.ensures.no_more)
 
 pub returns-clause-bounded : goal.returns-clause-bounded
@@ -82,7 +84,8 @@ returns-clause-bounded g c =
     let other = c.if-missing-count.false in
     let below = count_false-within c.args.start c.args.stride c.args.points.now c.size_of-count.result in
     rw (← c.size_of-count.ensures)
-    (chunk-bounded c.args.work.now _ (count_false (every c.args.start c.args.stride c.size_of-count.result c.args.points.now)) c.size_of-count.result (omega arith) (omega (arith, c.size_of-count.ensures, power_of_two-few c.args.lg c.requires.small))
+    (chunk-bounded c.args.work.now _ (count_false (every c.args.start c.args.stride c.size_of-count.result c.args.points.now)) c.size_of-count.result (omega arith)
+    (omega (arith, c.size_of-count.ensures, power_of_two-few c.args.lg c.requires.small))
     c.in_ok-product.ensures.butterflies c.in_ok-product.ensures.no_fewer c.in_ok-product.ensures.no_more)
 
 pub returns-clause-exact : goal.returns-clause-exact

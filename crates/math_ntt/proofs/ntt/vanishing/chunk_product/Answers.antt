@@ -59,7 +59,8 @@ loop-j-preserved g c =
       root_products = elim c.if-not-get.branch [
         | then-not-get+in_ok-times_root w ↦
             let more = count_false-next_missing start stride points j (c.get.ensures ∙ ap Some w.if-not-get.true) in
-            rw w.work-is (next-missing c.loop-j.work.root_products _ c.args.work.now.root_products (vec_len c.loop-j.coefficients) (count_false (every start stride j points)) (count_false (every start stride (j + 1) points))
+            rw w.work-is (next-missing c.loop-j.work.root_products _ c.args.work.now.root_products (vec_len c.loop-j.coefficients) (count_false (every start stride j points))
+            (count_false (every start stride (j + 1) points))
             more inv.count inv.root_products w.in_ok-times_root.ensures.exact)
         | else-not-get w ↦
             let more = count_false-next_filled start stride points j (c.get.ensures ∙ ap Some w.if-not-get.false) in
@@ -84,7 +85,8 @@ returns-in_err-times_root-clause-no_more g c =
     let more = count_false-next_missing start stride points j (c.get.ensures ∙ ap Some c.if-not-get.true) in
     let rises = count_false-rises start stride points c.args.count (j + 1) (omega arith) in
     let bound = c.in_err-times_root.ensures.bounded in
-    within-missing c.loop-j.work.root_products _ c.args.work.now.root_products (vec_len c.loop-j.coefficients) (count_false (every start stride j points)) (count_false (every start stride c.args.count points))
+    within-missing c.loop-j.work.root_products _ c.args.work.now.root_products (vec_len c.loop-j.coefficients) (count_false (every start stride j points))
+    (count_false (every start stride c.args.count points))
     (omega arith) c.loop-j.invariant.count c.loop-j.invariant.root_products bound.no_more_products
 
 pub returns-in_err-mul_assign-clause-no_more : goal.returns-in_err-mul_assign-clause-no_more
@@ -97,9 +99,11 @@ returns-in_err-mul_assign-clause-no_more g c =
     elim c.if-not-get.branch [
       | then-not-get+in_ok-times_root w ↦
           let more = count_false-next_missing start stride points j (c.get.ensures ∙ ap Some w.if-not-get.true) in
-          rw w.work-is (within-missing c.loop-j.work.root_products _ c.args.work.now.root_products (vec_len c.loop-j.coefficients) (count_false (every start stride j points)) (count_false (every start stride c.args.count points))
+          rw w.work-is (within-missing c.loop-j.work.root_products _ c.args.work.now.root_products (vec_len c.loop-j.coefficients) (count_false (every start stride j points))
+          (count_false (every start stride c.args.count points))
           (omega arith) c.loop-j.invariant.count c.loop-j.invariant.root_products w.times_root.ensures.bounded.no_more_products)
       | else-not-get w ↦
           let more = count_false-next_filled start stride points j (c.get.ensures ∙ ap Some w.if-not-get.false) in
-          rw w.work-is (within-filled c.loop-j.work.root_products c.args.work.now.root_products (count_false (every start stride j points)) (count_false (every start stride c.args.count points)) (omega arith) c.loop-j.invariant.root_products)
+          rw w.work-is (within-filled c.loop-j.work.root_products c.args.work.now.root_products (count_false (every start stride j points))
+          (count_false (every start stride c.args.count points)) (omega arith) c.loop-j.invariant.root_products)
     ]

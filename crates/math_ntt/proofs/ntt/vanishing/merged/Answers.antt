@@ -68,7 +68,8 @@ returns-in_ok-all-in-Nowhere-left-2-clause-merged g c =
       factor = g.F.Additive.negative g.F.Ring.one;
       factor_is_not_zero = minus_one_nonzero E G P R f;
       gives = λ r. plus_case E G P R f _ _ _ _ (turned r)
-          (with_multiple-same E G P R f _ _ _ _ _ _ (rw long at (c.in_ok-all-in-Nowhere-left-2.ensures.values r)) c.in_ok-factor-in-Nowhere-left-2.ensures.ok (c.in_ok-one-in-Nowhere-left-2.ensures.values r));
+          (with_multiple-same E G P R f _ _ _ _ _ _ (rw long at (c.in_ok-all-in-Nowhere-left-2.ensures.values r)) c.in_ok-factor-in-Nowhere-left-2.ensures.ok
+          (c.in_ok-one-in-Nowhere-left-2.ensures.values r));
     })
 
 pub returns-in-Everywhere-left-2-clause-merged : goal.returns-in-Everywhere-left-2-clause-merged
@@ -133,7 +134,8 @@ returns-in_ok-all-in-Nowhere-left-3-clause-merged g c =
     let written : take q.len (new ++ drop (length new) q.items) ≡ new = take-written q.len q.items new q.ok.0 kept in
     let level = rw up at (powers-level ring inverse_root lg half table positive c.size_of-half.ensures c.requires.interpolation back c.split_at.ensures.back) in
     let count = length-level ring inverse_root lg half table positive c.size_of-half.ensures c.requires.interpolation back c.split_at.ensures.back_len in
-    let moved = value-moved ring E G P R (inverse_root lg) (2 ^ (lg - 1)) q.items new back (omega (arith, right_long, q.ok.0)) kept count level (rw c.deref_mut.ensures.value at c.in_ok-multiply_rows-in-Somewhere.ensures) in
+    let moved = value-moved ring E G P R (inverse_root lg) (2 ^ (lg - 1)) q.items new back (omega (arith, right_long, q.ok.0)) kept count level
+    (rw c.deref_mut.ensures.value at c.in_ok-multiply_rows-in-Somewhere.ensures) in
     let filled = c.in_ok-all-in-Nowhere-left-3.ensures.cells in
     rw (c.in-Somewhere.is, c.in-Nowhere-left-3.is) (record {
       factor = g.F.Ring.one;
@@ -164,7 +166,8 @@ returns-in_ok-all-in-Everywhere-left-3-clause-merged g c =
     let written : take q.len (new ++ drop (length new) q.items) ≡ new = take-written q.len q.items new q.ok.0 kept in
     let level = rw up at (powers-level ring inverse_root lg half table positive c.size_of-half.ensures c.requires.interpolation back c.split_at.ensures.back) in
     let count = length-level ring inverse_root lg half table positive c.size_of-half.ensures c.requires.interpolation back c.split_at.ensures.back_len in
-    let moved = value-moved ring E G P R (inverse_root lg) (2 ^ (lg - 1)) q.items new back (omega (arith, right_long, q.ok.0)) kept count level (rw c.deref_mut.ensures.value at c.in_ok-multiply_rows-in-Somewhere.ensures) in
+    let moved = value-moved ring E G P R (inverse_root lg) (2 ^ (lg - 1)) q.items new back (omega (arith, right_long, q.ok.0)) kept count level
+    (rw c.deref_mut.ensures.value at c.in_ok-multiply_rows-in-Somewhere.ensures) in
     let minus = E.transitive _ _ _ c.in_ok-factor-in-Everywhere-left-3.ensures.ok (G.respects_negative _ _ c.in_ok-one-in-Everywhere-left-3.ensures.ok) in
     rw (c.in-Somewhere.is, c.in-Everywhere-left-3.is) (record {
       factor = g.F.Additive.negative g.F.Ring.one;
@@ -196,7 +199,8 @@ returns-in_ok-all-in-Somewhere-left-3-clause-merged g c =
     let written : take q.len (new ++ drop (length new) q.items) ≡ new = take-written q.len q.items new q.ok.0 kept in
     let level = rw up at (powers-level ring inverse_root lg half table positive c.size_of-half.ensures c.requires.interpolation back c.split_at.ensures.back) in
     let count = length-level ring inverse_root lg half table positive c.size_of-half.ensures c.requires.interpolation back c.split_at.ensures.back_len in
-    let moved = value-moved ring E G P R (inverse_root lg) (2 ^ (lg - 1)) q.items new back (omega (arith, right_long, q.ok.0)) kept count level (rw c.deref_mut.ensures.value at c.in_ok-multiply_rows-in-Somewhere.ensures) in
+    let moved = value-moved ring E G P R (inverse_root lg) (2 ^ (lg - 1)) q.items new back (omega (arith, right_long, q.ok.0)) kept count level
+    (rw c.deref_mut.ensures.value at c.in_ok-multiply_rows-in-Somewhere.ensures) in
     rw (c.in-Somewhere.is, c.in-Somewhere-left-3.is) (record {
       factor = g.F.Ring.one;
       factor_is_not_zero = f.distinct;

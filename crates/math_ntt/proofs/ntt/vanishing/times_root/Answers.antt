@@ -30,7 +30,8 @@ loop-i-preserved g c =
       count = length-set cells i next ∙ inv.count;
       rest = written-rest zero (λ k x. Unit {0}) start cells i next inv.rest;
       values = λ r. rw (take_more_set cells i next within, take_more start i zero (omega arith), add-one)
-          (times_root-more F.Object.equality F.Additive.group F.Multiplicative.commutes F.Ring.ring c.args.root.now (get_or start i zero) c.in_ok-coefficient.coefficient c.in_ok-product.product c.root_product.new.coefficient
+          (times_root-more F.Object.equality F.Additive.group F.Multiplicative.commutes F.Ring.ring c.args.root.now
+          (get_or start i zero) c.in_ok-coefficient.coefficient c.in_ok-product.product c.root_product.new.coefficient
           c.loop-i.before next i (take i cells) (take i start) r (length-take-le i cells (omega arith)) (length-take-le i start (omega arith))
           (rw read c.in_ok-coefficient.ensures.ok) c.in_ok-product.ensures.ok c.in_ok-root_product.ensures.product c.in_ok-sub_assign.ensures.ok (inv.values r));
       butterflies = c.in_ok-root_product.ensures.butterflies ∙ inv.butterflies;

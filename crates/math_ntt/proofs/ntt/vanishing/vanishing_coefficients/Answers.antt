@@ -25,7 +25,8 @@ pub returns-in_ok-one-in-Nowhere-clause-vanishes : goal.returns-in_ok-one-in-Now
 returns-in_ok-one-in-Nowhere-clause-vanishes g c =
     let F = g.met.F in
     let whole = every-whole c.args.points.now (2 ^ c.args.lg) c.requires.points in
-    VanishesAt-respects F.Object.equality F.Additive.group F.Multiplicative.commutes F.Ring.ring (g.F.FieldNTT.root c.args.lg) c.args.points.now (λ r. g.F.Ring.one) _ c.in_ok-one-in-Nowhere.ensures.values
+    VanishesAt-respects F.Object.equality F.Additive.group F.Multiplicative.commutes F.Ring.ring (g.F.FieldNTT.root c.args.lg) c.args.points.now
+    (λ r. g.F.Ring.one) _ c.in_ok-one-in-Nowhere.ensures.values
     (rw (c.in-Nowhere.is, whole) at c.in_ok-piece.ensures.vanishes)
 
 pub returns-in-Somewhere-clause-vanishes : goal.returns-in-Somewhere-clause-vanishes

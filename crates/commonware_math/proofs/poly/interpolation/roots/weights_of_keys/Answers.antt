@@ -17,8 +17,10 @@ loop-key-preserved-in_ok-push-2 g c =
     record {
       taken_keys = grind (arith, common_steps, c.loop-key.invariant.taken_keys, c.in-Some.ensures.steps);
       taken_indices = grind (arith, common_steps, c.loop-key.invariant.taken_indices, c.in-Some.ensures.steps);
-      keys = weighted_keys-next ws ys c.loop-key.kept.items c.push-in-Some-get.new.self.items c.in-Some.key c.in-Some.index c.in-Some-get.weight.now found c.loop-key.invariant.keys c.in_ok-push-2.ensures.items;
-      weights = weighted_values-next g.F.Object.same g.F.Additive.zero ws ys c.loop-key.values.items c.push.new.self.items c.in-Some.key c.in-Some.index c.in-Some-get.weight.now c.in_ok-clone.field-0 found
+      keys = weighted_keys-next ws ys c.loop-key.kept.items c.push-in-Some-get.new.self.items c.in-Some.key c.in-Some.index c.in-Some-get.weight.now found c.loop-key.invariant.keys
+          c.in_ok-push-2.ensures.items;
+      weights = weighted_values-next g.F.Object.same g.F.Additive.zero ws ys c.loop-key.values.items c.push.new.self.items c.in-Some.key c.in-Some.index c.in-Some-get.weight.now
+          c.in_ok-clone.field-0 found
           c.in_ok-clone.ensures.ok c.loop-key.invariant.weights c.in_ok-push.ensures.items;
     }
 
@@ -27,7 +29,8 @@ returns-clause-keys g c =
     c.loop-key.invariant.keys
     ∙ ap (λ ps. keys_of (weighted_pairs c.args.weights.now ps))
     (pairs-all c.args.keys.items c.args.indices.items c.loop-key.yielded
-    (parts-all c.args.keys.items c.args.indices.items c.loop-key.yielded c.loop-key.key-iterator.a.rest.items c.loop-key.key-iterator.b.rest.items c.requires c.loop-key.invariant.taken_keys c.loop-key.invariant.taken_indices
+    (parts-all c.args.keys.items c.args.indices.items c.loop-key.yielded c.loop-key.key-iterator.a.rest.items c.loop-key.key-iterator.b.rest.items c.requires
+    c.loop-key.invariant.taken_keys c.loop-key.invariant.taken_indices
     (elim c.in-None.ensures.steps [
       | inl a ↦ inl (omega (arith, a.1.0, c.loop-key.key-iterator.a.rest.ok))
       | inr b ↦ inr (omega (arith, b.1.0, c.loop-key.key-iterator.b.rest.ok))
@@ -37,7 +40,8 @@ pub returns-clause-weights : goal.returns-clause-weights
 returns-clause-weights g c =
     subst (λ ps. AllZip (λ v i. g.F.Object.same v (weight_at g.F.Additive.zero c.args.weights.now i)) c.loop-key.values.items (values_of (weighted_pairs c.args.weights.now ps)))
     (pairs-all c.args.keys.items c.args.indices.items c.loop-key.yielded
-    (parts-all c.args.keys.items c.args.indices.items c.loop-key.yielded c.loop-key.key-iterator.a.rest.items c.loop-key.key-iterator.b.rest.items c.requires c.loop-key.invariant.taken_keys c.loop-key.invariant.taken_indices
+    (parts-all c.args.keys.items c.args.indices.items c.loop-key.yielded c.loop-key.key-iterator.a.rest.items c.loop-key.key-iterator.b.rest.items c.requires
+    c.loop-key.invariant.taken_keys c.loop-key.invariant.taken_indices
     (elim c.in-None.ensures.steps [
       | inl a ↦ inl (omega (arith, a.1.0, c.loop-key.key-iterator.a.rest.ok))
       | inr b ↦ inr (omega (arith, b.1.0, c.loop-key.key-iterator.b.rest.ok))

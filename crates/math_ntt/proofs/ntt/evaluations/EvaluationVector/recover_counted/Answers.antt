@@ -14,7 +14,8 @@ returns-in_err-recovered_cells-clause-most g c =
     let inner = c.matrix.inside in
     let self_is : evaluations inner.rows inner.cols inner.cells.items c.self.inside.filled ≡ c.args.self =
     ap (λ m. record { matrix = m; filled = c.self.inside.filled }) c.matrix.view_is ∙ c.self.view_is in
-    subst (λ (e : EvaluationsOf g.row.F.Denot). (m : ℕ) → e.matrix.rows ≡ 2 ^ m → AddsWithin (e.matrix.rows * m * (3 * m + 3 * e.matrix.cols + 2)) (128 * e.matrix.rows) c.args.work.now c.recovered_cells.new.work)
+    subst (λ (e : EvaluationsOf g.row.F.Denot). (m : ℕ) → e.matrix.rows ≡ 2 ^ m
+    → AddsWithin (e.matrix.rows * m * (3 * m + 3 * e.matrix.cols + 2)) (128 * e.matrix.rows) c.args.work.now c.recovered_cells.new.work)
     self_is (most-at_any inner.rows inner.cols c.lg_of-lg.result _ _ c.lg_of-lg.ensures.value c.in_err-recovered_cells.ensures.most)
 
 pub returns-clause-most : goal.returns-clause-most
@@ -22,7 +23,8 @@ returns-clause-most g c =
     let inner = c.matrix.inside in
     let self_is : evaluations inner.rows inner.cols inner.cells.items c.self.inside.filled ≡ c.args.self =
     ap (λ m. record { matrix = m; filled = c.self.inside.filled }) c.matrix.view_is ∙ c.self.view_is in
-    subst (λ (e : EvaluationsOf g.row.F.Denot). (m : ℕ) → e.matrix.rows ≡ 2 ^ m → AddsWithin (e.matrix.rows * m * (3 * m + 3 * e.matrix.cols + 2)) (128 * e.matrix.rows) c.args.work.now c.recovered_cells.new.work)
+    subst (λ (e : EvaluationsOf g.row.F.Denot). (m : ℕ) → e.matrix.rows ≡ 2 ^ m
+    → AddsWithin (e.matrix.rows * m * (3 * m + 3 * e.matrix.cols + 2)) (128 * e.matrix.rows) c.args.work.now c.recovered_cells.new.work)
     self_is (most-at_any inner.rows inner.cols c.lg_of-lg.result _ _ c.lg_of-lg.ensures.value c.in_ok-recovered_cells.ensures.most)
 
 pub returns-clause-exact : goal.returns-clause-exact
@@ -31,7 +33,8 @@ returns-clause-exact g c =
     let self_is : evaluations inner.rows inner.cols inner.cells.items c.self.inside.filled ≡ c.args.self =
     ap (λ m. record { matrix = m; filled = c.self.inside.filled }) c.matrix.view_is ∙ c.self.view_is in
     subst (λ (e : EvaluationsOf g.row.F.Denot). (m : ℕ) → e.matrix.rows ≡ 2 ^ m → IsExactWork m e c.args.work.now c.recovered_cells.new.work)
-    self_is (exact-at_any inner.rows inner.cols c.lg_of-lg.result inner.cells.items c.self.inside.filled _ _ c.lg_of-lg.ensures.value (rw c.deref_mut.ensures.value at c.in_ok-recovered_cells.ensures.exact))
+    self_is (exact-at_any inner.rows inner.cols c.lg_of-lg.result inner.cells.items c.self.inside.filled _ _ c.lg_of-lg.ensures.value
+    (rw c.deref_mut.ensures.value at c.in_ok-recovered_cells.ensures.exact))
 
 pub returns-clause-only : goal.returns-clause-only
 returns-clause-only g c =

@@ -15,4 +15,5 @@ returns-clause-each g c =
     let products = rw c.deref_mut.ensures.value at c.in_ok-multiply_rows.ensures in
     rw written
     (λ k l. let place : k * 1 + 0 ≡ k = omega arith in
-    subst (λ i. g.F.Object.same (get_or new i zero) (g.F.Multiplicative.product (get_or old i zero) (get_or c.args.factors.now k zero))) place (products k 0 (omega (arith, l, c.requires)) (omega arith)))
+    subst (λ i. g.F.Object.same (get_or new i zero) (g.F.Multiplicative.product (get_or old i zero) (get_or c.args.factors.now k zero))) place
+    (products k 0 (omega (arith, l, c.requires)) (omega arith)))

@@ -7,5 +7,6 @@ returns g c = (
   c.in_ok-polynomial.polynomial,
   c.in_ok-polynomial.ensures.count,
   c.in_ok-polynomial.ensures.values,
-  subst (λ a. g.F.Object.same c.in_ok-out.out (value g.F.Additive.zero g.F.Additive.sum g.F.Multiplicative.product g.F.Ring.one c.args.x.now a)) (c.deref.ensures.value ∙ c.polynomial.view_is) c.in_ok-out.ensures,
+  subst (λ a. g.F.Object.same c.in_ok-out.out (value g.F.Additive.zero g.F.Additive.sum g.F.Multiplicative.product g.F.Ring.one c.args.x.now a))
+      (c.deref.ensures.value ∙ c.polynomial.view_is) c.in_ok-out.ensures,
 )
