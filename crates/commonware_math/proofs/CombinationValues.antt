@@ -1,11 +1,10 @@
 -- The values of combinations under generators respect equality, sums and multiples.
-use Rattle.std.proofs.Common.{ℕ, ◌+◌, List, [], ◌∷◌, ◌++◌, map, length}
-use Rattle.std.specs.List.{range_with_len}
+use Rattle.std.proofs.Common.{ℕ, ◌+◌, List, [], ◌∷◌, ◌++◌, length}
 use Rattle.math_theory.specs.Laws.{IsEquality, IsGroup, IsProduct, IsRing, IsModule}
 use Rattle.math_theory.specs.ModuleLaws.{ring_is_module}
 use Rattle.math_theory.specs.Sums.{weighted_sum}
 use Rattle.math_theory.proofs.polynomials.Horner.{scaling_zero}
-use Rattle.commonware_math.specs.Synthetics.{weight_at, HaveSameWeights, AreSameCombinations, IsAdditiveMap, map_weights, combination_sum, combination_multiple, weights_from, value_under}
+use Rattle.commonware_math.specs.Synthetics.{HaveSameWeights, AreSameCombinations, IsAdditiveMap, map_weights, combination_sum, combination_multiple, weights_from, value_under}
 use Rattle.commonware_math.specs.SyntheticLaws.{exchange, weight_at-append, weight_at-map}
 
 module _ {A B : Type 0} {same_weight : A → A → Type 0} {zero_weight : A} {sum_weights : A → A → A} {negative_weight : A → A} {product : A → A → A} {one : A}

@@ -1,5 +1,5 @@
 -- Steps of loops at the points of a domain: powers of two as elements, repeated squares, differences, Horner's rule.
-use Rattle.std.proofs.Common.{◌≡◌, ℕ, suc, ◌+◌, ◌^◌, ◌<◌, List, [], ◌∷◌, ◌++◌, length, get_or, refl, sym, ◌∙◌, ap, add-one, arith}
+use Rattle.std.proofs.Common.{◌≡◌, ℕ, suc, ◌+◌, ◌^◌, ◌<◌, List, [], ◌∷◌, ◌++◌, length, get_or, refl, ◌∙◌, ap, add-one, arith}
 use Rattle.std.proofs.lemmas.List.{length-append, get_or_default}
 use Rattle.math_theory.specs.Laws.{IsEquality, IsGroup, IsMonoid, IsProduct, IsRing}
 use Rattle.math_theory.specs.Powers.{power, power-zero, power-suc}

@@ -1,13 +1,9 @@
 -- The loops of Horner's rule, up to the type's own equality: what is left of the coefficients and then what was made has the value.
 use Rattle.std.proofs.Common.{◌≡◌, ℕ, ◌+◌, ◌-◌, ◌<◌, ◌≤◌, List, [], ◌∷◌, ◌++◌, length, take, get_or, append_assoc, refl, arith}
 use Rattle.std.proofs.lemmas.List.{take_more, take_all}
-use Rattle.math_theory.specs.Laws.{IsEquality, IsGroup, IsModule, IsProduct, IsRing}
-use Rattle.math_theory.specs.Powers.{power, power-zero, power-suc}
+use Rattle.math_theory.specs.Laws.{IsEquality, IsGroup, IsModule, IsProduct}
 use Rattle.math_theory.specs.Values.{value_over}
 use Rattle.math_theory.proofs.polynomials.Horner.{scaling_zero, value_over-cons}
-use Rattle.math_theory.proofs.rings.Normal.{◌⊗◌, 𝟙, v0}
-use Rattle.math_theory.proofs.classes.RingUpToSame.{ring_same}
-use Rattle.math_theory.proofs.polynomials.ValuesRespect.{value_over-respects}
 use Rattle.math_poly.specs.PolynomialLaws.{sum_with_zero}
 
 module _ {A : Type 0} where

@@ -1,7 +1,5 @@
-use Rattle.std.proofs.Common.{◌≡◌, ◌∙◌, ℕ, List, map, sym, subst, arith}
-use Rattle.std.specs.Map.{keys_of, values_of}
-use Rattle.math_theory.specs.Interpolation.{AreWeightsAt}
-use Rattle.math_theory.specs.Powers.{power}
+use Rattle.std.proofs.Common.{◌≡◌, ◌∙◌, subst, arith}
+use Rattle.std.specs.Map.{keys_of}
 use Rattle.math_ntt.specs.RootWeights.{AreIndicesBelow}
 use Rattle.math_ntt.proofs.PresentIndices.{lg-only}
 use Rattle.math_ntt.proofs.RootWeightCases.{indices-of}

@@ -1,5 +1,4 @@
-use Rattle.std.proofs.Common.{◌≡◌, ◌∙◌, ◌<◌, List, ℕ, Bool, true, false, map, length, get_or, ap, sym, subst, arith}
-use Rattle.std.proofs.Math.ListN.{set}
+use Rattle.std.proofs.Common.{◌≡◌, ◌∙◌, ◌<◌, List, ℕ, Bool, true, map, length, get_or, ap, sym, subst, arith}
 use Rattle.std.proofs.lemmas.List.{length-set, get_or_read}
 use Rattle.math_theory.specs.Interpolation.{AreWeightsAt}
 use Rattle.math_theory.specs.Powers.{power}

@@ -1,5 +1,4 @@
-use Rattle.std.proofs.Common.{◌≡◌, inl, inr, arith}
-use Rattle.std.specs.Map.{keys_of, values_of}
+use Rattle.std.proofs.Common.{inl, inr, arith}
 use Rattle.math_ntt.proofs.PresentIndices.{parts-all}
 use Rattle.math_ntt.proofs.ntt.lagrange.indices.keyed.Goals as goal
 

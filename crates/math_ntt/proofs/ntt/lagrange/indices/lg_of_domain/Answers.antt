@@ -1,4 +1,4 @@
-use Rattle.std.proofs.Common.{◌-◌, ◌^◌, ◌≡◌, subst, ◌<◌}
+use Rattle.std.proofs.Common.{◌-◌, ◌^◌, subst}
 use Rattle.std.specs.Int.{IsNextPowerOfTwo}
 use Rattle.std.specs.Int.Count.{count_leading_zeros}
 use Rattle.math_ntt.proofs.PresentIndices.{lg-of_total}

@@ -1,4 +1,4 @@
-use Rattle.std.proofs.Common.{◌≡◌, ◌∙◌, Bool, true, false, get_or, ap, sym, arith}
+use Rattle.std.proofs.Common.{◌∙◌, ap, arith}
 use Rattle.math_ntt.proofs.PresentIndices.{read, places-true, places-false, places-all}
 use Rattle.math_ntt.proofs.ntt.lagrange.indices.present_indices.Goals as goal
 use Rattle.math_ntt.proofs.ntt.lagrange.indices.present_indices.Goals.{then-get+in_ok-push, else-get}

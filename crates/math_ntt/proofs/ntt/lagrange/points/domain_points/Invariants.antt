@@ -1,4 +1,3 @@
-use Rattle.std.proofs.Common.{◌≡◌, ◌<◌}
 use Rattle.math_theory.specs.Powers.{power}
 use Rattle.math_ntt.proofs.RootWeightSteps.{ItemsSoFar}
 use Rattle.math_ntt.proofs.ntt.lagrange.points.domain_points.Given as goal

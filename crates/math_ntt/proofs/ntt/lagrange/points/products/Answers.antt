@@ -1,4 +1,4 @@
-use Rattle.std.proofs.Common.{◌≡◌, ◌∙◌, ◌<◌, ◌+◌, ◌*◌, ℕ, ◌++◌, length, take, drop, get_or, ap, subst, arith}
+use Rattle.std.proofs.Common.{◌≡◌, ◌∙◌, ◌+◌, ◌*◌, ◌++◌, length, take, drop, get_or, ap, subst, arith}
 use Rattle.math_base.proofs.WholeWrites.{take-written}
 use Rattle.math_ntt.proofs.ntt.lagrange.points.products.Goals as goal
 

@@ -1,4 +1,4 @@
-use Rattle.std.proofs.Common.{subst, sym, ◌∙◌}
+use Rattle.std.proofs.Common.{subst, ◌∙◌}
 use Rattle.math_theory.specs.Values.{value}
 use Rattle.math_ntt.proofs.ntt.lagrange.points.value_at.Goals as goal
 
