@@ -156,8 +156,8 @@ pub fn run(alloc: Global, words: &[String], bytes: &[u8]) -> Result<Vec<u8>, Too
     ensures recover { (lg : ℕ) (rows : List ℕ) → AreRecoverWords (map string_bytes words.now) lg rows
         → IfOk result (λ out. (m : MatrixOf F) × IsEncodedMatrix bytes.now m × EncodesRecovered lg rows m out.items) }
     ensures recover_encoded { (lg : ℕ) (rows : List ℕ) (m : MatrixOf F)
-        → AreRecoverWords (map string_bytes words.now) lg rows → IsEncodedMatrix bytes.now m → HasSize lg (length rows) m
-        → MatchResult result (λ out. EncodesRecovered lg rows m out.items) IsOutOfMemory }
+        → AreRecoverWords (map string_bytes words.now) lg rows → IsEncodedMatrix bytes.now m
+        → HasSize lg (length rows) m → MatchResult result (λ out. EncodesRecovered lg rows m out.items) IsOutOfMemory }
 
     // `recover`: which fault of the bytes it is.
     ensures recover_exact { (lg : ℕ) (rows : List ℕ) → AreRecoverWords (map string_bytes words.now) lg rows

@@ -267,7 +267,8 @@ pub trait FieldNTT: Field {
 
     /// The order of each root is exactly 2^lg, each is the square of the next, the shift is no power of
     /// any of them, and a half twice is the value.
-    ghost roots: { HasRootsOfUnity Self.same Self.zero Self.sum Self.product Self.one MAX_LG_ROOT_ORDER root shift half };
+    ghost roots: { HasRootsOfUnity Self.same Self.zero Self.sum Self.product Self.one
+        MAX_LG_ROOT_ORDER root shift half };
 }
 
 /// A module over a ring, whose elements are scaled from the right.
