@@ -1,9 +1,9 @@
 //! Values of polynomials at the points of a domain.
 
-ghost use Rattle.std.specs.Prelude.{◌≡◌, ◌↔◌, ◌*◌, ◌<◌, ◌≤◌, ◌^◌, IsTrue, IsOk, IfOk, OnOk, OnErr, length, replicate, false};
+ghost use Rattle.std.specs.Prelude.{◌≡◌, ◌↔◌, ◌*◌, ◌<◌, ◌≤◌, ◌^◌, IsTrue, IsOk, IfOk, OnOk, OnErr, Some, length, replicate, slice_get, false};
 ghost use Rattle.std.specs.List.{All};
 ghost use Rattle.math_theory.specs.Recovery.{count_true};
-ghost use Rattle.math_ntt.specs.Matrices.{IsOfSize};
+ghost use Rattle.math_ntt.specs.Matrices.{row_of, IsOfSize};
 ghost use Rattle.math_ntt.specs.Evaluations.{IsFilledAt, AreSameEvaluations};
 
 use super::matrix::{Matrix, copies, filled_up};
@@ -79,6 +79,23 @@ impl<F: Drop> EvaluationVector<F> {
         ensures { result ≡ self.matrix }
     {
         self.matrix
+    }
+
+    /// Row i of the cells, whether it is filled or not; i is below the number of rows.
+    pub fn row(&self, i: usize) -> &[F]
+        requires { i < self.now.matrix.rows }
+        ensures row { result.now ≡ row_of self.now.matrix i }
+        ensures count { length result.now ≡ self.now.matrix.cols }
+    {
+        self.matrix.row(i)
+    }
+
+    /// Whether row i is filled; i is below the number of rows.
+    pub fn is_filled(&self, i: usize) -> bool
+        requires { i < self.now.matrix.rows }
+        ensures { slice_get self.now.filled i ≡ Some result }
+    {
+        self.filled.get(i as u64)
     }
 
     /// How many distinct rows are filled.

@@ -1,0 +1,114 @@
+-- What is wrong with shards: one error at most, and none but want of memory where they join to data.
+use Rattle.std.proofs.Common.{◌≡◌, ℕ, ◌<◌, ◌≤◌, ◌⊎◌, inl, inr, List, [], ◌∷◌, ◌++◌, length, drop, get_or, Result, Ok, Err, refl, sym, ◌∙◌, ap, subst, arith}
+use Rattle.std.specs.List.{All}
+use Rattle.std.specs.Result.{IfErr, IfOk}
+use Rattle.std.proofs.lemmas.List.Elements.{All-head, All-tail}
+use Rattle.math_shards.specs.declared.shards.Error.{Error}
+use Rattle.math_shards.specs.declared.shards.Error.TheVariants.{Memory, TooFew, Mismatch, Index, Conflict, Inconsistent}
+use Rattle.math_shards.specs.declared.shards.Shard.{Shard}
+use Rattle.math_shards.specs.Joining.{HasUnsound, IsDue, IsDueBeside, IsMemory, IsSound, Matches, RefusesExactly}
+use Rattle.math_shards.specs.Shards.{JoinTo, distinct_indices}
+use Rattle.math_shards.proofs.JoinedShards.{joined_first, joined_no_conflict, joined_some, joined_sound}
+
+-- what has not the numbers of the first is not sound
+mismatched : (first s : Shard) → ¬ (Matches first s) → ¬ (IsSound first s)
+mismatched first s apart sound = apart sound.0
+
+-- nor is what has an index out of range
+out_of_range : (first s : Shard) → Matches first s × (s.total ≤ s.index) → ¬ (IsSound first s)
+out_of_range first s fault sound = omega (arith, fault.1, sound.1)
+
+-- each shard is sound, where all are
+sound_within : (first : Shard) (before : List Shard) (s : Shard) (after : List Shard) → All (IsSound first) (before ++ s ∷ after) → IsSound first s
+sound_within first [] s after h = All-head (IsSound first) s after h
+sound_within first (b ∷ before) s after h = sound_within first before s after (All-tail (IsSound first) b (before ++ s ∷ after) h)
+
+all_sound : (first : Shard) (P : Shard → Type 0) (shards : List Shard) → ((s : Shard) → P s → ¬ (IsSound first s)) → HasUnsound first P shards → ¬ (All (IsSound first) shards)
+all_sound first P shards fault h sound = fault h.found h.fault (sound_within first h.before h.found h.after (subst (All (IsSound first)) h.parts sound))
+
+-- there is one first shard that is not sound
+first_unsound : (first : Shard) (before : List Shard) (s : Shard) (after others : List Shard) (t : Shard) (rest : List Shard) → before ++ s ∷ after ≡ others ++ t ∷ rest
+    → All (IsSound first) before → All (IsSound first) others → ¬ (IsSound first s) → ¬ (IsSound first t) → s ≡ t
+first_unsound first [] s after [] t rest e h k p q = ap (λ xs. get_or xs 0 s) e
+first_unsound first [] s after (o ∷ others) t rest e h k p q =
+    absurd (p (subst (IsSound first) (sym (ap (λ xs. get_or xs 0 s) e)) (All-head (IsSound first) o others k)))
+first_unsound first (b ∷ before) s after [] t rest e h k p q = absurd (q (subst (IsSound first) (ap (λ xs. get_or xs 0 s) e) (All-head (IsSound first) b before h)))
+first_unsound first (b ∷ before) s after (o ∷ others) t rest e h k p q =
+    first_unsound first before s after others t rest (ap (drop 1) e) (All-tail (IsSound first) b before h) (All-tail (IsSound first) o others k) p q
+
+-- it has other numbers, or an index out of range, and not both
+one_fault : (first : Shard) (shards : List Shard) → HasUnsound first (λ s. ¬ (Matches first s)) shards → ¬ (HasUnsound first (λ s. Matches first s × (s.total ≤ s.index)) shards)
+one_fault first shards h k =
+    let e : h.found ≡ k.found = first_unsound first h.before h.found h.after k.before k.found k.after (sym h.parts ∙ k.parts) h.sound k.sound
+    (mismatched first h.found h.fault) (out_of_range first k.found k.fault) in
+    h.fault (subst (Matches first) (sym e) k.fault.0)
+
+-- where shards join to data, only memory can be wanting
+pub joined_not_due : (words : List ℕ) (shards : List Shard) → JoinTo words shards → (e : Error) → IsDue shards e → IsMemory e
+joined_not_due words [] j e due = absurd (omega (arith, joined_some words [] j))
+joined_not_due words (first ∷ rest) j (Memory a) due = tt
+joined_not_due words (first ∷ rest) j Mismatch due =
+    all_sound first (λ s. ¬ (Matches first s)) (first ∷ rest) (mismatched first) due (joined_sound words (first ∷ rest) j first (joined_first words first rest j))
+joined_not_due words (first ∷ rest) j Index due =
+    all_sound first (λ s. Matches first s × (s.total ≤ s.index)) (first ∷ rest) (out_of_range first) due (joined_sound words (first ∷ rest) j first (joined_first words first rest j))
+joined_not_due words (first ∷ rest) j Conflict due = joined_no_conflict words (first ∷ rest) j due.1
+joined_not_due words (first ∷ rest) j TooFew due =
+    let f = joined_first words first rest j in
+    let enough : first.min ≤ distinct_indices first.total (first ∷ rest) = rw (f.least, f.most) j.enough in
+    omega (arith, enough, due.1)
+joined_not_due words (first ∷ rest) j Inconsistent due = due.2 words j
+
+-- besides that, one error at most is due
+pub one_due : (shards : List Shard) (e f : Error) → ¬ (IsMemory e) → IsDue shards e → IsDue shards f → (f ≡ e) ⊎ IsMemory f
+one_due shards (Memory a) f other d k = absurd (other tt)
+one_due [] TooFew (Memory a) other d k = inr tt
+one_due [] TooFew TooFew other d k = inl refl
+one_due [] TooFew Mismatch other d k = absurd k
+one_due [] TooFew Index other d k = absurd k
+one_due [] TooFew Conflict other d k = absurd k
+one_due [] TooFew Inconsistent other d k = absurd k
+one_due [] Mismatch f other d k = absurd d
+one_due [] Index f other d k = absurd d
+one_due [] Conflict f other d k = absurd d
+one_due [] Inconsistent f other d k = absurd d
+one_due (first ∷ rest) Mismatch (Memory a) other d k = inr tt
+one_due (first ∷ rest) Mismatch Mismatch other d k = inl refl
+one_due (first ∷ rest) Mismatch Index other d k = absurd (one_fault first (first ∷ rest) d k)
+one_due (first ∷ rest) Mismatch Conflict other d k = absurd (all_sound first _ (first ∷ rest) (mismatched first) d k.0)
+one_due (first ∷ rest) Mismatch TooFew other d k = absurd (all_sound first _ (first ∷ rest) (mismatched first) d k.0.0)
+one_due (first ∷ rest) Mismatch Inconsistent other d k = absurd (all_sound first _ (first ∷ rest) (mismatched first) d k.0.0)
+one_due (first ∷ rest) Index (Memory a) other d k = inr tt
+one_due (first ∷ rest) Index Mismatch other d k = absurd (one_fault first (first ∷ rest) k d)
+one_due (first ∷ rest) Index Index other d k = inl refl
+one_due (first ∷ rest) Index Conflict other d k = absurd (all_sound first _ (first ∷ rest) (out_of_range first) d k.0)
+one_due (first ∷ rest) Index TooFew other d k = absurd (all_sound first _ (first ∷ rest) (out_of_range first) d k.0.0)
+one_due (first ∷ rest) Index Inconsistent other d k = absurd (all_sound first _ (first ∷ rest) (out_of_range first) d k.0.0)
+one_due (first ∷ rest) Conflict (Memory a) other d k = inr tt
+one_due (first ∷ rest) Conflict Mismatch other d k = absurd (all_sound first _ (first ∷ rest) (mismatched first) k d.0)
+one_due (first ∷ rest) Conflict Index other d k = absurd (all_sound first _ (first ∷ rest) (out_of_range first) k d.0)
+one_due (first ∷ rest) Conflict Conflict other d k = inl refl
+one_due (first ∷ rest) Conflict TooFew other d k = absurd (k.0.1 d.1)
+one_due (first ∷ rest) Conflict Inconsistent other d k = absurd (k.0.1 d.1)
+one_due (first ∷ rest) TooFew (Memory a) other d k = inr tt
+one_due (first ∷ rest) TooFew Mismatch other d k = absurd (all_sound first _ (first ∷ rest) (mismatched first) k d.0.0)
+one_due (first ∷ rest) TooFew Index other d k = absurd (all_sound first _ (first ∷ rest) (out_of_range first) k d.0.0)
+one_due (first ∷ rest) TooFew Conflict other d k = absurd (d.0.1 k.1)
+one_due (first ∷ rest) TooFew TooFew other d k = inl refl
+one_due (first ∷ rest) TooFew Inconsistent other d k = absurd (omega (arith, d.1, k.1))
+one_due (first ∷ rest) Inconsistent (Memory a) other d k = inr tt
+one_due (first ∷ rest) Inconsistent Mismatch other d k = absurd (all_sound first _ (first ∷ rest) (mismatched first) k d.0.0)
+one_due (first ∷ rest) Inconsistent Index other d k = absurd (all_sound first _ (first ∷ rest) (out_of_range first) k d.0.0)
+one_due (first ∷ rest) Inconsistent Conflict other d k = absurd (d.0.1 k.1)
+one_due (first ∷ rest) Inconsistent TooFew other d k = absurd (omega (arith, d.1, k.1))
+one_due (first ∷ rest) Inconsistent Inconsistent other d k = inl refl
+
+-- so an answer that is data of the shards or an error that is due is each error exactly where that is due
+pub refuses_exactly : {X : Type 0} (items : X → List ℕ) (result : Result X Error) (shards : List Shard) (e : Error) → ¬ (IsMemory e)
+    → IfOk result (λ v. JoinTo (items v) shards) → IfErr result (IsDue shards) → RefusesExactly result shards e
+refuses_exactly items (Ok v) shards e other ok err = (λ q. subst (λ r. IfErr r (IsDue shards)) q err, λ due. other (joined_not_due (items v) shards ok e due))
+refuses_exactly items (Err f) shards e other ok err = (λ q. subst (λ r. IfErr r (IsDue shards)) q err, λ due. one_due shards e f other due err)
+
+-- what is wrong with the shards is said beside the first of them
+pub due_beside : (first : Shard) (shards : List Shard) (e : Error) → 0 < length shards → get_or shards 0 first ≡ first → IsDueBeside first shards e → IsDue shards e
+due_beside first [] e some is due = absurd (omega (arith, some))
+due_beside first (s ∷ rest) e some is due = subst (λ t. IsDueBeside t (s ∷ rest) e) (sym is) due

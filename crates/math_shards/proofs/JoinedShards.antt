@@ -1,0 +1,71 @@
+-- Shards of some data: they are sound, no two of them are in conflict, and enough of them are there.
+use Rattle.std.proofs.Common.{◌≡◌, ℕ, ◌-◌, ◌<◌, ◌≤◌, ◌^◌, List, [], ◌∷◌, length, sym, ◌∙◌, ap, subst, arith}
+use Rattle.std.specs.Int.{IsNextPowerOfTwo}
+use Rattle.std.specs.List.{All, AllZip}
+use Rattle.std.proofs.lemmas.List.Elements.{All-head, All-weaker}
+use Rattle.std.specs.Int.Count.{count_leading_zeros}
+use Rattle.math_base.specs.Elements.{number, residue, same}
+use Rattle.math_ntt.specs.Matrices.{column_of}
+use Rattle.math_ntt.proofs.PresentIndices.{lg-of_total, lg-only}
+use Rattle.math_shards.specs.declared.shards.Shard.{Shard}
+use Rattle.math_shards.specs.Joining.{HaveConflict, IsSound}
+use Rattle.math_shards.specs.Shards.{IsShardOf, JoinTo, rows_for, value_at, width_for}
+use Rattle.math_shards.proofs.FilledShards.{no_indices}
+use Rattle.math_shards.proofs.SameCells.{same_by_items}
+
+-- the least domain of `total` points
+pub domain_of : (total : ℕ) → 1 ≤ total → total < 2 ^ 32 → (lg : ℕ) × IsNextPowerOfTwo total (2 ^ lg) × (lg ≤ 32)
+domain_of total some short = (32 - count_leading_zeros 32 (total - 1), lg-of_total total (omega (arith, some)) (omega (arith, short)), omega arith)
+
+-- it has at most 2^32
+pub domain_is_small : (total lg : ℕ) → 1 ≤ total → total < 2 ^ 32 → IsNextPowerOfTwo total (2 ^ lg) → lg ≤ 32
+domain_is_small total lg some short next =
+    let domain = domain_of total some short in
+    let e : lg ≡ domain.0 = lg-only total lg domain.0 (omega (arith, some)) next domain.1 in
+    omega (arith, e, domain.2)
+
+-- shards of one index for the same data have same cells
+pub same_shards : (words : List ℕ) (min total lg : ℕ) (s t : Shard) → IsNextPowerOfTwo total (2 ^ lg) → IsShardOf words min total s → IsShardOf words min total t → s.index ≡ t.index
+    → AllZip same s.cells.items t.cells.items
+same_shards words min total lg s t next h k e =
+    same_by_items (width_for min words) s.cells.items t.cells.items h.count k.count
+    (λ i l. h.values lg i next l ∙ ap (λ n. number (value_at lg (column_of (residue 0) (rows_for min words) i) n)) e ∙ sym (k.values lg i next l))
+
+-- shards that join to data are not none
+pub joined_some : (words : List ℕ) (shards : List Shard) → JoinTo words shards → 0 < length shards
+joined_some words [] j = absurd (omega (arith, j.some, j.enough, no_indices j.total))
+joined_some words (s ∷ shards) j = omega arith
+
+-- the first of them is one of the data
+pub joined_first : (words : List ℕ) (first : Shard) (rest : List Shard) (j : JoinTo words (first ∷ rest)) → IsShardOf words j.min j.total first
+joined_first words first rest j = All-head (IsShardOf words j.min j.total) first rest j.each
+
+-- they are of the data by these numbers
+pub joined_numbers : (words : List ℕ) (shards : List Shard) (j : JoinTo words shards) (min total : ℕ) → j.min ≡ min → j.total ≡ total → All (IsShardOf words min total) shards
+joined_numbers words shards j min total e f = subst (λ n. All (IsShardOf words n total) shards) e (subst (λ t. All (IsShardOf words j.min t) shards) f j.each)
+
+-- each of them has the numbers of each other
+pub joined_sound : (words : List ℕ) (shards : List Shard) (j : JoinTo words shards) (first : Shard) → IsShardOf words j.min j.total first → All (IsSound first) shards
+joined_sound words shards j first f =
+    All-weaker (IsShardOf words j.min j.total) (IsSound first)
+    (λ s h. (
+      record {
+        least = h.least ∙ sym f.least;
+        most = h.most ∙ sym f.most;
+        count = h.count ∙ sym f.count;
+        some = omega (arith, h.least, j.some);
+        within = omega (arith, h.least, h.most, j.within);
+      },
+      omega (arith, h.index, h.most),
+    )) shards j.each
+
+-- and no two of one index have unequal cells
+pub joined_no_conflict : (words : List ℕ) (shards : List Shard) → JoinTo words shards → ¬ (HaveConflict shards)
+joined_no_conflict words shards j conflict =
+    let (lg, next, small) = domain_of j.total (omega (arith, j.some, j.within)) j.short in
+    let s = conflict.1 in
+    let other = conflict.4 in
+    let t = other.1 in
+    let here : IsShardOf words j.min j.total s = rw (sym conflict.3) (j.each conflict.0 s conflict.2) in
+    let there : IsShardOf words j.min j.total t = rw (sym other.3) (j.each other.0 t other.2) in
+    other.4.1 (same_shards words j.min j.total lg t s next there here other.4.0)

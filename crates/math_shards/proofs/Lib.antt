@@ -1,0 +1,15 @@
+pub mod SameCells
+pub mod CheckedSizes
+pub mod TakenCells
+pub mod PackedData
+pub mod SoundShards
+pub mod GatheredShards
+pub mod FilledShards
+pub mod JoinedShards
+pub mod DueErrors
+pub mod ShardRows
+pub mod RecoveredShards
+pub mod OnlyData
+pub mod LaidOutData
+pub mod RecoveredData
+pub mod SplitShards

@@ -1,0 +1,87 @@
+-- The rows that data fill: their cells, and matrices whose columns are the same polynomials.
+use Rattle.std.proofs.Common.{◌≡◌, ℕ, zero, suc, ◌+◌, ◌-◌, ◌*◌, ◌/◌, ◌%◌, ◌<◌, ◌≤◌, List, length, map, take, get_or, replicate, refl, sym, ◌∙◌, ap, ap₂, mul-zero, arith}
+use Rattle.std.proofs.Math.Nat.{mul_comm}
+use Rattle.std.proofs.lemmas.List.{get_or-take, length-append, length-replicate, length-take-le}
+use Rattle.std.proofs.lemmas.Nat.{mul-le}
+use Rattle.math_numbers.proofs.BitPieces.{piece_count-enough}
+use Rattle.math_theory.specs.Coefficients.{HaveSameCoefficients}
+use Rattle.math_theory.specs.Values.{value}
+use Rattle.math_theory.proofs.classes.Classes.{class, class_same, same_class, ring_of_classes}
+use Rattle.math_theory.proofs.classes.ClassesOfLists.{coefficient-class, value-class}
+use Rattle.math_theory.proofs.polynomials.Coefficients.{value-HaveSameCoefficients}
+use Rattle.math_base.specs.declared.fields.goldilocks.F.{F}
+use Rattle.math_base.specs.ElementLaws.{equality, group, commutes, ring}
+use Rattle.math_base.specs.Elements.{number, residue, same, sum, product}
+use Rattle.math_ntt.specs.MatrixPlaces.{IsFull}
+use Rattle.math_ntt.specs.Matrices.{AreSame, IsOfSize, MatrixOf, column_of}
+use Rattle.math_ntt.specs.PolynomialRows.{HaveSamePolynomials}
+use Rattle.math_ntt.proofs.PaddedPolynomials.{column-cell}
+use Rattle.math_shards.specs.Joining.{ArePolynomialsOf}
+use Rattle.math_shards.specs.Shards.{elements_for, rows_for, width_for}
+use Rattle.math_shards.proofs.SameCells.{nought, same_are_equal, same_by_items}
+
+-- polynomials with the same coefficients have the same value at each point
+pub same_values : (r : F) (p q : List F) → HaveSameCoefficients same nought p q → same (value nought sum product (residue 1) r p) (value nought sum product (residue 1) r q)
+same_values r p q h =
+    same_class equality _ _
+    (sym (value-class equality group commutes ring r p)
+    ∙ value-HaveSameCoefficients (ring_of_classes equality group commutes ring) (class equality r) (map (class equality) p) (map (class equality) q)
+    (λ i. coefficient-class equality group commutes ring p i ∙ class_same equality _ _ (h i) ∙ sym (coefficient-class equality group commutes ring q i))
+    ∙ value-class equality group commutes ring r q)
+
+-- the rows hold all elements, and zeros where some cells are left
+pub rows_are_whole : (min : ℕ) (words : List ℕ) → 1 ≤ min → IsFull (rows_for min words)
+rows_are_whole min words some =
+    let n = length (elements_for words) in
+    let all = min * width_for min words in
+    omega (arith, piece_count-enough min n (omega (arith, some)), length-append (elements_for words) (replicate (all - n) nought), length-replicate (all - n) nought)
+
+-- where the columns are the same polynomials, so are the cells of the rows that both have
+same_cells_at : (rows : ℕ) (q m : MatrixOf F) → IsFull q → IsFull m → q.cols ≡ m.cols → HaveSamePolynomials same nought q m
+    → (cols : ℕ) → m.cols ≡ cols → (n : ℕ) → n < rows * cols → same (get_or q.cells n nought) (get_or m.cells n nought)
+same_cells_at rows q m h k e columns zero f n l = absurd (omega (arith, l, mul-zero rows))
+same_cells_at rows q m h k e columns (suc c) f n l =
+    let i = n / suc c in
+    let j = n % suc c in
+    let within : j < m.cols = omega (arith, f) in
+    ap (λ p. number (get_or q.cells p nought)) (sym (place n q (e ∙ f)))
+    ∙ sym (ap number (column-cell equality nought q j i (omega (arith, within, e)) h))
+    ∙ columns j within i
+    ∙ ap number (column-cell equality nought m j i within k)
+    ∙ ap (λ p. number (get_or m.cells p nought)) (place n m f)
+  where
+    place : (n : ℕ) (m : MatrixOf F) → m.cols ≡ suc c → (n / suc c) * m.cols + n % suc c ≡ n
+    place n m e = rw e (omega (arith, mul_comm (n / suc c) (suc c)))
+
+-- so matrices of one size whose columns are the same polynomials are same
+pub same_by_columns : (r c : ℕ) (q m : MatrixOf F) → IsOfSize q r c → IsOfSize m r c → HaveSamePolynomials same nought q m → AreSame same q m
+same_by_columns r c q m size other columns =
+    let full : IsFull q = size.2 ∙ sym (ap₂ (λ x y. x * y) size.0 size.1) in
+    let whole : IsFull m = other.2 ∙ sym (ap₂ (λ x y. x * y) other.0 other.1) in (
+      size.0 ∙ sym other.0,
+      size.1 ∙ sym other.1,
+      same_by_items (r * c) q.cells m.cells size.2 other.2 (λ i l. same_cells_at r q m full whole (size.1 ∙ sym other.1) columns c other.1 i l),
+    )
+
+-- and same matrices have the same columns
+pub columns_of_same : (q m : MatrixOf F) → AreSame same q m → HaveSamePolynomials same nought q m
+columns_of_same q m h = λ k l i.
+    ap (λ (n : MatrixOf F). number (get_or (column_of nought n k) i nought)) (ap₂ (λ (size : ℕ × ℕ) cells. record { rows = size.0; cols = size.1; cells = cells }) (ap₂ (λ (r c : ℕ). (r, c)) h.0 h.1) (same_are_equal q.cells m.cells h.2))
+
+-- matrices that have the columns of m have the same ones
+pub columns_through : (p q m : MatrixOf F) → q.cols ≡ m.cols → HaveSamePolynomials same nought p m → HaveSamePolynomials same nought q m → HaveSamePolynomials same nought p q
+columns_through p q m e g h = λ k l i. let b : k < m.cols = omega (arith, l, e) in g k b i ∙ sym (h k b i)
+
+-- and the first cells of a matrix whose columns are the polynomials of data are those of the rows
+pub cells_of_recovered : (words : List ℕ) (min r width : ℕ) (q : MatrixOf F) → 1 ≤ min → min ≤ r → IsOfSize q r width → ArePolynomialsOf words min q
+    → take (min * q.cols) q.cells ≡ (rows_for min words).cells
+cells_of_recovered words min r width q some enough size same_as =
+    let m = rows_for min words in
+    let n = min * q.cols in
+    let whole : IsFull m = rows_are_whole min words some in
+    let full : IsFull q = size.2 ∙ sym (ap₂ (λ x y. x * y) size.0 size.1) in
+    let all : n ≤ q.rows * q.cols = mul-le min q.cols q.rows q.cols (omega (arith, enough, size.0)) (omega arith) in
+    let cols : n ≡ min * m.cols = ap (λ c. min * c) same_as.0 in
+    same_are_equal (take n q.cells) m.cells
+    (same_by_items n (take n q.cells) m.cells (length-take-le n q.cells (omega (arith, all, full))) (whole ∙ sym cols)
+    (λ i b. ap number (get_or-take n q.cells i nought b) ∙ same_cells_at min q m full whole same_as.0 same_as.1 m.cols refl i (omega (arith, b, cols))))

@@ -1,0 +1,4 @@
+pub mod Shards
+pub mod Joining
+pub mod ShardEncoding
+pub mod ShardEncodingLaws

@@ -1,0 +1,1 @@
+//! Theorems about shards.

@@ -1,0 +1,191 @@
+//! Shards to data.
+
+ghost use Rattle.std.specs.Prelude.{◌≡◌, ◌↔◌, ◌+◌, ◌*◌, ◌<◌, ◌≤◌, ◌^◌, ◌++◌, ℕ, List, All, length, take, IsTrue, IsSome, IfOk, IfErr, IfSome, OnOk, MatchResult, ◌⊎◌};
+ghost use Rattle.std.specs.Int.{IsNextPowerOfTwo, IsPowerOfTwo};
+ghost use Rattle.std.specs.List.{AllZip};
+ghost use Rattle.math_base.specs.Elements.{same};
+ghost use Rattle.math_base.specs.Packing.{words_of};
+ghost use Rattle.math_ntt.specs.Evaluations.{IsFilledAt};
+ghost use Rattle.math_ntt.specs.Matrices.{IsOfSize};
+ghost use Rattle.math_shards.specs.Shards.{counted, JoinTo};
+ghost use Rattle.math_shards.specs.Joining.{ArePolynomialsOf, HoldsIfFilled, HoldsOthers, HoldsShards, IsDue, IsDueBeside, IsMemory, IsSound, Matches, RefusesExactly};
+ghost use Rattle.math_shards.specs.declared.shards.Error.TheVariants.{TooFew, Mismatch, Index, Conflict, Inconsistent};
+
+use super::layout::{laid_out, polynomials};
+use super::{Error, Shard};
+use math_base::algebra::Mem;
+use math_base::fields::goldilocks::F;
+use math_ntt::ntt::{EvaluationVector, PolynomialVector};
+use std::alloc::{AllocError, Global};
+
+/// The data that have each of the shards.
+pub fn join(alloc: Global, shards: &[Shard]) -> Result<Vec<u64>, Error>
+    ensures ok { IfOk result (λ words. JoinTo words.items shards.now) }
+    ensures found { (words : List ℕ) → JoinTo words shards.now
+        → MatchResult result (λ answer. answer.items ≡ words) IsMemory }
+    ensures too_few { RefusesExactly result shards.now TooFew }
+    ensures mismatch { RefusesExactly result shards.now Mismatch }
+    ensures index { RefusesExactly result shards.now Index }
+    ensures conflict { RefusesExactly result shards.now Conflict }
+    ensures inconsistent { RefusesExactly result shards.now Inconsistent }
+{
+    joined(alloc, shards)
+}
+
+/// What `join` answers.
+fn joined(alloc: Global, shards: &[Shard]) -> Result<Vec<u64>, Error>
+    ensures ok { IfOk result (λ words. JoinTo words.items shards.now) }
+    ensures err { IfErr result (IsDue shards.now) }
+{
+    let Some(first) = shards.first() else {
+        return Err(Error::TooFew);
+    };
+    check_numbers(shards, first)?;
+    let values = gathered(alloc, shards, first)?;
+    if values.filled_rows() < first.min as usize {
+        return Err(Error::TooFew);
+    }
+    let recovered = values.recover(alloc)?;
+    let Some(data) = data_in(alloc, &recovered, first.min)? else {
+        return Err(Error::Inconsistent);
+    };
+    if !are_of(alloc, &recovered, &data, first)? {
+        return Err(Error::Inconsistent);
+    }
+    Ok(data)
+}
+
+/// Whether the numbers and the number of cells are those of the first shard, and such as shards have.
+fn matches(first: &Shard, shard: &Shard) -> bool
+    ensures { IsTrue result ↔ Matches first.now shard.now }
+{
+    shard.min == first.min
+        && shard.total == first.total
+        && shard.cells.len() == first.cells.len()
+        && 1 <= shard.min
+        && shard.min <= shard.total
+}
+
+/// Refuses the first shard that does not match the first one, or whose index is out of range.
+fn check_numbers(shards: &[Shard], first: &Shard) -> Result<(), Error>
+    ensures ok { IfOk result (λ _. All (IsSound first.now) shards.now) }
+    ensures err { IfErr result (IsDueBeside first.now shards.now) }
+{
+    for shard in shards {
+        if !matches(first, shard) {
+            return Err(Error::Mismatch);
+        }
+        if shard.index >= shard.total {
+            return Err(Error::Index);
+        }
+    }
+    Ok(())
+}
+
+/// Whether both have the same cells.
+fn are_equal(cells: &[F], others: &[F]) -> bool
+    requires { length cells.now ≡ length others.now }
+    ensures { IsTrue result ↔ AllZip same cells.now others.now }
+{
+    for (i, cell) in cells.iter().enumerate() {
+        if *cell != others[i] {
+            return false;
+        }
+    }
+    true
+}
+
+/// The exponent of a power of two.
+fn lg_of(points: usize) -> usize
+    requires { IsPowerOfTwo points }
+    ensures value { points ≡ 2 ^ result }
+    ensures small { result < 64 }
+{
+    points.trailing_zeros() as usize
+}
+
+/// The vector of values in which the row of each shard's index is filled with its cells.
+fn gathered(alloc: Global, shards: &[Shard], first: &Shard) -> Result<EvaluationVector<F>, Error>
+    requires { All (IsSound first.now) shards.now }
+    ensures ok { IfOk result (λ e. (lg : ℕ) × IsNextPowerOfTwo first.now.total (2 ^ lg)
+        × HoldsShards lg (length first.now.cells.items) shards.now e) }
+    ensures total { IfOk result (λ _. first.now.total < 2 ^ 32) }
+    ensures err { IfErr result (IsDueBeside first.now shards.now) }
+{
+    let points = (first.total as usize).next_power_of_two();
+    let cols = first.cells.len();
+    if points.checked_mul(cols).is_none() {
+        return Err(Error::Memory(AllocError));
+    }
+    let mut values = EvaluationVector::empty(alloc, lg_of(points), cols)?;
+    for shard in shards {
+        fill(alloc, &mut values, shard)?;
+    }
+    Ok(values)
+}
+
+/// Fills the row of the shard's index with its cells, unless it is filled with other ones.
+fn fill(alloc: Global, values: &mut EvaluationVector<F>, shard: &Shard) -> Result<(), Error>
+    requires row { shard.now.index < values.old.matrix.rows }
+    requires cells { length shard.now.cells.items ≡ values.old.matrix.cols }
+    ensures ok { OnOk result (IsFilledAt same values.old shard.now.index shard.now.cells.items values.new) }
+    ensures equal { OnOk result (HoldsIfFilled values.old shard.now) }
+    ensures err { IfErr result (λ e. IsMemory e ⊎ ((e ≡ Conflict) × HoldsOthers values.old shard.now)) }
+{
+    let row = shard.index as usize;
+    if values.is_filled(row) && !are_equal(values.row(row), &shard.cells) {
+        return Err(Error::Conflict);
+    }
+    values.fill_row(alloc, row, &shard.cells)?;
+    Ok(())
+}
+
+/// The words that the first `min` rows of coefficients unpack to.
+fn words_in(alloc: Global, recovered: &PolynomialVector<F>, min: u32) -> Mem<Vec<u64>>
+    requires { min ≤ recovered.now.rows }
+    ensures { IfOk result (λ words. words.items ≡ words_of (take (min * recovered.now.cols) recovered.now.cells)) }
+{
+    let mut elements = Vec::new(alloc);
+    for row in recovered.coefficients_up_to(min as usize) {
+        elements.extend_from_slice(row)?;
+    }
+    F::stream_to_u64s(elements.into_iter()).collect(alloc)
+}
+
+/// The data that the first `min` rows of coefficients begin with, where so many words follow as the first
+/// one says.
+fn data_in(alloc: Global, recovered: &PolynomialVector<F>, min: u32) -> Mem<Option<Vec<u64>>>
+    requires { min ≤ recovered.now.rows }
+    ensures each_word { IfOk result (λ answer. IfSome answer (λ found. All (λ word. word < 2 ^ 64) found.items)) }
+    ensures data { (words rest : List ℕ)
+        → words_of (take (min * recovered.now.cols) recovered.now.cells) ≡ counted words ++ rest
+        → IfOk result (λ answer. IsSome answer × IfSome answer (λ found. found.items ≡ words)) }
+{
+    let mut words = words_in(alloc, recovered, min)?;
+    if words.is_empty() {
+        return Ok(None);
+    }
+    let count = words.remove(0);
+    if count > words.len() as u64 {
+        return Ok(None);
+    }
+    words.truncate(count as usize);
+    Ok(Some(words))
+}
+
+/// Whether these polynomials are those of the data.
+fn are_of(alloc: Global, recovered: &PolynomialVector<F>, data: &[u64], first: &Shard) -> Mem<bool>
+    requires some { 1 ≤ first.now.min }
+    requires within { first.now.min ≤ first.now.total }
+    requires size { IsOfSize recovered.now recovered.now.rows (length first.now.cells.items) }
+    requires rows { IsNextPowerOfTwo first.now.total recovered.now.rows }
+    ensures { IfOk result (λ answer. IsTrue answer ↔ ArePolynomialsOf «data».now first.now.min recovered.now) }
+{
+    let rows = laid_out(alloc, data, first.min)?;
+    if rows.cols() != first.cells.len() {
+        return Ok(false);
+    }
+    let polynomials = polynomials(alloc, &rows, first.total)?;
+    let answer = recovered.equals(alloc, &polynomials)?;
+    Ok(answer)
+}
