@@ -7,3 +7,4 @@ pub mod synthetic;
 pub use math_base::{algebra, fields};
 pub use math_codec::{codec, ordered};
 pub use math_ntt::ntt;
+pub use math_shards::shards;

@@ -1,15 +1,15 @@
 -- Shards of some data: they are sound, no two of them are in conflict, and enough of them are there.
 use Rattle.std.proofs.Common.{◌≡◌, ℕ, ◌-◌, ◌<◌, ◌≤◌, ◌^◌, List, [], ◌∷◌, length, sym, ◌∙◌, ap, subst, arith}
 use Rattle.std.specs.Int.{IsNextPowerOfTwo}
-use Rattle.std.specs.List.{All, AllZip}
-use Rattle.std.proofs.lemmas.List.Elements.{All-head, All-weaker}
+use Rattle.std.specs.List.{All, AllZip, Contains}
+use Rattle.std.proofs.lemmas.List.Elements.{All-contains, All-head, All-weaker}
 use Rattle.std.specs.Int.Count.{count_leading_zeros}
 use Rattle.math_base.specs.Elements.{number, residue, same}
 use Rattle.math_ntt.specs.Matrices.{column_of}
 use Rattle.math_ntt.proofs.PresentIndices.{lg-of_total, lg-only}
 use Rattle.math_shards.specs.declared.shards.Shard.{Shard}
 use Rattle.math_shards.specs.Joining.{HaveConflict, IsSound}
-use Rattle.math_shards.specs.Shards.{IsShardOf, JoinTo, rows_for, value_at, width_for}
+use Rattle.math_shards.specs.Shards.{ChosenShardsJoin, IsShardOf, JoinTo, rows_for, value_at, width_for}
 use Rattle.math_shards.proofs.FilledShards.{no_indices}
 use Rattle.math_shards.proofs.SameCells.{same_by_items}
 
@@ -69,3 +69,17 @@ joined_no_conflict words shards j conflict =
     let here : IsShardOf words j.min j.total s = rw (sym conflict.3) (j.each conflict.0 s conflict.2) in
     let there : IsShardOf words j.min j.total t = rw (sym other.3) (j.each other.0 t other.2) in
     other.4.1 (same_shards words j.min j.total lg t s next there here other.4.0)
+
+-- chosen ones of the shards of data join to the data, where enough are chosen
+pub chosen_join : ChosenShardsJoin
+chosen_join words min total shards chosen some within short each_word few of contained enough = record {
+  min = min;
+  total = total;
+  some = some;
+  within = within;
+  short = short;
+  each_word = each_word;
+  few = few;
+  enough = enough;
+  each = All-weaker (Contains shards) (IsShardOf words min total) (λ s there. All-contains (IsShardOf words min total) shards s of.each there) chosen contained;
+}

@@ -1,5 +1,5 @@
 -- Data, which are a list of words, in shards: the rows of elements that they fill, and what each shard holds.
-use Rattle.std.specs.Prelude.{◌≡◌, ℕ, ◌-◌, ◌*◌, ◌<◌, ◌≤◌, ◌^◌, ◌==◌, List, ◌∷◌, ◌++◌, Bool, length, map, replicate, slice_index_or, count_by, All}
+use Rattle.std.specs.Prelude.{◌≡◌, ℕ, ◌-◌, ◌*◌, ◌<◌, ◌≤◌, ◌^◌, ◌==◌, List, ◌∷◌, ◌++◌, Bool, length, map, replicate, slice_index_or, count_by, All, Contains}
 use Rattle.std.specs.Int.{IsNextPowerOfTwo}
 use Rattle.std.specs.List.{list_any, range_with_len}
 use Rattle.math_numbers.specs.Bits.{piece_count}
@@ -69,3 +69,13 @@ pub record JoinTo (words : List ℕ) (shards : List Shard) : Type 0 where
   pub few : length words < 2 ^ 64
   pub enough : min ≤ distinct_indices total shards
   pub each : All (IsShardOf words min total) shards
+
+-- shards join to one list of data at most
+abbrev pub HaveOneData : Type 0
+HaveOneData = (words others : List ℕ) (shards : List Shard) → JoinTo words shards → JoinTo others shards → words ≡ others
+
+-- whichever of the shards of data are chosen, in any order and some of them twice: where at least `min` have distinct indices, they join to the data
+abbrev pub ChosenShardsJoin : Type 0
+ChosenShardsJoin =
+    (words : List ℕ) (min total : ℕ) (shards chosen : List Shard) → 1 ≤ min → min ≤ total → total < 2 ^ 32 → All (λ word. word < 2 ^ 64) words → length words < 2 ^ 64
+    → AreShardsOf words min total shards → All (Contains shards) chosen → min ≤ distinct_indices total chosen → JoinTo words chosen

@@ -18,7 +18,19 @@ use math_base::fields::goldilocks::F;
 use math_ntt::ntt::{EvaluationVector, PolynomialVector};
 use std::alloc::{AllocError, Global};
 
-/// The data that have each of the shards.
+/// The data of which each of the shards is one. There are no others, and a shard that is handed in twice
+/// counts once.
+///
+/// It refuses, in this order: no shard at all with `TooFew`; the first shard, as they are handed in, whose
+/// `min`, `total` or number of cells is not that of the first one, or not 1 <= `min` <= `total`, with
+/// `Mismatch`, and the first whose index is `total` or more with `Index`; unequal cells of one index with
+/// `Conflict`; fewer distinct indices than `min` with `TooFew`; and shards that are those of no data with
+/// `Inconsistent`. Where more than `min` shards are there, damage to one is so found, and where just `min`
+/// are there it is not.
+///
+/// Takes memory for a few times N rows of as many cells as a shard has, where N is `total` rounded up to a
+/// power of two: who takes shards from strangers bounds `total` first. Nothing is allocated by a number
+/// that a shard claims of its data before the cells bear it out.
 pub fn join(alloc: Global, shards: &[Shard]) -> Result<Vec<u64>, Error>
     ensures ok { IfOk result (λ words. JoinTo words.items shards.now) }
     ensures found { (words : List ℕ) → JoinTo words shards.now
