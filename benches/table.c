@@ -1,6 +1,6 @@
 /* table [SECONDS]: times the calls of the C library, each checked for a right answer, and prints a table.
  *
- * A line has the least time of some tries, the time for one butterfly, coefficient or byte, and how much
+ * A line has the least processor time of some tries, the time for one butterfly, coefficient or byte, and how much
  * that is of what the first line of the same work took: where the time grows with N lg N it stays near 1.
  * A try is repeated for SECONDS (0.2), twice at least. */
 #include "commonware_math.h"
@@ -15,9 +15,10 @@
 
 static double seconds = 0.2;
 
+/* the processor time of this program, which other programs do not lengthen by taking turns with it */
 static double now(void) {
   struct timespec at;
-  clock_gettime(CLOCK_MONOTONIC, &at);
+  clock_gettime(CLOCK_PROCESS_CPUTIME_ID, &at);
   return (double)at.tv_sec + (double)at.tv_nsec * 1e-9;
 }
 

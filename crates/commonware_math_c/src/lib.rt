@@ -34,7 +34,8 @@ use std::num::NonZeroU32;
 pub extern "C" fn cwm_eval(alloc: Global, coefficients: &[u64], x: u64, out: &mut u64) -> u32
     ensures value { result ≡ done
         → out.new ≡ number (value_in_ring goldilocks (elements coefficients.now) (residue x)) }
-    ensures taken { result ≡ done → IsCoefficientCount (length coefficients.now) × AreElements coefficients.now × (x < P) }
+    ensures taken { result ≡ done
+        → IsCoefficientCount (length coefficients.now) × AreElements coefficients.now × (x < P) }
     ensures kept { result ≢ done → out.new ≡ out.old }
     ensures range { result ≡ out_of_range → ¬ (AreElements coefficients.now × (x < P)) }
     ensures size { result ≡ wrong_size → ¬ (IsCoefficientCount (length coefficients.now)) }
@@ -234,7 +235,8 @@ pub extern "C" fn cwm_decode_poly(
 /// Writes the text of a status over the bytes, and zeros behind it; 32 bytes hold each.
 #[unsafe(no_mangle)]
 pub extern "C" fn cwm_status_text(status: u32, text: &mut [u8]) -> u32
-    ensures text { result ≡ done → text.new ≡ text_of status ++ replicate (length text.old - length (text_of status)) 0 }
+    ensures text { result ≡ done
+        → text.new ≡ text_of status ++ replicate (length text.old - length (text_of status)) 0 }
     ensures kept { result ≢ done → text.new ≡ text.old }
     ensures size { result ≢ done → (result ≡ wrong_size) × (length text.old < 32) }
 {
