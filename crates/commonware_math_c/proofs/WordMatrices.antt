@@ -93,8 +93,8 @@ coefficients_of_words lg cols old new e q small count below m filled size fits h
 
 -- the numbers of the coefficients that are recovered from a matrix of words
 pub recovered_words : (cols : ℕ) (old bytes new : List ℕ) (e : EvaluationsOf F) (q : MatrixOf F) → HasRowsFor (length old) cols (length bytes) → All (λ b. b ≤ 1) bytes
-    → AreFilledElements cols old bytes → e ≡ word_evaluations cols old bytes → IsOfSize q e.matrix.rows e.matrix.cols → AreRecovered goldilocks root_of e q → AreOnlyRecovered goldilocks root_of e q → new ≡ numbers q.cells
-    → AreRecoveredWords cols old bytes new
+    → AreFilledElements cols old bytes → e ≡ word_evaluations cols old bytes → IsOfSize q e.matrix.rows e.matrix.cols → AreRecovered goldilocks root_of e q
+    → AreOnlyRecovered goldilocks root_of e q → new ≡ numbers q.cells → AreRecoveredWords cols old bytes new
 recovered_words cols old bytes new e q shape marks below m size fits only h =
     let rows : q.rows ≡ length bytes = size.0 ∙ ap (λ x. x.matrix.rows) m in
     let columns : q.cols ≡ cols = size.1 ∙ ap (λ x. x.matrix.cols) m in
