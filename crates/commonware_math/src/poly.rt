@@ -2,5 +2,5 @@
 
 mod interpolation;
 
-pub use interpolation::Interpolator;
+pub use interpolation::{Interpolator, weights_at};
 pub use math_poly::poly::Poly;

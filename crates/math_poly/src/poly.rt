@@ -35,6 +35,15 @@ impl<K: Drop> Model for Poly<K> {
 }
 
 impl<K: Drop> Poly<K> {
+    /// The polynomial with these stored coefficients, from the constant upwards. There are 1 to 2^32 - 1.
+    pub fn from_coefficients(coefficients: Vec<K>) -> Self
+        requires some { 0 < length coefficients.items }
+        requires few { length coefficients.items < 2 ^ 32 }
+        ensures { result ≡ coefficients.items }
+    {
+        Poly { coefficients }
+    }
+
     /// The number of stored coefficients, less one.
     pub fn degree(&self) -> u32
         ensures { result + 1 ≡ length self.now }

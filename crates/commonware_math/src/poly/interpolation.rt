@@ -17,7 +17,7 @@ use math_base::algebra::{Field, Mem, Space};
 use math_codec::ordered::Map;
 use std::alloc::Global;
 use std::marker::Model;
-use weights::weights_at;
+pub use weights::weights_at;
 
 /// Gives the value of a polynomial at one point from its values at others, by weights that are made once
 /// from the points.

@@ -1,6 +1,7 @@
 //! Values of polynomials at the points of a domain.
 
 ghost use Rattle.std.specs.Prelude.{◌≡◌, ◌↔◌, ◌*◌, ◌<◌, ◌≤◌, ◌^◌, IsTrue, IsOk, IfOk, OnOk, OnErr, Some, length, replicate, slice_get, false};
+ghost use Rattle.std.specs.Int.{IsPowerOfTwo};
 ghost use Rattle.std.specs.List.{All};
 ghost use Rattle.math_theory.specs.Recovery.{count_true};
 ghost use Rattle.math_ntt.specs.Matrices.{row_of, IsOfSize};
@@ -74,6 +75,17 @@ impl<F: Additive> EvaluationVector<F> {
 }
 
 impl<F: Drop> EvaluationVector<F> {
+    /// The rows of the matrix as values, of which those are filled whose truth value is `true`. The number
+    /// of rows is a power of two, and there is a truth value for each.
+    pub fn from_parts(matrix: Matrix<F>, filled: VanishingPoints) -> Self
+        requires power { IsPowerOfTwo matrix.rows }
+        requires count { length filled ≡ matrix.rows }
+        ensures matrix { result.matrix ≡ matrix }
+        ensures filled { result.filled ≡ filled }
+    {
+        EvaluationVector { matrix, filled }
+    }
+
     /// The matrix of the cells, of filled rows and of others.
     pub fn data(self) -> Matrix<F>
         ensures { result ≡ self.matrix }

@@ -106,6 +106,22 @@ pub(super) fn filled_up<F: Additive>(alloc: Global, cells: Vec<F>, count: usize)
 }
 
 impl<F: Drop> Matrix<F> {
+    /// The matrix whose cells are these, row by row; there are as many as rows times columns.
+    pub fn from_cells(rows: usize, cols: usize, cells: Vec<F>) -> Self
+        requires { length cells.items ≡ rows * cols }
+        ensures size { IsOfSize result rows cols }
+        ensures cells { result.cells ≡ cells.items }
+    {
+        Matrix { rows, cols, cells }
+    }
+
+    /// The cells, row by row.
+    pub fn into_cells(self) -> Vec<F>
+        ensures { result.items ≡ self.cells }
+    {
+        self.cells
+    }
+
     /// The number of rows.
     pub fn rows(&self) -> usize
         ensures { result ≡ self.now.rows }

@@ -1,7 +1,7 @@
 //! Vectors of polynomials.
 
 ghost use Rattle.std.specs.Prelude.{◌≡◌, ◌↔◌, ◌+◌, ◌*◌, ◌<◌, ◌≤◌, ◌^◌, ℕ, true, IsTrue, IsOk, IsSome, IfOk, IfSome, OnOk, length, min, replicate, take};
-ghost use Rattle.std.specs.Int.{IsNextPowerOfTwo};
+ghost use Rattle.std.specs.Int.{IsNextPowerOfTwo, IsPowerOfTwo};
 ghost use Rattle.std.specs.Iterator.{YieldsFirstRef, item_count};
 ghost use Rattle.math_ntt.specs.CountedWork.{AddsAtMost};
 ghost use Rattle.math_ntt.specs.DomainValues.{HasDomain, AreValuesOnDomain};
@@ -69,6 +69,15 @@ impl<F: Additive> Matrix<F> {
 }
 
 impl<F: Drop> PolynomialVector<F> {
+    /// The polynomials whose coefficients are the columns of the matrix, from the constant upwards. The
+    /// number of rows is a power of two.
+    pub fn from_matrix(coefficients: Matrix<F>) -> Self
+        requires { IsPowerOfTwo coefficients.rows }
+        ensures { result ≡ coefficients }
+    {
+        PolynomialVector { coefficients }
+    }
+
     /// The matrix of the coefficients: row i holds coefficient i of each polynomial.
     pub fn data(self) -> Matrix<F>
         ensures { result ≡ self }

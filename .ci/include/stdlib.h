@@ -1,0 +1,8 @@
+#ifndef STDLIB_H
+#define STDLIB_H
+#include <stddef.h>
+void *malloc(size_t size);
+void free(void *at);
+void exit(int status) __attribute__((noreturn));
+int atoi(const char *text);
+#endif

@@ -1,0 +1,222 @@
+/* table [SECONDS]: times the calls of the C library, each checked for a right answer, and prints a table.
+ *
+ * A line has the least processor time of some tries, the time for one butterfly, coefficient or byte, and how much
+ * that is of what the first line of the same work took: where the time grows with N lg N it stays near 1.
+ * A try is repeated for SECONDS (0.2), twice at least. */
+#include "commonware_math.h"
+
+#include <stdio.h>
+#include <stdlib.h>
+#include <string.h>
+#include <time.h>
+
+/* no work has more cells */
+#define MOST_CELLS ((size_t)1 << 25)
+
+static double seconds = 0.2;
+
+/* the processor time of this program, which other programs do not lengthen by taking turns with it */
+static double now(void) {
+  struct timespec at;
+  clock_gettime(CLOCK_PROCESS_CPUTIME_ID, &at);
+  return (double)at.tv_sec + (double)at.tv_nsec * 1e-9;
+}
+
+/* words below P, by splitmix64 */
+static uint64_t state = 1;
+static uint64_t word(void) {
+  for (;;) {
+    uint64_t z = state += UINT64_C(0x9e3779b97f4a7c15);
+    z = (z ^ z >> 30) * UINT64_C(0xbf58476d1ce4e5b9);
+    z = (z ^ z >> 27) * UINT64_C(0x94d049bb133111eb);
+    z ^= z >> 31;
+    if (z < CWM_MODULUS) return z;
+  }
+}
+
+/* the field once more, by the compiler's own remainder, to judge the library's answers */
+static uint64_t times(uint64_t a, uint64_t b) { return (uint64_t)((unsigned __int128)a * b % CWM_MODULUS); }
+static uint64_t plus(uint64_t a, uint64_t b) { return (uint64_t)(((unsigned __int128)a + b) % CWM_MODULUS); }
+static uint64_t power(uint64_t a, uint64_t n) {
+  uint64_t out = 1;
+  for (; n > 0; n /= 2, a = times(a, a)) {
+    if (n % 2 == 1) out = times(out, a);
+  }
+  return out;
+}
+static uint64_t root(int lg) { return power(UINT64_C(0xee41f5320c4ea145), UINT64_C(1) << (32 - lg)); }
+static uint64_t value(const uint64_t *coefficients, size_t n, size_t step, uint64_t x) {
+  uint64_t out = 0;
+  for (size_t i = n; i-- > 0;) out = plus(times(out, x), coefficients[i * step]);
+  return out;
+}
+
+static void fail(const char *what) {
+  printf("%s: wrong answer\n", what);
+  exit(1);
+}
+
+static void need(const char *what, uint32_t status) {
+  char text[CWM_TEXT_SIZE];
+  if (status == CWM_DONE) return;
+  cwm_status_text(status, text, sizeof text);
+  printf("%s: %s\n", what, text);
+  exit(1);
+}
+
+static uint64_t *words(size_t n) {
+  uint64_t *out = malloc(n * sizeof *out);
+  if (out == NULL) fail("malloc");
+  return out;
+}
+
+static uint64_t *some(size_t n) {
+  uint64_t *out = words(n);
+  for (size_t i = 0; i < n; i++) out[i] = word();
+  return out;
+}
+
+/* prints a line of the table; `base` is what the first line of the same work took for one part */
+static void line(const char *work, int lg, size_t cols, double time, double parts, const char *part, double *base) {
+  double each = time * 1e9 / parts;
+  if (*base == 0) *base = each;
+  printf("%-18s %4d %6zu %14.4f ms %10.3f ns a %-12s %8.2f\n", work, lg, cols, time * 1e3, each, part, each / *base);
+}
+
+/* the least time of some tries of `call` over a copy of n words */
+#define LEAST(time, cells, from, n, call)                             \
+  do {                                                                \
+    double spent_ = 0;                                                \
+    (time) = 1e9;                                                     \
+    for (int tries_ = 0; tries_ < 2 || spent_ < seconds; tries_++) {  \
+      memcpy((cells), (from), (n) * sizeof *(cells));                 \
+      double start_ = now();                                          \
+      (call);                                                         \
+      double took_ = now() - start_;                                  \
+      spent_ += took_;                                                \
+      if (took_ < (time)) (time) = took_;                             \
+    }                                                                 \
+  } while (0)
+
+static void evals(void) {
+  double base = 0, time;
+  for (int lg = 10; lg <= 22; lg += 2) {
+    size_t n = (size_t)1 << lg;
+    uint64_t *a = some(n), *b = words(n), x = word(), out;
+    LEAST(time, b, a, n, need("eval", cwm_eval(b, n, x, &out)));
+    if (out != value(a, n, 1, x)) fail("eval");
+    line("eval", lg, 1, time, (double)n, "coefficient", &base);
+    free(a), free(b);
+  }
+}
+
+static void transforms(size_t cols) {
+  double forward = 0, back = 0, time;
+  for (int lg = 10; lg <= 22; lg += 2) {
+    size_t rows = (size_t)1 << lg, n = rows * cols;
+    if (n > MOST_CELLS) {
+      printf("%-18s %4d %6zu    left out: more than 2^25 cells\n", "evaluate", lg, cols);
+      continue;
+    }
+    uint64_t *a = some(n), *b = words(n), *c = words(n);
+    double parts = (double)n * lg / 2;
+    LEAST(time, b, a, n, need("evaluate", cwm_evaluate(b, n, cols)));
+    line("evaluate", lg, cols, time, parts, "butterfly", &forward);
+    for (int k = 0; k < 3; k++) {
+      size_t j = (size_t)word() % rows, column = (size_t)word() % cols;
+      if (b[j * cols + column] != value(a + column, rows, cols, power(root(lg), j))) fail("evaluate");
+    }
+    LEAST(time, c, b, n, need("interpolate", cwm_interpolate(c, n, cols)));
+    line("interpolate", lg, cols, time, parts, "butterfly", &back);
+    if (memcmp(a, c, n * sizeof *a) != 0) fail("interpolate");
+    free(a), free(b), free(c);
+  }
+}
+
+static void recoveries(size_t cols) {
+  double base = 0, time;
+  for (int lg = 10; lg <= 20; lg += 2) {
+    size_t rows = (size_t)1 << lg, n = rows * cols, count = 0;
+    uint8_t *filled = malloc(rows);
+    if (filled == NULL) fail("malloc");
+    for (size_t i = 0; i < rows; i++) count += filled[i] = word() % 3 != 0;
+    uint64_t *a = some(n), *b = words(n), *c = words(n);
+    memset(a + count * cols, 0, (n - count * cols) * sizeof *a);
+    memcpy(b, a, n * sizeof *a);
+    need("evaluate", cwm_evaluate(b, n, cols));
+    for (size_t i = 0; i < rows; i++) {
+      if (!filled[i]) memset(b + i * cols, 255, cols * sizeof *b);
+    }
+    LEAST(time, c, b, n, need("recover", cwm_recover(c, n, cols, filled, rows)));
+    line("recover, third", lg, cols, time, (double)rows * lg * (3 * lg + 3 * (double)cols + 2) / 2, "butterfly", &base);
+    if (memcmp(a, c, n * sizeof *a) != 0) fail("recover");
+    free(a), free(b), free(c), free(filled);
+  }
+}
+
+static void weights(void) {
+  double base = 0, time;
+  for (size_t n = 10; n <= 1000; n *= 10) {
+    uint64_t *points = some(n), *f = some(n), *w = words(n), *p = words(n), x = word(), sum = 0;
+    LEAST(time, p, points, n, need("weights", cwm_weights(p, n, x, w, n)));
+    for (size_t i = 0; i < n; i++) sum = plus(sum, times(w[i], value(f, n, 1, points[i])));
+    if (sum != value(f, n, 1, x)) fail("weights");
+    line("weights", (int)n, 1, time, (double)n * (double)n, "pair", &base);
+    free(points), free(f), free(w), free(p);
+  }
+  base = 0;
+  for (int lg = 8; lg <= 18; lg += 2) {
+    uint32_t total = (uint32_t)1 << lg;
+    size_t n = 0;
+    uint32_t *indices = malloc(total * sizeof *indices), *copy = malloc(total * sizeof *copy);
+    if (indices == NULL || copy == NULL) fail("malloc");
+    for (uint32_t i = 0; i < total; i++) {
+      if (word() % 3 != 0) indices[n++] = i;
+    }
+    uint64_t *f = some(total), *v = words(total), *w = words(n), x = word(), sum = 0;
+    LEAST(time, copy, indices, n, need("weights_at_roots", cwm_weights_at_roots(total, copy, n, x, w, n)));
+    memset(f + n, 0, (total - n) * sizeof *f);
+    memcpy(v, f, total * sizeof *f);
+    need("evaluate", cwm_evaluate(v, total, 1));
+    for (size_t i = 0; i < n; i++) sum = plus(sum, times(w[i], v[indices[i]]));
+    if (sum != value(f, n, 1, x)) fail("weights_at_roots");
+    line("weights at roots", lg, 1, time, (double)total * lg * lg, "N lg lg", &base);
+    free(indices), free(copy), free(f), free(v), free(w);
+  }
+}
+
+static void encodings(void) {
+  double forward = 0, back = 0, time;
+  for (int lg = 10; lg <= 22; lg += 2) {
+    size_t n = (size_t)1 << lg, room = 8 * n + 5, written = 0, count = 0;
+    uint64_t *a = some(n), *b = words(n);
+    uint8_t *bytes = malloc(room), *copy = malloc(room);
+    if (bytes == NULL || copy == NULL) fail("malloc");
+    LEAST(time, b, a, n, need("encode", cwm_encode_poly(b, n, bytes, room, &written)));
+    line("encode", lg, 1, time, 8 * (double)n, "byte", &forward);
+    size_t front = written - 8 * n;
+    for (size_t i = 0; i < n; i++) {
+      for (int k = 0; k < 8; k++) {
+        if (bytes[front + 8 * i + (size_t)k] != (uint8_t)(a[i] >> (56 - 8 * k))) fail("encode");
+      }
+    }
+    LEAST(time, copy, bytes, written, need("decode", cwm_decode_poly(copy, written, b, n, &count)));
+    line("decode", lg, 1, time, 8 * (double)n, "byte", &back);
+    if (count != n || memcmp(a, b, n * sizeof *a) != 0) fail("decode");
+    free(a), free(b), free(bytes), free(copy);
+  }
+}
+
+int main(int argc, char **argv) {
+  if (argc > 1) seconds = atoi(argv[1]);
+  printf("%-18s %4s %6s %17s %28s %8s\n", "work", "lg", "cols", "time", "for one", "growth");
+  evals();
+  transforms(1);
+  transforms(8);
+  transforms(64);
+  recoveries(1);
+  recoveries(16);
+  weights();
+  encodings();
+  return 0;
+}

@@ -1,0 +1,6 @@
+pub mod WordElements
+pub mod WordMatrices
+pub mod WordEncodings
+pub mod TruthValues
+pub mod RisingIndices
+pub mod WordWeights

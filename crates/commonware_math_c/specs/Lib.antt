@@ -1,0 +1,5 @@
+pub mod Statuses
+pub mod WordElements
+pub mod WordRows
+pub mod WordWeights
+pub mod WordEncodings

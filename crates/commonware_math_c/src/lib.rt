@@ -1,0 +1,248 @@
+//! The library for callers in C: polynomials over the Goldilocks field as words in the caller's memory.
+//!
+//! Each function is a few lines over a safe one, which has the work and its contract over elements. What
+//! it answers is a status; `include/commonware_math.h` says what a caller has to know. A slice crosses as
+//! a pointer and a length, and a `Global` takes no place among the arguments.
+#![tactic(auto)]
+
+ghost use Rattle.std.specs.Prelude.{◌≡◌, ◌≢◌, ◌<◌, ◌≤◌, ◌-◌, ◌++◌, ◌⊎◌, ℕ, List, length, replicate, All};
+ghost use Rattle.math_numbers.specs.Goldilocks.{P};
+ghost use Rattle.math_base.specs.Elements.{number, residue};
+ghost use Rattle.math_base.specs.Polynomials.{value_in_ring};
+ghost use Rattle.commonware_math_c.specs.Statuses.{done, out_of_memory, out_of_range, wrong_size, wrong_index, status_of_read, text_of};
+ghost use Rattle.commonware_math_c.specs.WordElements.{AreElements, elements, goldilocks};
+ghost use Rattle.commonware_math_c.specs.WordRows.{AreWordValues, AreRecoveredWords, AreFilledElements, HasRows, HasRowsFor};
+ghost use Rattle.commonware_math_c.specs.WordWeights.{AreRising, AreWordWeights, AreWordWeightsAtRoots};
+ghost use Rattle.commonware_math_c.specs.WordEncodings.{IsCoefficientCount, IsEncodedBy, StandInFront, polynomial_spelling, scan_polynomial};
+
+mod elements;
+mod polynomials;
+mod rows;
+mod status;
+mod weights;
+
+use commonware_math::fields::goldilocks::MODULUS;
+use elements::are_elements;
+use polynomials::is_coefficient_count;
+use rows::{are_filled_elements, are_marks, lg_of_rows, lg_of_these_rows};
+use status::Status;
+use std::alloc::Global;
+use std::num::NonZeroU32;
+
+/// The value at x of the polynomial with these coefficients, from the constant upwards.
+#[unsafe(no_mangle)]
+pub extern "C" fn cwm_eval(alloc: Global, coefficients: &[u64], x: u64, out: &mut u64) -> u32
+    ensures value { result ≡ done
+        → out.new ≡ number (value_in_ring goldilocks (elements coefficients.now) (residue x)) }
+    ensures taken { result ≡ done
+        → IsCoefficientCount (length coefficients.now) × AreElements coefficients.now × (x < P) }
+    ensures kept { result ≢ done → out.new ≡ out.old }
+    ensures range { result ≡ out_of_range → ¬ (AreElements coefficients.now × (x < P)) }
+    ensures size { result ≡ wrong_size → ¬ (IsCoefficientCount (length coefficients.now)) }
+    ensures statuses { result ≤ wrong_size }
+{
+    if !is_coefficient_count(coefficients.len()) {
+        return Status::WrongSize.code();
+    }
+    if x >= MODULUS || !are_elements(coefficients) {
+        return Status::OutOfRange.code();
+    }
+    match polynomials::value(alloc, coefficients, x) {
+        Ok(value) => {
+            *out = value;
+            Status::Done.code()
+        }
+        Err(_) => Status::OutOfMemory.code(),
+    }
+}
+
+/// Puts the values at the powers of the root in place of the coefficients, in each column.
+#[unsafe(no_mangle)]
+pub extern "C" fn cwm_evaluate(alloc: Global, cells: &mut [u64], cols: usize) -> u32
+    ensures values { result ≡ done → AreWordValues cols cells.old cells.new }
+    ensures kept { result ≢ done → cells.new ≡ cells.old }
+    ensures range { result ≡ out_of_range → ¬ (AreElements cells.old) }
+    ensures size { result ≡ wrong_size → ¬ (HasRows (length cells.old) cols) }
+    ensures statuses { result ≤ wrong_size }
+{
+    let Some(lg) = lg_of_rows(cells.len(), cols) else {
+        return Status::WrongSize.code();
+    };
+    if !are_elements(cells) {
+        return Status::OutOfRange.code();
+    }
+    match rows::evaluate(alloc, cells, lg, cols) {
+        Ok(()) => Status::Done.code(),
+        Err(_) => Status::OutOfMemory.code(),
+    }
+}
+
+/// Puts the coefficients in place of the values at the powers of the root, in each column.
+#[unsafe(no_mangle)]
+pub extern "C" fn cwm_interpolate(alloc: Global, cells: &mut [u64], cols: usize) -> u32
+    ensures values { result ≡ done → AreWordValues cols cells.new cells.old }
+    ensures kept { result ≢ done → cells.new ≡ cells.old }
+    ensures range { result ≡ out_of_range → ¬ (AreElements cells.old) }
+    ensures size { result ≡ wrong_size → ¬ (HasRows (length cells.old) cols) }
+    ensures statuses { result ≤ wrong_size }
+{
+    let Some(lg) = lg_of_rows(cells.len(), cols) else {
+        return Status::WrongSize.code();
+    };
+    if !are_elements(cells) {
+        return Status::OutOfRange.code();
+    }
+    match rows::interpolate(alloc, cells, lg, cols) {
+        Ok(()) => Status::Done.code(),
+        Err(_) => Status::OutOfMemory.code(),
+    }
+}
+
+/// Puts the coefficients of the polynomials that fit the filled rows in place of the cells, in each column.
+#[unsafe(no_mangle)]
+pub extern "C" fn cwm_recover(alloc: Global, cells: &mut [u64], cols: usize, filled: &[u8]) -> u32
+    ensures recovered { result ≡ done → AreRecoveredWords cols cells.old filled.now cells.new }
+    ensures kept { result ≢ done → cells.new ≡ cells.old }
+    ensures range { result ≡ out_of_range
+        → ¬ (All (λ b. b ≤ 1) filled.now × AreFilledElements cols cells.old filled.now) }
+    ensures size { result ≡ wrong_size → ¬ (HasRowsFor (length cells.old) cols (length filled.now)) }
+    ensures statuses { result ≤ wrong_size }
+{
+    let Some(lg) = lg_of_these_rows(cells.len(), cols, filled.len()) else {
+        return Status::WrongSize.code();
+    };
+    if !are_marks(filled) || !are_filled_elements(cells, cols, filled) {
+        return Status::OutOfRange.code();
+    }
+    match rows::recover(alloc, cells, lg, cols, filled) {
+        Ok(()) => Status::Done.code(),
+        Err(_) => Status::OutOfMemory.code(),
+    }
+}
+
+/// Writes the weights by which the values at the points give the value at x.
+#[unsafe(no_mangle)]
+pub extern "C" fn cwm_weights(alloc: Global, points: &[u64], x: u64, weights: &mut [u64]) -> u32
+    ensures weights { result ≡ done → AreWordWeights x points.now weights.new }
+    ensures kept { result ≢ done → weights.new ≡ weights.old }
+    ensures range { result ≡ out_of_range → ¬ (AreElements points.now × (x < P)) }
+    ensures size { result ≡ wrong_size → length weights.old ≢ length points.now }
+    ensures statuses { result ≤ wrong_size }
+{
+    if weights.len() != points.len() {
+        return Status::WrongSize.code();
+    }
+    if x >= MODULUS || !are_elements(points) {
+        return Status::OutOfRange.code();
+    }
+    match weights::at_points(alloc, points, x, weights) {
+        Ok(()) => Status::Done.code(),
+        Err(_) => Status::OutOfMemory.code(),
+    }
+}
+
+/// Writes the weights by which the values at some powers of a root of unity give the value at x.
+#[unsafe(no_mangle)]
+pub extern "C" fn cwm_weights_at_roots(
+    alloc: Global,
+    total: u32,
+    indices: &[u32],
+    x: u64,
+    weights: &mut [u64],
+) -> u32
+    ensures weights { result ≡ done → AreWordWeightsAtRoots x total indices.now weights.new }
+    ensures kept { result ≢ done → weights.new ≡ weights.old }
+    ensures range { result ≡ out_of_range → P ≤ x }
+    ensures size { result ≡ wrong_size → ¬ ((0 < total) × (length weights.old ≡ length indices.now)) }
+    ensures index { result ≡ wrong_index → ¬ (AreRising total indices.now) }
+    ensures statuses { (result ≤ wrong_size) ⊎ (result ≡ wrong_index) }
+{
+    let Some(nonzero) = NonZeroU32::new(total) else {
+        return Status::WrongSize.code();
+    };
+    if weights.len() != indices.len() {
+        return Status::WrongSize.code();
+    }
+    if x >= MODULUS {
+        return Status::OutOfRange.code();
+    }
+    if !weights::are_rising(total, indices) {
+        return Status::WrongIndex.code();
+    }
+    match weights::at_roots(alloc, nonzero, indices, x, weights) {
+        Ok(()) => Status::Done.code(),
+        Err(_) => Status::OutOfMemory.code(),
+    }
+}
+
+/// Writes the encoding of the polynomial with these coefficients over the first bytes of `out`.
+#[unsafe(no_mangle)]
+pub extern "C" fn cwm_encode_poly(
+    alloc: Global,
+    coefficients: &[u64],
+    out: &mut [u8],
+    written: &mut usize,
+) -> u32
+    ensures encoded { result ≡ done → StandInFront (polynomial_spelling coefficients.now) out.old out.new }
+    ensures count { result ≡ done → written.new ≡ length (polynomial_spelling coefficients.now) }
+    ensures taken { result ≡ done → IsCoefficientCount (length coefficients.now) × AreElements coefficients.now }
+    ensures kept { result ≢ done → (out.new ≡ out.old) × (written.new ≡ written.old) }
+    ensures range { result ≡ out_of_range → ¬ (AreElements coefficients.now) }
+    ensures size { result ≡ wrong_size → ¬ (IsCoefficientCount (length coefficients.now)
+        × (length (polynomial_spelling coefficients.now) ≤ length out.old)) }
+    ensures statuses { result ≤ wrong_size }
+{
+    if !is_coefficient_count(coefficients.len()) {
+        return Status::WrongSize.code();
+    }
+    if !are_elements(coefficients) {
+        return Status::OutOfRange.code();
+    }
+    match polynomials::encode(alloc, coefficients, out) {
+        Ok(Some(n)) => {
+            *written = n;
+            Status::Done.code()
+        }
+        Ok(None) => Status::WrongSize.code(),
+        Err(_) => Status::OutOfMemory.code(),
+    }
+}
+
+/// Writes the coefficients of the polynomial that the bytes encode over the first words of `out`.
+#[unsafe(no_mangle)]
+pub extern "C" fn cwm_decode_poly(
+    alloc: Global,
+    bytes: &[u8],
+    out: &mut [u64],
+    count: &mut usize,
+) -> u32
+    ensures decoded { result ≡ done → (p : List ℕ) × IsEncodedBy p bytes.now × (count.new ≡ length p)
+        × StandInFront p out.old out.new }
+    ensures kept { result ≢ done → (out.new ≡ out.old) × (count.new ≡ count.old) }
+    ensures size { result ≡ wrong_size → (p : List ℕ) × IsEncodedBy p bytes.now × (length out.old < length p) }
+    ensures fault { result ≢ out_of_memory → result ≢ wrong_size → result ≡ status_of_read (scan_polynomial bytes.now) }
+{
+    match polynomials::decode(alloc, bytes, out) {
+        Ok(Some(n)) => {
+            *count = n;
+            Status::Done.code()
+        }
+        Ok(None) => Status::WrongSize.code(),
+        Err(error) => status::of_read(&error).code(),
+    }
+}
+
+/// Writes the text of a status over the bytes, and zeros behind it; 32 bytes hold each.
+#[unsafe(no_mangle)]
+pub extern "C" fn cwm_status_text(status: u32, text: &mut [u8]) -> u32
+    ensures text { result ≡ done
+        → text.new ≡ text_of status ++ replicate (length text.old - length (text_of status)) 0 }
+    ensures kept { result ≢ done → text.new ≡ text.old }
+    ensures size { result ≢ done → (result ≡ wrong_size) × (length text.old < 32) }
+{
+    if text.len() < 32 {
+        return Status::WrongSize.code();
+    }
+    status::write_text(status, text);
+    Status::Done.code()
+}

@@ -1,0 +1,156 @@
+//! Rows of words: coefficients and values of polynomials at the points of a domain, one polynomial a column.
+
+ghost use Rattle.std.specs.Prelude.{◌≡◌, ◌↔◌, ◌<◌, ◌≤◌, ◌*◌, ◌^◌, ℕ, IsTrue, IsSome, IfOk, IfSome, OnOk, OnErr, length, All};
+ghost use Rattle.commonware_math_c.specs.WordElements.{AreElements};
+ghost use Rattle.commonware_math_c.specs.WordRows.{
+  AreFilledElements,
+  AreRecoveredWords,
+  AreWordValues,
+  HasRows,
+  HasRowsFor,
+  IsDomainSize,
+  truth,
+  word_matrix,
+};
+
+use crate::elements::{are_elements, elements, write_numbers};
+use commonware_math::algebra::Mem;
+use commonware_math::fields::goldilocks::F;
+use commonware_math::ntt::{EvaluationVector, Matrix, PolynomialVector, VanishingPoints};
+use std::alloc::Global;
+
+/// 2^lg.
+fn power_of_two(lg: u8) -> usize
+    requires { lg ≤ 32 }
+    ensures { result ≡ 2 ^ lg }
+{
+    1 << lg
+}
+
+/// The lg of the number, where it is 2^lg for an lg of at most 32.
+fn lg_of(n: usize) -> Option<u8>
+    ensures lg { IfSome result (λ lg. (lg ≤ 32) × (n ≡ 2 ^ lg)) }
+    ensures some { IsDomainSize n → IsSome result }
+{
+    for lg in 0..33 {
+        if power_of_two(lg) == n {
+            return Some(lg);
+        }
+    }
+    None
+}
+
+/// The lg of the number of rows of n cells in rows of `cols`, where it is that of the points of a domain.
+pub fn lg_of_rows(n: usize, cols: usize) -> Option<u8>
+    ensures lg { IfSome result (λ lg. (lg ≤ 32) × HasRowsFor n cols (2 ^ lg)) }
+    ensures some { HasRows n cols → IsSome result }
+{
+    if cols == 0 || n % cols != 0 {
+        return None;
+    }
+    lg_of(n / cols)
+}
+
+/// The lg of `rows`, where n cells are so many rows of `cols`, and these are as many as the points of a domain.
+pub fn lg_of_these_rows(n: usize, cols: usize, rows: usize) -> Option<u8>
+    ensures lg { IfSome result (λ lg. (lg ≤ 32) × (rows ≡ 2 ^ lg) × HasRowsFor n cols rows) }
+    ensures some { HasRowsFor n cols rows → IsSome result }
+{
+    match lg_of_rows(n, cols) {
+        Some(lg) if power_of_two(lg) == rows => Some(lg),
+        _ => None,
+    }
+}
+
+/// Whether each byte is 0 or 1.
+pub fn are_marks(bytes: &[u8]) -> bool
+    ensures { IsTrue result ↔ All (λ b. b ≤ 1) bytes.now }
+{
+    bytes.iter().all(|b| *b <= 1)
+}
+
+/// Whether the words of the rows whose byte is 1 are below P.
+pub fn are_filled_elements(cells: &[u64], cols: usize, bytes: &[u8]) -> bool
+    requires { length cells.now ≡ length bytes.now * cols }
+    ensures { IsTrue result ↔ AreFilledElements cols cells.now bytes.now }
+{
+    for i in 0..bytes.len() {
+        let from = i * cols;
+        if bytes[i] == 1 && !are_elements(&cells[from..from + cols]) {
+            return false;
+        }
+    }
+    true
+}
+
+/// The words as a matrix of elements.
+fn matrix(alloc: Global, cells: &[u64], rows: usize, cols: usize) -> Mem<Matrix<F>>
+    requires { length cells.now ≡ rows * cols }
+    ensures { IfOk result (λ m. m ≡ word_matrix rows cols cells.now) }
+{
+    let cells = elements(alloc, cells)?;
+    Ok(Matrix::from_cells(rows, cols, cells))
+}
+
+/// Puts the values of the polynomials whose coefficients the columns are in place of these.
+pub fn evaluate(alloc: Global, cells: &mut [u64], lg: u8, cols: usize) -> Mem<()>
+    requires small { lg ≤ 32 }
+    requires count { length cells.old ≡ 2 ^ lg * cols }
+    requires below { AreElements cells.old }
+    ensures ok { OnOk result (AreWordValues cols cells.old cells.new) }
+    ensures err { OnErr result (cells.new ≡ cells.old) }
+{
+    let polynomials = PolynomialVector::from_matrix(matrix(alloc, cells, power_of_two(lg), cols)?);
+    let values = polynomials.evaluate(alloc)?.data().into_cells();
+    write_numbers(cells, &values);
+    Ok(())
+}
+
+/// Puts the coefficients of the polynomials whose values the columns are in place of these.
+pub fn interpolate(alloc: Global, cells: &mut [u64], lg: u8, cols: usize) -> Mem<()>
+    requires small { lg ≤ 32 }
+    requires count { length cells.old ≡ 2 ^ lg * cols }
+    requires below { AreElements cells.old }
+    ensures ok { OnOk result (AreWordValues cols cells.new cells.old) }
+    ensures err { OnErr result (cells.new ≡ cells.old) }
+{
+    let matrix = matrix(alloc, cells, power_of_two(lg), cols)?;
+    let points = VanishingPoints::all_non_vanishing(alloc, u32::from(lg))?;
+    let values = EvaluationVector::from_parts(matrix, points);
+    let coefficients = values.recover(alloc)?.data().into_cells();
+    write_numbers(cells, &coefficients);
+    Ok(())
+}
+
+/// A point for each byte, true where the byte is 1.
+fn points(alloc: Global, lg: u8, bytes: &[u8]) -> Mem<VanishingPoints>
+    requires small { lg ≤ 32 }
+    requires count { length bytes.now ≡ 2 ^ lg }
+    ensures { IfOk result (λ points. points ≡ truth bytes.now) }
+{
+    let mut out = VanishingPoints::new(alloc, u32::from(lg))?;
+    for i in 0..bytes.len() {
+        if bytes[i] == 1 {
+            out.set_non_vanishing(i as u64);
+        }
+    }
+    Ok(out)
+}
+
+/// Puts the coefficients of the polynomials that fit the rows whose byte is 1 in place of the cells.
+pub fn recover(alloc: Global, cells: &mut [u64], lg: u8, cols: usize, bytes: &[u8]) -> Mem<()>
+    requires small { lg ≤ 32 }
+    requires rows { length bytes.now ≡ 2 ^ lg }
+    requires shape { HasRowsFor (length cells.old) cols (length bytes.now) }
+    requires marks { All (λ b. b ≤ 1) bytes.now }
+    requires below { AreFilledElements cols cells.old bytes.now }
+    ensures ok { OnOk result (AreRecoveredWords cols cells.old bytes.now cells.new) }
+    ensures err { OnErr result (cells.new ≡ cells.old) }
+{
+    let matrix = matrix(alloc, cells, bytes.len(), cols)?;
+    let points = points(alloc, lg, bytes)?;
+    let values = EvaluationVector::from_parts(matrix, points);
+    let coefficients = values.recover(alloc)?.data().into_cells();
+    write_numbers(cells, &coefficients);
+    Ok(())
+}

@@ -1,0 +1,103 @@
+/* commonware-math for C: polynomials over the Goldilocks field, in the caller's memory.
+ *
+ * An element of the field is a whole number below P = 2^64 - 2^32 + 1, in a uint64_t. Every word that is
+ * handed in is tested: one of P or more gives CWM_OUT_OF_RANGE. Coefficients go from the constant upwards.
+ *
+ * Rows of cells lie one behind the other: cell (i, k) is cells[i * cols + k], and each column is a
+ * polynomial of its own. A domain has N = 2^lg points, lg at most 32: point i is power i of the root of
+ * order N, which is 0xee41f5320c4ea145 to the power 2^(32 - lg).
+ *
+ * Each function answers a status. Where it is not CWM_DONE, nothing was written.
+ *
+ * What no function can test, and the caller has to see to:
+ * - a pointer is not null, also where its length is 0, and is aligned for what it points to;
+ * - the length behind it is true, and below 2^63 bytes;
+ * - what is written does not overlap with anything else that is handed in;
+ * - malloc, realloc and free are the C library's, or keep its promises;
+ * - no function is called from a signal handler.
+ */
+#ifndef COMMONWARE_MATH_H
+#define COMMONWARE_MATH_H
+
+#include <stddef.h>
+#include <stdint.h>
+
+#ifdef __cplusplus
+extern "C" {
+#endif
+
+/* P, the modulus. */
+#define CWM_MODULUS UINT64_C(0xffffffff00000001)
+
+/* What a call answers. The numbers 4, 5, 7 and 8 are kept for the refusals of shards. */
+enum cwm_status {
+  CWM_DONE = 0,            /* the call did what it says */
+  CWM_OUT_OF_MEMORY = 1,   /* malloc gave none */
+  CWM_OUT_OF_RANGE = 2,    /* a word is P or more, or a byte that says whether a row is filled is neither 0 nor 1 */
+  CWM_WRONG_SIZE = 3,      /* a number of words, rows or columns is none that the call takes, or there is no room */
+  CWM_WRONG_INDEX = 6,     /* an index is not below the total, or not above the one before it */
+  CWM_END_OF_BUFFER = 9,   /* the bytes end within a polynomial */
+  CWM_INVALID_VARINT = 10, /* the bytes begin with no length */
+  CWM_INVALID_LENGTH = 11, /* the length is zero */
+  CWM_EXTRA_DATA = 12      /* bytes follow the polynomial */
+};
+
+/* How many bytes hold the text of any status and a zero behind it. */
+#define CWM_TEXT_SIZE 32
+
+/* Writes the text of a status, in ASCII, and zeros behind it, up to m bytes.
+ * CWM_WRONG_SIZE where m is below CWM_TEXT_SIZE. */
+uint32_t cwm_status_text(uint32_t status, char *text, size_t m);
+
+/* Writes the value at x of the polynomial with these n coefficients into *out.
+ * n is 1 to 2^32 - 1, else CWM_WRONG_SIZE. A word of P or more: CWM_OUT_OF_RANGE. */
+uint32_t cwm_eval(const uint64_t *coefficients, size_t n, uint64_t x, uint64_t *out);
+
+/* Row i of the cells holds coefficient i of each polynomial. Puts in its place the values at point i.
+ * n cells in rows of `cols`: cols is 1 or more and n / cols is a power of two, 2^32 at most, else
+ * CWM_WRONG_SIZE. A word of P or more: CWM_OUT_OF_RANGE. Takes memory for about as many words again, and
+ * for one more a row. */
+uint32_t cwm_evaluate(uint64_t *cells, size_t n, size_t cols);
+
+/* The way back: row i holds the values at point i, and gets coefficient i of each polynomial.
+ * Sizes and statuses as for cwm_evaluate. */
+uint32_t cwm_interpolate(uint64_t *cells, size_t n, size_t cols);
+
+/* Row i of the cells holds the values at point i of each polynomial where filled[i] is 1, and anything
+ * where it is 0. Puts in place of the cells the coefficients of the polynomials, coefficient i in row i:
+ * in each column the only one that has these values, and whose coefficients from the number of filled
+ * rows on are zero. So polynomials of at most m coefficients are recovered from any m of their rows.
+ * n cells in rows of `cols`: cols is 1 or more, rows is n / cols and a power of two, 2^32 at most, else
+ * CWM_WRONG_SIZE. A byte of `filled` that is neither 0 nor 1, or a word of P or more in a filled row:
+ * CWM_OUT_OF_RANGE. */
+uint32_t cwm_recover(uint64_t *cells, size_t n, size_t cols, const uint8_t *filled, size_t rows);
+
+/* Writes for each of the n points a weight: the sum of the values at the points, each times its weight,
+ * is the value at x, for every polynomial of at most n coefficients. Where x is one of the points, the
+ * first such has weight 1 and the others 0; and else, where a point is there twice, all weights are 0.
+ * m is n, else CWM_WRONG_SIZE. A word of P or more: CWM_OUT_OF_RANGE. Time grows with n^2. */
+uint32_t cwm_weights(const uint64_t *points, size_t n, uint64_t x, uint64_t *weights, size_t m);
+
+/* Writes the same weights for the points of a domain that have these n indices; N is `total` rounded up
+ * to a power of two. total is 1 or more and m is n, else CWM_WRONG_SIZE. The indices strictly rise and are
+ * below total, else CWM_WRONG_INDEX. x of P or more: CWM_OUT_OF_RANGE. Time grows with N lg N for x that
+ * is zero, and with N lg^2 N at most. */
+uint32_t cwm_weights_at_roots(uint32_t total, const uint32_t *indices, size_t n, uint64_t x, uint64_t *weights, size_t m);
+
+/* Writes the encoding of the polynomial with these n coefficients over the first of the m bytes of out,
+ * and their number into *written: n as 1 to 5 bytes, seven bits a byte and the lowest first, where bit 7
+ * says that another follows; then each coefficient as 8 bytes, highest first. 8 n + 5 bytes are enough.
+ * n is 1 to 2^32 - 1 and there is room, else CWM_WRONG_SIZE. A word of P or more: CWM_OUT_OF_RANGE. */
+uint32_t cwm_encode_poly(const uint64_t *coefficients, size_t n, uint8_t *out, size_t m, size_t *written);
+
+/* Writes the coefficients of the polynomial that the n bytes encode over the first of the m words of out,
+ * and their number into *count. n / 8 words are enough; less room than needed: CWM_WRONG_SIZE. Bytes that
+ * are no encoding give their first fault: CWM_INVALID_VARINT, CWM_INVALID_LENGTH, CWM_END_OF_BUFFER,
+ * CWM_OUT_OF_RANGE for a word of P or more, CWM_EXTRA_DATA. */
+uint32_t cwm_decode_poly(const uint8_t *bytes, size_t n, uint64_t *out, size_t m, size_t *count);
+
+#ifdef __cplusplus
+}
+#endif
+
+#endif
