@@ -1,5 +1,6 @@
 -- Quotients a over b modulo 97, and their operations.
-use Rattle.std.specs.Prelude.{◌≡◌, ◌⊎◌, ℕ, ◌+◌, ◌-◌, ◌*◌, ◌%◌, ◌<◌, ◌≤◌, List, [], ◌∷◌, get_or}
+use Rattle.std.specs.Prelude.{◌≡◌, ◌⊎◌, ℕ, ◌+◌, ◌-◌, ◌*◌, ◌%◌, ◌<◌, ◌≤◌, List, [], ◌∷◌, get_or, Option, Some}
+use Rattle.rand_core.specs.Stream.{Stream, next_u64}
 use Rattle.std.proofs.Common.{lit<, inl, inr}
 use Rattle.std.proofs.lemmas.Bool.{cases_lt}
 use Rattle.math_samples.specs.ModulusLaws.{remainder_below, product_above}
@@ -82,3 +83,7 @@ shift = 5
 -- the root of unity of order 2^lg
 abbrev pub root_of : ℕ → Quotient
 root_of lg = whole (root lg)
+
+-- the remainder of the next word by 97, over one, and the stream after that word
+abbrev pub sample_of : Stream → Option Quotient × Stream
+sample_of source = (Some (whole (next_u64 source).0), (next_u64 source).1)

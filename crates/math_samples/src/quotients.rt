@@ -11,8 +11,10 @@ ghost use Rattle.math_samples.specs.declared.quotients.TheConstants.{MODULUS};
 ghost use Rattle.math_samples.specs.ByteSums.{remainder_of_sum};
 
 use math_base::algebra::{
-    Additive, CryptoGroup, Field, FieldNTT, HashToGroup, Mem, Multiplicative, Object, Ring,
+    Additive, CryptoGroup, Field, FieldNTT, HashToGroup, Mem, Multiplicative, Object, Random,
+    RandomError, Ring,
 };
+use rand_core::{CryptoRng, Rng};
 use std::alloc::Global;
 
 /// The modulus, which is prime.
@@ -35,7 +37,7 @@ pub struct Quotient {
 }
 
 impl Quotient {
-    ghost use Rattle.math_samples.specs.Quotients.{numerator_of, denominator_of, over_both, sum, negative, product, inverse, half};
+    ghost use Rattle.math_samples.specs.Quotients.{numerator_of, denominator_of, over_both, whole, sum, negative, product, inverse, half};
 
     /// The quotient of two numbers below 97, of which the second is not zero.
     pub fn new(numerator: u64, denominator: u64) -> Quotient
@@ -99,6 +101,16 @@ impl Quotient {
         ensures { result ≡ product self r }
     {
         Quotient::over_both(self.numerator * r.numerator, self, r)
+    }
+
+    /// The remainder of a number by 97, over one.
+    fn whole(n: u64) -> Quotient
+        ensures { result ≡ whole n }
+    {
+        Quotient {
+            numerator: n % MODULUS,
+            denominator: 1,
+        }
     }
 
     /// The fraction turned over, and zero for zero.
@@ -288,6 +300,18 @@ impl HashToGroup for Quotient {
     fn hash_to_group(_alloc: Global, domain_separator: &[u8], message: &[u8]) -> Mem<Quotient> {
         let total = remainder_of_sum(domain_separator) + remainder_of_sum(message);
         Ok(Quotient::new(total % MODULUS, 1))
+    }
+}
+
+/// A sample is the remainder of the next word by 97, over one.
+impl Random for Quotient {
+    ghost use Rattle.math_samples.specs.Quotients.{sample_of};
+
+    ghost sample = { sample_of };
+
+    fn random<G: Rng + CryptoRng>(_alloc: Global, rng: &mut G) -> Result<Quotient, RandomError> {
+        let word = rng.next_u64();
+        Ok(Quotient::whole(word))
     }
 }
 

@@ -13,4 +13,6 @@ mod memory;
 #[cfg(test)]
 mod packing;
 #[cfg(test)]
+mod shares;
+#[cfg(test)]
 mod texts;

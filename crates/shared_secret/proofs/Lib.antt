@@ -1,0 +1,5 @@
+pub mod IndexPoints
+pub mod PairsByPlace
+pub mod DealtShares
+pub mod CombinedShares
+pub mod DealingSteps

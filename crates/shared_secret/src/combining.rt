@@ -1,0 +1,105 @@
+//! Combining of shares.
+
+ghost use Rattle.std.specs.Prelude.{◌≡◌, ◌<◌, ◌≤◌, List, length, All, IfOk, IfErr};
+ghost use Rattle.std.specs.List.{AllZip, enumerate_from};
+ghost use Rattle.std.specs.Map.{values_of};
+ghost use Rattle.math_theory.specs.Interpolation.{AreApart, SomeAreSame};
+ghost use Rattle.math_base.specs.Polynomials.{AreWeightsAt, value_in_ring};
+ghost use Rattle.shared_secret.specs.Shares.{AreCombinable, AreSharesOf, IsCombined, HasZeroIndex, point, points};
+ghost use Rattle.shared_secret.specs.declared.error.CombineError.TheVariants.{TooFewShares, ZeroIndex, RepeatedIndex};
+
+use crate::error::CombineError;
+use crate::shares::{Share, point};
+use commonware_math::algebra::{Field, Mem, Object, Space};
+use commonware_math::poly::Interpolator;
+use math_ntt::weights::first_place;
+use std::alloc::Global;
+
+/// Combines the shares, in any order, to the secret: the sum of their values, each times the weight of its
+/// point for the value at zero.
+///
+/// Where they are values of one polynomial of at most as many coefficients as shares, it is the constant of
+/// that polynomial; so any t shares of a deal combine to its secret. A share with another value than it was
+/// dealt gives another secret, unnoticed; `verify` finds such a share.
+///
+/// It refuses with `TooFewShares` where there are fewer than t, then at the first share whose index it can't
+/// take: with `ZeroIndex` where the index has the point zero, and with `RepeatedIndex` where it has the point
+/// of an index before it; or with `Memory`.
+pub fn combine<F: Field>(alloc: Global, t: u32, shares: &[Share<F>]) -> Result<F, CombineError>
+    ensures combinable { IfOk result (λ _. AreCombinable F.Ring t shares.now) }
+    ensures combined { IfOk result (λ secret. IsCombined F.Ring shares.now secret) }
+    ensures constant { IfOk result (λ secret. (p : List F) → length p ≤ length shares.now
+        → AreSharesOf F.Ring p shares.now → F.same secret (value_in_ring F.Ring p F.zero)) }
+    ensures few { IfErr result (λ error. error ≡ TooFewShares → length shares.now < t) }
+    ensures zero { IfErr result (λ error. error ≡ ZeroIndex → HasZeroIndex F.Ring shares.now) }
+    ensures repeated { IfErr result (λ error. error ≡ RepeatedIndex
+        → SomeAreSame F.same (points F.Ring shares.now)) }
+{
+    if shares.len() < t as usize {
+        return Err(CombineError::TooFewShares);
+    }
+    let points = distinct_points(alloc, shares)?;
+    let weights = weights_at_zero(alloc, points)?;
+    let values = copied_values(alloc, shares)?;
+    let secret = F::msm(alloc, &values, weights.weights().values())?;
+    Ok(secret)
+}
+
+/// The points of the indices, in order; none is zero, and no two are the same.
+fn distinct_points<F: Field>(alloc: Global, shares: &[Share<F>]) -> Result<Vec<F>, CombineError>
+    ensures points { IfOk result (λ xs. AllZip (λ share x. F.same x (point F.Ring share.index)) shares.now xs.items) }
+    ensures nonzero { IfOk result (λ xs. All (λ x. ¬ (F.same x F.zero)) xs.items) }
+    ensures apart { IfOk result (λ xs. AreApart F.same xs.items) }
+    ensures few { IfErr result (λ error. ¬ (error ≡ TooFewShares)) }
+    ensures zero { IfErr result (λ error. error ≡ ZeroIndex → HasZeroIndex F.Ring shares.now) }
+    ensures repeated { IfErr result (λ error. error ≡ RepeatedIndex
+        → SomeAreSame F.same (points F.Ring shares.now)) }
+{
+    let zero = F::zero(alloc)?;
+    let mut out: Vec<F> = Vec::with_capacity(alloc, shares.len())?;
+    for share in shares {
+        let x: F = point(alloc, share.index)?;
+        if x.equals(alloc, &zero)? {
+            return Err(CombineError::ZeroIndex);
+        }
+        if first_place(alloc, &out, &x)?.is_some() {
+            return Err(CombineError::RepeatedIndex);
+        }
+        out.push(x)?;
+    }
+    Ok(out)
+}
+
+/// The weights of the points for the value at zero, each with the place of its point.
+fn weights_at_zero<F: Field>(alloc: Global, points: Vec<F>) -> Mem<Interpolator<usize, F>>
+    ensures { IfOk result (λ weights. AreApart F.same points.items
+        → AreWeightsAt F.Ring F.zero points.items (values_of weights)) }
+{
+    let pairs = by_place(alloc, points)?;
+    let out = Interpolator::new(alloc, pairs)?;
+    Ok(out)
+}
+
+/// The items, each with its place.
+fn by_place<T: Drop>(alloc: Global, items: Vec<T>) -> Mem<Vec<(usize, T)>>
+    ensures { IfOk result (λ pairs. pairs.items ≡ enumerate_from 0 items.items) }
+{
+    let mut out = Vec::with_capacity(alloc, items.len())?;
+    for item in items {
+        let place = out.len();
+        out.push((place, item))?;
+    }
+    Ok(out)
+}
+
+/// Copies of the values, in order.
+fn copied_values<T: Object>(alloc: Global, shares: &[Share<T>]) -> Mem<Vec<T>>
+    ensures { IfOk result (λ copies. AllZip (λ share copy. T.same copy share.value) shares.now copies.items) }
+{
+    let mut out = Vec::with_capacity(alloc, shares.len())?;
+    for share in shares {
+        let copy = share.value.clone(alloc)?;
+        out.push(copy)?;
+    }
+    Ok(out)
+}

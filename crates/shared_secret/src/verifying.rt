@@ -1,0 +1,29 @@
+//! Verifying of shares.
+
+ghost use Rattle.std.specs.Prelude.{◌↔◌, IfOk, IsOk, IsTrue};
+ghost use Rattle.shared_secret.specs.Shares.{IsVerified};
+
+use crate::shares::{Share, point};
+use commonware_math::algebra::{CryptoGroup, Mem, Object, Space};
+use commonware_math::poly::Poly;
+use std::alloc::Global;
+
+/// Whether the generator scaled by the share's value is same as the commitment's value at the point of its
+/// index, as it is for each share that `deal_committed` deals with this commitment.
+///
+/// It says nothing of the index: `combine` refuses the index zero.
+pub fn verify<K: CryptoGroup>(
+    alloc: Global,
+    share: &Share<K::Scalar>,
+    commitment: &Poly<K>,
+) -> Mem<bool>
+    ensures { IfOk result (λ answer. IsTrue answer
+        ↔ IsVerified K.Space K.Scalar.Ring K.generator commitment.now share.now) }
+{
+    let x = point::<K::Scalar>(alloc, share.index)?;
+    let committed = commitment.eval(alloc, &x)?;
+    let mut scaled = K::generator(alloc)?;
+    scaled.scale_assign(alloc, &share.value)?;
+    let answer = scaled.equals(alloc, &committed)?;
+    Ok(answer)
+}
