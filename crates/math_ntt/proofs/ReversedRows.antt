@@ -1,51 +1,52 @@
 -- Rows put in bit-reversed order, each pair exchanged once.
-use Rattle.std.proofs.Common.{◌≡◌, ◌≢◌, ◌∙◌, inl, inr, ℕ, zero, suc, ◌+◌, ◌-◌, ◌*◌, ◌/◌, ◌%◌, ◌^◌, ◌<◌, ◌≤◌, List, get_or, refl, sym, ap, subst, pow-suc, pow-add, mul_comm, w64, arith}
-use Rattle.std.specs.Int.{reverse_bits, reverse_bits_onto}
-use Rattle.std.proofs.Math.Nat.{mul-div_cancel_left}
+use Rattle.std.proofs.Common.{◌≡◌, ◌≢◌, ◌∙◌, inl, inr, ℕ, zero, suc, ◌+◌, ◌-◌, ◌*◌, ◌/◌, ◌%◌, ◌^◌, ◌<◌, ◌≤◌, List, get_or, refl, sym, ap, subst, arith}
 use Rattle.std.proofs.lemmas.Bool.{cases_lt}
-use Rattle.std.proofs.lemmas.Nat.{pow_pos, div-mul-add}
+use Rattle.std.proofs.lemmas.Nat.{div-mul-add}
 use Rattle.math_numbers.specs.Bits.{bits-zero, number}
 use Rattle.math_theory.specs.BitReversal.{bit_reversed}
 use Rattle.math_theory.proofs.transforms.BitOrder.{bit_reversed-suc, bit_reversed-below}
 use Rattle.std.proofs.Common.{reverse}
 
--- the bits of a word in the opposite order, one after the other
-onto : (k n a : ℕ) → reverse_bits_onto k n a ≡ a * 2 ^ k + bit_reversed k n
-unfolding reverse_bits_onto
-onto zero n a = let e : bit_reversed 0 n ≡ 0 = ap (λ t. number (reverse t)) (bits-zero n) in omega (arith, e)
-onto (suc k) n a =
-    let p : 2 ^ suc k ≡ 2 ^ k * 2 = pow-suc 2 k in
-    onto k (n / 2) (a * 2 + n % 2) ∙ omega (arith, bit_reversed-suc k n, ap (λ t. a * t) p)
-
-reversed-zero : (k : ℕ) → bit_reversed k 0 ≡ 0
+-- zero has zero bits alone
+pub reversed-zero : (k : ℕ) → bit_reversed k 0 ≡ 0
 reversed-zero zero = ap (λ t. number (reverse t)) (bits-zero 0)
 reversed-zero (suc k) = bit_reversed-suc k 0 ∙ omega (arith, reversed-zero k)
 
--- with m zero bits above the lg bits
-reversed-more : (lg m i : ℕ) → i < 2 ^ lg → bit_reversed (lg + m) i ≡ 2 ^ m * bit_reversed lg i
-reversed-more zero m i h =
-    let z : i ≡ 0 = omega arith in
-    let n : 0 + m ≡ m = omega arith in
-    rw (z, n) (reversed-zero m ∙ omega (arith, ap (λ t. 2 ^ m * t) (reversed-zero 0)))
-reversed-more (suc lg) m i h =
-    let n : suc lg + m ≡ suc (lg + m) = omega arith in
-    let half : i / 2 < 2 ^ lg = omega (arith, pow-suc 2 lg) in
-    let p : 2 ^ (lg + m) ≡ 2 ^ m * 2 ^ lg = pow-add 2 lg m ∙ mul_comm (2 ^ lg) (2 ^ m) in
-    ap (λ t. bit_reversed t i) n ∙ bit_reversed-suc (lg + m) i
-    ∙ omega (arith, reversed-more lg m (i / 2) half, bit_reversed-suc lg i, ap (λ t. (i % 2) * t) p, ap (λ t. 2 ^ m * t) (bit_reversed-suc lg i))
+-- counting up by one, where the lowest bit is zero
+next-even : (lg i : ℕ) → bit_reversed (suc lg) i < 2 ^ lg → bit_reversed (suc lg) (i + 1) ≡ bit_reversed (suc lg) i + 2 ^ lg
+next-even lg i h = elim (cases_lt (i % 2) 1) [
+  | inl even ↦
+      let e : i % 2 ≡ 0 = omega (arith, even) in
+      let f : (i + 1) % 2 ≡ 1 = omega (arith, e) in
+      let g : (i + 1) / 2 ≡ i / 2 = omega (arith, e) in
+      let old = rw e at (bit_reversed-suc lg i) in
+      let new = rw (f, g) at (bit_reversed-suc lg (i + 1)) in
+      omega (arith, old, new)
+  | inr odd ↦ let e : i % 2 ≡ 1 = omega (arith, odd) in let old = rw e at (bit_reversed-suc lg i) in absurd (omega (arith, old, h))
+]
 
-pub reversed-shifted : (lg i : ℕ) → lg ≤ 64 → i < 2 ^ lg → reverse_bits w64 i / 2 ^ (64 - lg) ≡ bit_reversed lg i
-reversed-shifted lg i h l =
-    let e : lg + (64 - lg) ≡ 64 = omega arith in
-    let q : reverse_bits_onto 64 i 0 ≡ 2 ^ (64 - lg) * bit_reversed lg i =
-    onto 64 i 0 ∙ omega arith ∙ ap (λ t. bit_reversed t i) (sym e) ∙ reversed-more lg (64 - lg) i l in
-    ap (λ t. t / 2 ^ (64 - lg)) q ∙ mul-div_cancel_left _ (pow_pos (64 - lg))
+-- and where it is one
+next-odd : (lg i : ℕ) → 2 ^ lg ≤ bit_reversed (suc lg) i → (i % 2 ≡ 1) × (bit_reversed lg (i / 2) ≡ bit_reversed (suc lg) i - 2 ^ lg) × (bit_reversed (suc lg) (i + 1) ≡ bit_reversed lg (i / 2 + 1))
+next-odd lg i h = elim (cases_lt (i % 2) 1) [
+  | inl even ↦ let e : i % 2 ≡ 0 = omega (arith, even) in let old = rw e at (bit_reversed-suc lg i) in absurd (omega (arith, old, h, bit_reversed-below lg (i / 2)))
+  | inr odd ↦
+      let e : i % 2 ≡ 1 = omega (arith, odd) in
+      let f : (i + 1) % 2 ≡ 0 = omega (arith, e) in
+      let g : (i + 1) / 2 ≡ i / 2 + 1 = omega (arith, e) in
+      let old = rw e at (bit_reversed-suc lg i) in
+      let new = rw (f, g) at (bit_reversed-suc lg (i + 1)) in
+      (e, omega (arith, old), omega (arith, new))
+]
 
-pub reversed-single : (lg i : ℕ) → lg ≤ 0 → i < 2 ^ lg → bit_reversed lg i ≡ i
-reversed-single lg i h l =
-    let z : lg ≡ 0 = omega arith in
-    let one : 2 ^ lg ≡ 1 = ap (λ n. 2 ^ n) z in
-    omega (arith, one, bit_reversed-below lg i)
+-- the same of numbers of lg bits, lg being positive
+pub next-with_zero : (lg i : ℕ) → 0 < lg → bit_reversed lg i < 2 ^ (lg - 1) → bit_reversed lg (i + 1) ≡ bit_reversed lg i + 2 ^ (lg - 1)
+next-with_zero zero i some h = absurd (omega arith)
+next-with_zero (suc lg) i some h = let e : suc lg - 1 ≡ lg = omega arith in rw e (next-even lg i (rw e at h))
+
+pub next-with_one : (lg i : ℕ) → 0 < lg → 2 ^ (lg - 1) ≤ bit_reversed lg i
+    → (i % 2 ≡ 1) × (bit_reversed (lg - 1) (i / 2) ≡ bit_reversed lg i - 2 ^ (lg - 1)) × (bit_reversed lg (i + 1) ≡ bit_reversed (lg - 1) (i / 2 + 1))
+next-with_one zero i some h = absurd (omega arith)
+next-with_one (suc lg) i some h = let e : suc lg - 1 ≡ lg = omega arith in rw e (next-odd lg i (rw e at h))
 
 -- what holds once the rows below i have their places
 pub record IsReversedBelow {A : Type 0} (count : ℕ) (other : ℕ → ℕ) (old new : ℕ → A) (i : ℕ) : Type 0 where

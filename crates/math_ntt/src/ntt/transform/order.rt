@@ -9,14 +9,25 @@ ghost use Rattle.math_ntt.specs.Matrices.{cell_of};
 use super::size_of;
 use math_base::algebra::Additive;
 
-// The number whose lg bits are those of i in the opposite order.
-fn reversed(i: usize, lg: u8) -> usize
-    requires positive { 0 < lg }
+// The number whose lg bits are those of i + 1 in the opposite order, where those of j are the bits of i.
+//
+// Counting up by one turns the ones below the lowest zero bit to zeros, and that zero to a one. In the
+// opposite order these are the highest bits: on the average two of them are looked at.
+fn next_reversed(j: usize, lg: u8) -> usize
     requires small { lg < 64 }
-    requires below { i < 2 ^ lg }
-    ensures { result ≡ bit_reversed lg i }
+    requires below { j < 2 ^ lg }
+    ensures below { result < 2 ^ lg }
+    ensures next { (i : ℕ) → i + 1 < 2 ^ lg → j ≡ bit_reversed lg i → result ≡ bit_reversed lg (i + 1) }
 {
-    i.reverse_bits() >> (64 - u32::from(lg))
+    if lg == 0 {
+        return 0;
+    }
+    let half = size_of(lg - 1);
+    if j < half {
+        j + half
+    } else {
+        next_reversed(j - half, lg - 1)
+    }
 }
 
 // Exchanges two rows of `cols` cells.
@@ -44,13 +55,12 @@ pub(super) fn reverse_rows<F: Additive>(cells: &mut [F], cols: usize, lg: u8)
     requires size { length cells.old ≡ 2 ^ lg * cols }
     ensures { AreRowsReversed F.zero lg (matrix_of (2 ^ lg) cols cells.old) (matrix_of (2 ^ lg) cols cells.new) }
 {
-    if lg > 0 {
-        let rows = size_of(lg);
-        for i in 0..rows {
-            let j = reversed(i, lg);
-            if i < j {
-                swap_rows(cells, rows, cols, i, j);
-            }
+    let rows = size_of(lg);
+    let mut j = 0;
+    for i in 0..rows {
+        if i < j {
+            swap_rows(cells, rows, cols, i, j);
         }
+        j = next_reversed(j, lg);
     }
 }

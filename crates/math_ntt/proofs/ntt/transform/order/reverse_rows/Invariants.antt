@@ -1,13 +1,17 @@
-use Rattle.std.proofs.Common.{ℕ, ◌<◌, ◌^◌}
+use Rattle.std.proofs.Common.{◌≡◌, ℕ, ◌<◌, ◌^◌}
 use Rattle.math_theory.specs.BitReversal.{bit_reversed}
 use Rattle.math_ntt.specs.DomainValues.{matrix_of}
 use Rattle.math_ntt.specs.Matrices.{cell_of}
 use Rattle.math_ntt.proofs.ReversedRows.{IsReversedBelow}
 use Rattle.math_ntt.proofs.ntt.transform.order.reverse_rows.Given as goal
 
--- in each column the rows so far have their places
+-- j has the bits of i in the opposite order, and in each column the rows so far have their places
 abbrev pub invariant-loop-i : goal.invariant-loop-i
 invariant-loop-i g l =
     let d = g.F.Additive.zero in
-    (k : ℕ) → k < l.cols
-    → IsReversedBelow (2 ^ l.lg) (bit_reversed l.lg) (λ r. cell_of d (matrix_of (2 ^ l.lg) l.cols l.initial.cells) r k) (λ r. cell_of d (matrix_of (2 ^ l.lg) l.cols l.cells) r k) l.i
+    record {
+      within : l.j < 2 ^ l.lg;
+      reversed : l.i < 2 ^ l.lg → l.j ≡ bit_reversed l.lg l.i;
+      rows : (k : ℕ) → k < l.cols
+          → IsReversedBelow (2 ^ l.lg) (bit_reversed l.lg) (λ r. cell_of d (matrix_of (2 ^ l.lg) l.cols l.initial.cells) r k) (λ r. cell_of d (matrix_of (2 ^ l.lg) l.cols l.cells) r k) l.i;
+    }
