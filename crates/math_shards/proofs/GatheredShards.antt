@@ -90,7 +90,8 @@ module _ (lg width : ℕ) (first : Shard) (shards : List Shard) (domain : first.
                 let marked : get_or e.filled s.index false ≡ true = h.marks s.index inside ∙ ap (has_index (take n shards)) (sym eq) ∙ index_before shards n p d before (omega (arith, l)) in
                 let row : same (cell_of nought e.matrix s.index k) (get_or s.cells.items k nought) =
                 ap (λ x. x.value) (sym (rows_hold_cells e.matrix s.index k nought (omega (arith, h.size.1, t))))
-                ∙ AllZip-get_or same (row_of e.matrix s.index) s.cells.items k nought nought (agrees marked) (omega (arith, t, count, length_all_zip same (row_of e.matrix s.index) s.cells.items (agrees marked))) in
+                ∙ AllZip-get_or same (row_of e.matrix s.index) s.cells.items k nought nought (agrees marked)
+                (omega (arith, t, count, length_all_zip same (row_of e.matrix s.index) s.cells.items (agrees marked))) in
                 ap (λ i. (cell_of nought f.matrix i k).value) eq ∙ here k t ∙ sym row ∙ ap (λ i. (cell_of nought e.matrix i k).value) (sym eq) ∙ h.cells p d before k t
             | inr apart ↦
                 ap (λ x. x.value) (alone.1.others nought (get_or shards p d).index k (omega (arith, h.size.0, below p d (omega (arith, before, l)))) (omega (arith, h.size.1, t)) (λ q _. apart q))
@@ -104,7 +105,8 @@ module _ (lg width : ℕ) (first : Shard) (shards : List Shard) (domain : first.
       }
 
   -- the row of an earlier shard holds its cells
-  row_at : (n : ℕ) (e : EvaluationsOf F) → HoldsFirst lg width shards n e → n ≤ length shards → (p : ℕ) (d : Shard) → p < n → AllZip same (row_of e.matrix (get_or shards p d).index) (get_or shards p d).cells.items
+  row_at : (n : ℕ) (e : EvaluationsOf F) → HoldsFirst lg width shards n e → n ≤ length shards → (p : ℕ) (d : Shard) → p < n
+      → AllZip same (row_of e.matrix (get_or shards p d).index) (get_or shards p d).cells.items
   row_at n e h m p d l =
       let row : ℕ = (get_or shards p d).index in
       let there : p < length shards = omega (arith, l, m) in
@@ -133,7 +135,9 @@ module _ (lg width : ℕ) (first : Shard) (shards : List Shard) (domain : first.
       let at : get_or shards p t ≡ t = sym (get_or-take n shards p t early) ∙ before.3 in
       let eq : t.index ≡ s.index = eqb-true t.index s.index before.4 in
       let row : AllZip same (row_of e.matrix t.index) t.cells.items = subst (λ (u : Shard). AllZip same (row_of e.matrix u.index) u.cells.items) at (row_at n e h (omega (arith, l)) p t early) in
-      (n, s, l, sym is, (p, t, omega (arith, early, l), at, (eq, λ equal. others.1 (subst (λ i. AllZip same (row_of e.matrix i) s.cells.items) eq (subst (AllZip same (row_of e.matrix t.index)) (same_are_equal t.cells.items s.cells.items equal) row)))))
+      let of_both : AllZip same t.cells.items s.cells.items → AllZip same (row_of e.matrix t.index) s.cells.items =
+      λ equal. subst (AllZip same (row_of e.matrix t.index)) (same_are_equal t.cells.items s.cells.items equal) row in
+      (n, s, l, sym is, (p, t, omega (arith, early, l), at, (eq, λ equal. others.1 (subst (λ i. AllZip same (row_of e.matrix i) s.cells.items) eq (of_both equal)))))
 
   -- the fault that a step of the loop answers is due
   pub fault_at : (n : ℕ) (s : Shard) (e : EvaluationsOf F) → HoldsFirst lg width shards n e → n < length shards → s ≡ get_or shards n s

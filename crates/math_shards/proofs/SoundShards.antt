@@ -7,7 +7,10 @@ use Rattle.math_shards.specs.Joining.{HasUnsound, IsSound}
 
 -- a list is what stands before place i, the item there, and what stands after it
 parts_at : {X : Type 0} (xs : List X) (i : ℕ) (x : X) → i < length xs → x ≡ get_or xs i x → xs ≡ take i xs ++ x ∷ drop (i + 1) xs
-parts_at xs i x l e = sym (take-append-drop (i + 1) xs) ∙ ap (λ ys. ys ++ drop (i + 1) xs) (take_more xs i x l ∙ ap (λ y. take i xs ++ y ∷ []) (sym e)) ∙ append_assoc (take i xs) (x ∷ []) (drop (i + 1) xs)
+parts_at xs i x l e =
+    sym (take-append-drop (i + 1) xs)
+    ∙ ap (λ ys. ys ++ drop (i + 1) xs) (take_more xs i x l ∙ ap (λ y. take i xs ++ y ∷ []) (sym e))
+    ∙ append_assoc (take i xs) (x ∷ []) (drop (i + 1) xs)
 
 -- where the shards before place i are sound, and P holds of the one there, it is the first for which it does
 pub unsound_at : (first : Shard) (P : Shard → Type 0) (shards : List Shard) (i : ℕ) (s : Shard) → i < length shards → s ≡ get_or shards i s
