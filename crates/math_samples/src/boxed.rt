@@ -19,12 +19,20 @@ use math_base::algebra::{
 use math_base::fields::goldilocks::F;
 use rand_core::{CryptoRng, Rng};
 use std::alloc::Global;
+use std::fmt;
 use std::marker::Model;
 
 /// An element in a box.
-#[derive(Debug, Drop)]
+#[derive(Drop)]
 pub struct Boxed<T: Drop> {
     element: Box<T>,
+}
+
+/// The text of the element.
+impl<T: fmt::Debug + Drop> fmt::Debug for Boxed<T> {
+    fn fmt<W: fmt::Write>(&self, f: &mut fmt::Formatter<W>) -> fmt::Result {
+        write!(f, "{:?}", self.element)
+    }
 }
 
 /// A boxed element is the element.
