@@ -1,14 +1,15 @@
 //! Vectors of polynomials and of evaluations.
 
-ghost use Rattle.std.specs.Prelude.{IfOk, IfSome};
+ghost use Rattle.std.specs.Prelude.{◌≡◌, IfOk, IfSome};
 ghost use Rattle.std.specs.Int.{IsNextPowerOfTwo};
 
-use super::matrices::{matrix, put_matrix};
-use crate::answer::{Answer, put, put_firsts};
-use crate::fault::Fault;
-use crate::words::{elements, number, parted, two_numbers};
-use commonware_math::ntt::{EvaluationVector, Matrix, PolynomialVector};
+use crate::matrices::{matrix, put_matrix};
+use math_base::algebra::Mem;
+use math_ntt::ntt::{EvaluationVector, Matrix, PolynomialVector};
 use math_samples::elements::Element;
+use rows_base::answer::{Answer, put, put_firsts};
+use rows_base::fault::Fault;
+use rows_base::words::{elements, number, parted, two_numbers};
 use std::alloc::Global;
 
 /// Runs a call of this module; `false` where it is none.
@@ -55,6 +56,20 @@ pub fn padded<R: Element>(
     Ok(m.as_polynomials(alloc, n)?)
 }
 
+/// Adds the first rows of coefficients, each after `;`.
+fn put_first<R: Element>(
+    alloc: Global,
+    v: &PolynomialVector<R>,
+    up_to: usize,
+    answer: &mut Answer<R>,
+) -> Mem<()> {
+    for row in v.coefficients_up_to(up_to) {
+        answer.text.push_str(" ;")?;
+        answer.copies(alloc, row)?;
+    }
+    Ok(())
+}
+
 /// `coefficients_up_to U @ N @ M`: the columns of M as polynomials of N coefficients at least, and the
 /// first U rows of them, each after `;`; or `none`.
 fn first_rows<R: Element>(
@@ -64,15 +79,19 @@ fn first_rows<R: Element>(
 ) -> Result<(), Fault> {
     let (up_to, columns) = parted(arguments, '@')?;
     let up_to = number(up_to.trim())? as usize;
-    let Some(v) = polynomials::<R>(alloc, columns)? else {
-        answer.text.push_str(" none")?;
-        return Ok(());
-    };
-    for row in v.coefficients_up_to(up_to) {
-        answer.text.push_str(" ;")?;
-        answer.copies(alloc, row)?;
+    match polynomials::<R>(alloc, columns)? {
+        Some(v) => put_first(alloc, &v, up_to, answer)?,
+        None => answer.text.push_str(" none")?,
     }
     Ok(())
+}
+
+/// A copy of a vector of polynomials, from `N @ M`.
+fn copied<R: Element>(alloc: Global, text: &str) -> Result<PolynomialVector<R>, Fault> {
+    match polynomials::<R>(alloc, text)? {
+        Some(v) => Ok(v.clone(alloc)?),
+        None => Err(Fault::OutOfRange("no polynomials")),
+    }
 }
 
 /// `polynomials_equal N @ M ; ..`: for each vector of polynomials the place of the first that it equals.
@@ -83,8 +102,7 @@ fn same_polynomials<R: Element>(
 ) -> Result<(), Fault> {
     let mut items = Vec::new(alloc);
     for part in arguments.split(';') {
-        let v = polynomials::<R>(alloc, part)?.ok_or(Fault::OutOfRange("no polynomials"))?;
-        items.push(v.clone(alloc)?)?;
+        items.push(copied::<R>(alloc, part)?)?;
     }
     put_firsts(
         &mut answer.text,
@@ -94,35 +112,58 @@ fn same_polynomials<R: Element>(
     Ok(())
 }
 
-/// What a row is filled with, from `ROW : CELL ..`.
-pub fn fill<R: Element>(alloc: Global, text: &str) -> Result<(usize, Vec<R>), Fault> {
-    let (row, cells) = parted(text, ':')?;
-    let row = number(row.trim())? as usize;
-    Ok((row, elements::<R>(alloc, cells)?))
+/// Rows of values, some of which are filled.
+#[derive(Drop)]
+pub struct Values<R: Element> {
+    pub vector: EvaluationVector<R>,
+    pub rows: usize,
+    pub cols: usize,
+    ghost has_rows: { vector.matrix.rows ≡ rows },
+    ghost has_cols: { vector.matrix.cols ≡ cols },
+}
+
+impl<R: Element> Values<R> {
+    /// 2^lg rows of zeros, none of which is filled.
+    pub fn empty(alloc: Global, lg: u64, cols: u64) -> Result<Values<R>, Fault> {
+        if lg >= 64 {
+            return Err(Fault::OutOfRange("too many rows"));
+        }
+        let rows: usize = 1 << lg;
+        let cols = cols as usize;
+        if rows.checked_mul(cols).is_none() {
+            return Err(Fault::OutOfRange("too many cells"));
+        }
+        let vector = EvaluationVector::empty(alloc, lg as usize, cols)?;
+        Ok(Values { vector, rows, cols })
+    }
+
+    /// Fills a row.
+    pub fn fill(&mut self, alloc: Global, row: usize, cells: &[R]) -> Result<(), Fault> {
+        if row >= self.rows || cells.len() > self.cols {
+            return Err(Fault::OutOfRange("no such cells"));
+        }
+        self.vector.fill_row(alloc, row, cells)?;
+        Ok(())
+    }
+
+    /// Fills a row, from `ROW : CELL ..`.
+    pub fn fill_from(&mut self, alloc: Global, text: &str) -> Result<(), Fault> {
+        let (row, cells) = parted(text, ':')?;
+        let row = number(row.trim())? as usize;
+        self.fill(alloc, row, &elements::<R>(alloc, cells)?)
+    }
 }
 
 /// The vector of 2^LG rows of so many columns, of which some are filled one after the other, from
 /// `LG COLUMNS @ ROW : CELL .. @ ..`.
-fn filled<R: Element>(alloc: Global, text: &str) -> Result<EvaluationVector<R>, Fault> {
+pub fn filled<R: Element>(alloc: Global, text: &str) -> Result<Values<R>, Fault> {
     let (size, _fills) = text.split_once('@').unwrap_or((text, ""));
     let (lg, cols) = two_numbers(size)?;
-    let (lg, cols) = (lg as usize, cols as usize);
-    if lg >= 64 {
-        return Err(Fault::OutOfRange("too many rows"));
-    }
-    let rows: usize = 1 << lg;
-    if rows.checked_mul(cols).is_none() {
-        return Err(Fault::OutOfRange("too many cells"));
-    }
-    let mut v = EvaluationVector::empty(alloc, lg, cols)?;
+    let mut values = Values::empty(alloc, lg, cols)?;
     for part in text.split('@').skip(1) {
-        let (row, cells) = fill::<R>(alloc, part)?;
-        if row >= rows || cells.len() > cols {
-            return Err(Fault::OutOfRange("no such cells"));
-        }
-        v.fill_row(alloc, row, &cells)?;
+        values.fill_from(alloc, part)?;
     }
-    Ok(v)
+    Ok(values)
 }
 
 /// `fill_rows LG COLUMNS @ ROW : CELL .. @ ..`: how many rows are filled, and the matrix.
@@ -131,7 +172,7 @@ fn fill_rows<R: Element>(
     arguments: &str,
     answer: &mut Answer<R>,
 ) -> Result<(), Fault> {
-    let v = filled::<R>(alloc, arguments)?;
+    let v = filled::<R>(alloc, arguments)?.vector;
     put(&mut answer.text, v.filled_rows() as u64)?;
     put_matrix(alloc, &v.data(), answer)?;
     Ok(())
@@ -146,7 +187,7 @@ fn same_evaluations<R: Element>(
 ) -> Result<(), Fault> {
     let mut items = Vec::new(alloc);
     for part in arguments.split(';') {
-        items.push(filled::<R>(alloc, part)?)?;
+        items.push(filled::<R>(alloc, part)?.vector)?;
     }
     put_firsts(
         &mut answer.text,

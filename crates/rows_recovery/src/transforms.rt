@@ -1,16 +1,17 @@
 //! Values of polynomials at the points of domains, and polynomials that vanish at some.
 
-ghost use Rattle.std.specs.Prelude.{IsTrue};
+ghost use Rattle.std.specs.Prelude.{◌≤◌, length, IsTrue};
 ghost use Rattle.math_ntt.specs.DomainValues.{HasDomain};
 
-use super::matrices::{matrix, put_matrix};
-use super::vectors::padded;
-use crate::answer::{Answer, put};
-use crate::fault::Fault;
-use crate::words::{number, parted, short};
-use commonware_math::algebra::{Field, Multiplicative, Object};
-use commonware_math::ntt::{EvaluationColumn, EvaluationVector, VanishingPoints, Work};
+use math_base::algebra::{Field, Mem, Multiplicative, Object};
+use math_ntt::ntt::{EvaluationColumn, EvaluationVector, PolynomialColumn, VanishingPoints, Work};
 use math_samples::elements::Element;
+use rows_base::answer::{Answer, put};
+use rows_base::fault::Fault;
+use rows_base::words::{number, parted};
+use rows_ntt::bitmaps::{empty, set};
+use rows_ntt::matrices::{matrix, put_matrix};
+use rows_ntt::vectors::padded;
 use std::alloc::Global;
 
 /// Runs a call of this module; `false` where it is none.
@@ -21,13 +22,8 @@ pub fn run<R: Element>(
     answer: &mut Answer<R>,
 ) -> Result<bool, Fault> {
     match call {
-        "evaluate" => {
-            let values = evaluated(alloc, arguments, answer)?;
-            put_matrix(alloc, &values.data(), answer)?;
-        }
-        "evaluate_work" => {
-            let _values = evaluated(alloc, arguments, answer)?;
-        }
+        "evaluate" => evaluate(alloc, arguments, answer)?,
+        "evaluate_work" => evaluate_work(alloc, arguments, answer)?,
         "vanishing" => put_vanishing(alloc, arguments, answer)?,
         "vanishing_polynomial" => put_polynomial(alloc, arguments, answer)?,
         _ => return Ok(false),
@@ -69,21 +65,34 @@ fn evaluated<R: Element>(
     Ok(values)
 }
 
+/// `evaluate N @ M`: with the matrix.
+fn evaluate<R: Element>(
+    alloc: Global,
+    arguments: &str,
+    answer: &mut Answer<R>,
+) -> Result<(), Fault> {
+    let values = evaluated(alloc, arguments, answer)?;
+    put_matrix(alloc, &values.data(), answer)?;
+    Ok(())
+}
+
+/// `evaluate_work N @ M`: without the matrix.
+fn evaluate_work<R: Element>(
+    alloc: Global,
+    arguments: &str,
+    answer: &mut Answer<R>,
+) -> Result<(), Fault> {
+    let _values = evaluated(alloc, arguments, answer)?;
+    Ok(())
+}
+
 /// The points of which those in the list do not vanish, from `LG ; [I, ..]`.
 fn points(alloc: Global, text: &str) -> Result<VanishingPoints, Fault> {
     let (lg, list) = parted(text, ';')?;
-    let lg = short(lg)?;
-    if lg >= 64 {
-        return Err(Fault::OutOfRange("lg above 63"));
-    }
-    let mut points = VanishingPoints::new(alloc, lg)?;
+    let mut points = empty(alloc, lg)?;
     for word in list.split(',') {
         let word = word.trim().trim_start_matches('[').trim_end_matches(']');
-        let index = number(word)?;
-        if index >> points.lg_size() != 0 {
-            return Err(Fault::OutOfRange("no such point"));
-        }
-        points.set_non_vanishing(index);
+        set(&mut points, number(word)?)?;
     }
     Ok(points)
 }
@@ -100,6 +109,24 @@ fn vanishing<R: Element>(
     Ok((at_zero.inv(alloc)?, values))
 }
 
+/// Adds the scaled values at the points that do not vanish, with their indices.
+fn put_values<R: Element>(
+    alloc: Global,
+    points: &VanishingPoints,
+    values: &[R],
+    scale: &R,
+    answer: &mut Answer<R>,
+) -> Mem<()> {
+    for index in 0..1u64 << points.lg_size() {
+        if points.get(index)
+            && let Some(value) = values.get(index as usize)
+        {
+            answer.keyed(index, value.clone(alloc)?.mul(alloc, scale)?)?;
+        }
+    }
+    Ok(())
+}
+
 /// `vanishing LG ; [I, ..]`: the values of what vanishes at the points that are not listed, at those that
 /// are, each over the value at zero.
 fn put_vanishing<R: Element>(
@@ -108,14 +135,29 @@ fn put_vanishing<R: Element>(
     answer: &mut Answer<R>,
 ) -> Result<(), Fault> {
     let points = points(alloc, arguments)?;
-    let (scale, values) = vanishing::<R>(alloc, &points)?;
     answer.text.push_str(" values over the value at zero")?;
-    for index in 0..1u64 << points.lg_size() {
-        if points.get(index)
-            && let Some(value) = values.values().get(index as usize)
-        {
-            answer.keyed(index, value.clone(alloc)?.mul(alloc, &scale)?)?;
-        }
+    let (scale, values) = vanishing::<R>(alloc, &points)?;
+    put_values(alloc, &points, values.values(), &scale, answer)?;
+    Ok(())
+}
+
+/// Adds an element times another.
+fn put_scaled<R: Element>(alloc: Global, x: &R, scale: &R, answer: &mut Answer<R>) -> Mem<()> {
+    answer.element(x.clone(alloc)?.mul(alloc, scale)?)
+}
+
+/// Adds the first coefficients, scaled.
+fn put_coefficients<R: Element>(
+    alloc: Global,
+    polynomial: &PolynomialColumn<R>,
+    count: usize,
+    scale: &R,
+    answer: &mut Answer<R>,
+) -> Mem<()>
+    requires { count ≤ length polynomial.now }
+{
+    for i in 0..count {
+        put_scaled(alloc, polynomial.coefficient(i), scale, answer)?;
     }
     Ok(())
 }
@@ -133,12 +175,10 @@ fn put_polynomial<R: Element>(
         return Err(Fault::OutOfRange("no such domain"));
     }
     let polynomial = values.interpolate(alloc)?;
-    for i in 0..count {
-        answer.element(polynomial.coefficient(i).clone(alloc)?.mul(alloc, &scale)?)?;
-    }
+    put_coefficients(alloc, &polynomial, count, &scale, answer)?;
     answer.text.push_str(" :")?;
     for value in polynomial.evaluate(alloc)?.values() {
-        answer.element(value.clone(alloc)?.mul(alloc, &scale)?)?;
+        put_scaled(alloc, value, &scale, answer)?;
     }
     Ok(())
 }

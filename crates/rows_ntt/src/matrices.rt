@@ -2,12 +2,12 @@
 
 ghost use Rattle.std.specs.Prelude.{◌≡◌, ◌*◌, length, IfOk};
 
-use crate::answer::{Answer, put, put_firsts};
-use crate::fault::Fault;
-use crate::words::{element, elements, number, parted, two_numbers};
-use commonware_math::algebra::Mem;
-use commonware_math::ntt::Matrix;
+use math_base::algebra::Mem;
+use math_ntt::ntt::Matrix;
 use math_samples::elements::Element;
+use rows_base::answer::{Answer, put, put_firsts};
+use rows_base::fault::Fault;
+use rows_base::words::{element, elements, number, parted, two_numbers};
 use std::alloc::Global;
 
 /// Runs a call of this module; `false` where it is none.
@@ -18,23 +18,14 @@ pub fn run<R: Element>(
     answer: &mut Answer<R>,
 ) -> Result<bool, Fault> {
     match call {
-        "matrix" => put_matrix(alloc, &matrix::<R>(alloc, arguments)?, answer)?,
-        "matrix_clone" => {
-            let m = matrix::<R>(alloc, arguments)?;
-            put_matrix(alloc, &m.clone(alloc)?, answer)?;
-        }
+        "matrix" => whole(alloc, arguments, answer)?,
+        "matrix_clone" => copy(alloc, arguments, answer)?,
         "matrix_mul" => product(alloc, arguments, answer)?,
         "matrix_equals" => same(alloc, arguments, answer)?,
-        "rows" => {
-            for row in matrix::<R>(alloc, arguments)?.iter() {
-                answer.text.push_str(" ;")?;
-                answer.copies(alloc, row)?;
-            }
-        }
+        "rows" => rows(alloc, arguments, answer)?,
         "row" => row(alloc, arguments, answer)?,
         "cell" => cell(alloc, arguments, answer)?,
-        "set_cell" => set_cell(alloc, arguments, answer)?,
-        "set_in_row" => set_in_row(alloc, arguments, answer)?,
+        "set_cell" | "set_in_row" => put_changed(alloc, call, arguments, answer)?,
         _ => return Ok(false),
     }
     Ok(true)
@@ -47,10 +38,10 @@ pub fn matrix<R: Element>(alloc: Global, text: &str) -> Result<Matrix<R>, Fault>
     let (size, cells) = parted(text, ':')?;
     let (rows, cols) = two_numbers(size)?;
     let (rows, cols) = (rows as usize, cols as usize);
-    let cells = elements::<R>(alloc, cells)?;
     if rows.checked_mul(cols).is_none() {
         return Err(Fault::OutOfRange("2^64 cells"));
     }
+    let cells = elements::<R>(alloc, cells)?;
     let m = Matrix::init(alloc, rows, cols, cells)?;
     Ok(m)
 }
@@ -75,6 +66,42 @@ pub fn put_matrix<R: Element>(alloc: Global, m: &Matrix<R>, answer: &mut Answer<
     Ok(())
 }
 
+/// `matrix M`: the matrix.
+fn whole<R: Element>(alloc: Global, arguments: &str, answer: &mut Answer<R>) -> Result<(), Fault> {
+    put_matrix(alloc, &matrix::<R>(alloc, arguments)?, answer)?;
+    Ok(())
+}
+
+/// `matrix_clone M`: a copy of the matrix.
+fn copy<R: Element>(alloc: Global, arguments: &str, answer: &mut Answer<R>) -> Result<(), Fault> {
+    let copy = matrix::<R>(alloc, arguments)?.clone(alloc)?;
+    put_matrix(alloc, &copy, answer)?;
+    Ok(())
+}
+
+/// Adds the rows, each after `;`.
+fn put_rows<R: Element>(alloc: Global, m: &Matrix<R>, answer: &mut Answer<R>) -> Mem<()> {
+    for row in m.iter() {
+        answer.text.push_str(" ;")?;
+        answer.copies(alloc, row)?;
+    }
+    Ok(())
+}
+
+/// `rows M`: the rows, each after `;`.
+fn rows<R: Element>(alloc: Global, arguments: &str, answer: &mut Answer<R>) -> Result<(), Fault> {
+    put_rows(alloc, &matrix::<R>(alloc, arguments)?, answer)?;
+    Ok(())
+}
+
+/// The product, where the shapes fit.
+fn multiplied<R: Element>(alloc: Global, a: &Matrix<R>, b: &Matrix<R>) -> Result<Matrix<R>, Fault> {
+    if a.cols() != b.rows() || a.rows().checked_mul(b.cols()).is_none() {
+        return Err(Fault::OutOfRange("shapes that don't fit"));
+    }
+    Ok(a.mul(alloc, b)?)
+}
+
 /// `matrix_mul M @ N`: the product.
 fn product<R: Element>(
     alloc: Global,
@@ -84,10 +111,7 @@ fn product<R: Element>(
     let (a, b) = parted(arguments, '@')?;
     let a = matrix::<R>(alloc, a)?;
     let b = matrix::<R>(alloc, b)?;
-    if a.cols() != b.rows() || a.rows().checked_mul(b.cols()).is_none() {
-        return Err(Fault::OutOfRange("shapes that don't fit"));
-    }
-    put_matrix(alloc, &a.mul(alloc, &b)?, answer)?;
+    put_matrix(alloc, &multiplied(alloc, &a, &b)?, answer)?;
     Ok(())
 }
 
@@ -100,66 +124,71 @@ fn same<R: Element>(alloc: Global, arguments: &str, answer: &mut Answer<R>) -> R
     Ok(())
 }
 
-/// `row M @ I`: the cells of row I.
-fn row<R: Element>(alloc: Global, arguments: &str, answer: &mut Answer<R>) -> Result<(), Fault> {
-    let (m, i) = parted(arguments, '@')?;
-    let m = matrix::<R>(alloc, m)?;
-    let i = number(i.trim())? as usize;
+/// The cells of row i.
+fn row_of<R: Element>(m: &Matrix<R>, i: usize) -> Result<&[R], Fault> {
     if i >= m.rows() {
         return Err(Fault::OutOfRange("no such row"));
     }
-    answer.copies(alloc, m.row(i))?;
+    Ok(m.row(i))
+}
+
+/// `row M @ I`: the cells of row I.
+fn row<R: Element>(alloc: Global, arguments: &str, answer: &mut Answer<R>) -> Result<(), Fault> {
+    let (m, i) = parted(arguments, '@')?;
+    let i = number(i.trim())? as usize;
+    let m = matrix::<R>(alloc, m)?;
+    answer.copies(alloc, row_of(&m, i)?)?;
     Ok(())
+}
+
+/// A copy of the cell in row i and column j.
+fn cell_of<R: Element>(alloc: Global, m: &Matrix<R>, i: usize, j: usize) -> Result<R, Fault> {
+    if i >= m.rows() || j >= m.cols() {
+        return Err(Fault::OutOfRange("no such cell"));
+    }
+    Ok(m[(i, j)].clone(alloc)?)
 }
 
 /// `cell M @ I J`: the cell in row I and column J.
 fn cell<R: Element>(alloc: Global, arguments: &str, answer: &mut Answer<R>) -> Result<(), Fault> {
     let (m, place) = parted(arguments, '@')?;
+    let (i, j) = two_numbers(place)?;
     let m = matrix::<R>(alloc, m)?;
-    let (i, j) = two_numbers(place)?;
-    let (i, j) = (i as usize, j as usize);
-    if i >= m.rows() || j >= m.cols() {
-        return Err(Fault::OutOfRange("no such cell"));
-    }
-    answer.element(m[(i, j)].clone(alloc)?)?;
+    answer.element(cell_of(alloc, &m, i as usize, j as usize)?)?;
     Ok(())
 }
 
-/// `set_cell M @ I J @ X`: the matrix, after X was put in row I and column J.
-fn set_cell<R: Element>(
+/// Puts x in row i and column j, by its index or, for `set_in_row`, through the row.
+fn set<R: Element>(call: &str, m: &mut Matrix<R>, i: usize, j: usize, x: R) -> Result<(), Fault> {
+    if i >= m.rows() || j >= m.cols() {
+        return Err(Fault::OutOfRange("no such cell"));
+    }
+    if call == "set_in_row" {
+        m.row_mut(i)[j] = x;
+    } else {
+        m[(i, j)] = x;
+    }
+    Ok(())
+}
+
+/// `set_cell M @ I J @ X`, `set_in_row M @ I J @ X`: the matrix, after X was put in row I and column J.
+fn put_changed<R: Element>(
     alloc: Global,
+    call: &str,
     arguments: &str,
     answer: &mut Answer<R>,
 ) -> Result<(), Fault> {
     let (m, rest) = parted(arguments, '@')?;
     let (place, x) = parted(rest, '@')?;
-    let mut m = matrix::<R>(alloc, m)?;
     let (i, j) = two_numbers(place)?;
-    let (i, j) = (i as usize, j as usize);
-    if i >= m.rows() || j >= m.cols() {
-        return Err(Fault::OutOfRange("no such cell"));
-    }
-    m[(i, j)] = element::<R>(alloc, x)?;
-    put_matrix(alloc, &m, answer)?;
-    Ok(())
-}
-
-/// `set_in_row M @ I J @ X`: the matrix, after X was put in place J of row I.
-fn set_in_row<R: Element>(
-    alloc: Global,
-    arguments: &str,
-    answer: &mut Answer<R>,
-) -> Result<(), Fault> {
-    let (m, rest) = parted(arguments, '@')?;
-    let (place, x) = parted(rest, '@')?;
     let mut m = matrix::<R>(alloc, m)?;
-    let (i, j) = two_numbers(place)?;
-    let (i, j) = (i as usize, j as usize);
-    if i >= m.rows() || j >= m.cols() {
-        return Err(Fault::OutOfRange("no such cell"));
-    }
-    let x = element::<R>(alloc, x)?;
-    m.row_mut(i)[j] = x;
+    set(
+        call,
+        &mut m,
+        i as usize,
+        j as usize,
+        element::<R>(alloc, x)?,
+    )?;
     put_matrix(alloc, &m, answer)?;
     Ok(())
 }

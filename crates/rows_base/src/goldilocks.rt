@@ -3,8 +3,8 @@
 use crate::answer::{put, put_all, put_bytes};
 use crate::fault::Fault;
 use crate::words::{element, elements, number, numbers, two_numbers};
-use commonware_math::algebra::Mem;
-use commonware_math::fields::goldilocks::F;
+use math_base::algebra::Mem;
+use math_base::fields::goldilocks::F;
 use math_samples::elements::Element;
 use std::alloc::Global;
 

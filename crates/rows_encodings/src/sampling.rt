@@ -1,15 +1,15 @@
 //! Samples of a source, whose words are listed.
 
-use super::matrices::put_matrix;
-use super::polynomials::put_stored;
-use crate::answer::{Answer, put};
-use crate::fault::Fault;
-use crate::words::{element, numbers, parted, short, two_numbers};
-use commonware_math::algebra::Random;
-use commonware_math::ntt::Matrix;
-use commonware_math::poly::Poly;
+use math_base::algebra::Random;
+use math_ntt::ntt::Matrix;
+use math_poly::poly::Poly;
 use math_samples::elements::Element;
 use math_samples::sources::Listed;
+use rows_base::answer::{Answer, put};
+use rows_base::fault::Fault;
+use rows_base::words::{element, numbers, parted, short, two_numbers};
+use rows_ntt::matrices::put_matrix;
+use rows_poly::polynomials::put_stored;
 use std::alloc::Global;
 
 /// Runs a call of this module, and adds how many words are left; `false` where it is none.

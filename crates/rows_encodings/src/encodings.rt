@@ -1,19 +1,21 @@
 //! Values as bytes.
 
-use super::goldilocks::put_element;
-use super::matrices::matrix;
-use super::polynomials::{polynomial, stored};
-use crate::answer::{put, put_all, put_bytes};
-use crate::fault::Fault;
-use crate::words::{bytes, element, number, numbers, parted, short};
-use commonware_math::algebra::Mem;
-use commonware_math::codec::{
+ghost use Rattle.std.specs.Prelude.{◌≤◌, length};
+
+use math_base::algebra::Mem;
+use math_base::fields::goldilocks::F;
+use math_codec::codec::{
     EncodeSize, Error, FixedSize, LengthRange, MaxEncodeSize, Read, Write, decode, len_size,
     read_len, write_len,
 };
-use commonware_math::fields::goldilocks::F;
-use commonware_math::ntt::Matrix;
-use commonware_math::poly::Poly;
+use math_ntt::ntt::Matrix;
+use math_poly::poly::Poly;
+use rows_base::answer::{put, put_all, put_bytes};
+use rows_base::fault::Fault;
+use rows_base::goldilocks::put_element;
+use rows_base::words::{bytes, element, number, numbers, parted, short};
+use rows_ntt::matrices::matrix;
+use rows_poly::polynomials::{polynomial, stored};
 use std::alloc::Global;
 
 /// Runs a call of this module; `false` where it is none.
@@ -21,30 +23,10 @@ pub fn run(alloc: Global, call: &str, arguments: &str, text: &mut String) -> Res
     match call {
         "read" => read(alloc, arguments, text)?,
         "beginnings" => beginnings(alloc, arguments, text)?,
-        "decode_words" => {
-            let (range, all) = parted(arguments, '@')?;
-            let cfg = (range_of(range)?, ());
-            put_all(text, &decode::<Vec<u64>>(alloc, &bytes(alloc, all)?, &cfg)?)?;
-        }
-        "decode_poly" => {
-            let (range, all) = parted(arguments, '@')?;
-            let cfg = (range_of(range)?, ());
-            put_poly(
-                alloc,
-                &decode::<Poly<F>>(alloc, &bytes(alloc, all)?, &cfg)?,
-                text,
-            )?;
-        }
+        "decode_words" => decode_words(alloc, arguments, text)?,
+        "decode_poly" => decode_poly(alloc, arguments, text)?,
         "write" => write(alloc, arguments, text)?,
-        "sizes" => put_all(
-            text,
-            &[
-                u64::SIZE as u64,
-                u64::MAX_ENCODE_SIZE as u64,
-                F::SIZE as u64,
-                F::MAX_ENCODE_SIZE as u64,
-            ],
-        )?,
+        "sizes" => sizes(text)?,
         "max_encode_size" => greatest(arguments, text)?,
         _ => return Ok(false),
     }
@@ -101,32 +83,78 @@ fn put_lists(lists: &[Vec<u64>], text: &mut String) -> Mem<()> {
     Ok(())
 }
 
-/// Reads a value from the front of the input, and adds it: a `length`, a `word`, `words` with the range
-/// of their number, `lists` of words with the ranges of their number and of that of the words of each,
-/// an `element`, a `poly` with the range of its length, or a `matrix` with the greatest count.
+/// `decode_words RANGE @ BYTE ..`: the numbers.
+fn decode_words(alloc: Global, arguments: &str, text: &mut String) -> Result<(), Fault> {
+    let (range, all) = parted(arguments, '@')?;
+    let cfg = (range_of(range)?, ());
+    let all = bytes(alloc, all)?;
+    put_all(text, &decode::<Vec<u64>>(alloc, &all, &cfg)?)?;
+    Ok(())
+}
+
+/// `decode_poly RANGE @ BYTE ..`: the numbers.
+fn decode_poly(alloc: Global, arguments: &str, text: &mut String) -> Result<(), Fault> {
+    let (range, all) = parted(arguments, '@')?;
+    let cfg = (range_of(range)?, ());
+    let all = bytes(alloc, all)?;
+    put_poly(alloc, &decode::<Poly<F>>(alloc, &all, &cfg)?, text)?;
+    Ok(())
+}
+
+/// `sizes`: sizes and greatest sizes of words and of elements.
+fn sizes(text: &mut String) -> Mem<()> {
+    put(text, u64::SIZE as u64)?;
+    put(text, u64::MAX_ENCODE_SIZE as u64)?;
+    put(text, F::SIZE as u64)?;
+    put(text, F::MAX_ENCODE_SIZE as u64)
+}
+
+/// Reads `words` with the range of their number.
+fn take_words(alloc: Global, cfg: &str, input: &mut &[u8], text: &mut String) -> Result<(), Fault> {
+    let cfg = (range_of(cfg)?, ());
+    put_all(text, &Vec::<u64>::read_cfg(alloc, input, &cfg)?)?;
+    Ok(())
+}
+
+/// Reads `lists` of words with the ranges of their number and of that of the words of each.
+fn take_lists(alloc: Global, cfg: &str, input: &mut &[u8], text: &mut String) -> Result<(), Fault> {
+    let (outer, inner) = parted(cfg, ' ')?;
+    let cfg = (range_of(outer)?, (range_of(inner)?, ()));
+    put_lists(&Vec::<Vec<u64>>::read_cfg(alloc, input, &cfg)?, text)?;
+    Ok(())
+}
+
+/// Reads a `poly` with the range of its length.
+fn take_poly(alloc: Global, cfg: &str, input: &mut &[u8], text: &mut String) -> Result<(), Fault> {
+    let cfg = (range_of(cfg)?, ());
+    put_poly(alloc, &Poly::<F>::read_cfg(alloc, input, &cfg)?, text)?;
+    Ok(())
+}
+
+/// Reads a `matrix` with the greatest count.
+fn take_matrix(
+    alloc: Global,
+    cfg: &str,
+    input: &mut &[u8],
+    text: &mut String,
+) -> Result<(), Fault> {
+    let cfg = (short(cfg)?, ());
+    put_matrix(&Matrix::<F>::read_cfg(alloc, input, &cfg)?, text)?;
+    Ok(())
+}
+
+/// Reads a value from the front of the input, and adds it: a `length`, a `word`, an `element`, or one of
+/// those above.
 fn take(alloc: Global, kind: &str, input: &mut &[u8], text: &mut String) -> Result<(), Fault> {
     let (kind, cfg) = kind.trim().split_once(' ').unwrap_or((kind.trim(), ""));
     match kind {
         "length" => put(text, u64::from(read_len(alloc, input)?))?,
         "word" => put(text, u64::read_cfg(alloc, input, &())?)?,
         "element" => put_element(text, F::read_cfg(alloc, input, &())?)?,
-        "words" => {
-            let cfg = (range_of(cfg)?, ());
-            put_all(text, &Vec::<u64>::read_cfg(alloc, input, &cfg)?)?;
-        }
-        "lists" => {
-            let (outer, inner) = parted(cfg, ' ')?;
-            let cfg = (range_of(outer)?, (range_of(inner)?, ()));
-            put_lists(&Vec::<Vec<u64>>::read_cfg(alloc, input, &cfg)?, text)?;
-        }
-        "poly" => {
-            let cfg = (range_of(cfg)?, ());
-            put_poly(alloc, &Poly::<F>::read_cfg(alloc, input, &cfg)?, text)?;
-        }
-        "matrix" => {
-            let cfg = (short(cfg)?, ());
-            put_matrix(&Matrix::<F>::read_cfg(alloc, input, &cfg)?, text)?;
-        }
+        "words" => take_words(alloc, cfg, input, text)?,
+        "lists" => take_lists(alloc, cfg, input, text)?,
+        "poly" => take_poly(alloc, cfg, input, text)?,
+        "matrix" => take_matrix(alloc, cfg, input, text)?,
         _ => return Err(Fault::Unreadable("kind")),
     }
     Ok(())
@@ -148,53 +176,68 @@ fn read(alloc: Global, arguments: &str, text: &mut String) -> Result<(), Fault> 
     Ok(())
 }
 
+/// Whether the first n bytes are refused as ended, the input standing as it was.
+fn ends_early(alloc: Global, kind: &str, all: &[u8], n: usize) -> bool
+    requires { n ≤ length all.now }
+{
+    let mut unused = String::new(alloc);
+    let mut input = &all[..n];
+    let taken = take(alloc, kind, &mut input, &mut unused);
+    matches!(taken, Err(Fault::Bytes(Error::EndOfBuffer))) && input.len() == n
+}
+
 /// `beginnings KIND @ BYTE ..`: how many of the beginnings of the bytes are refused as ended, the input
 /// standing as it was.
 fn beginnings(alloc: Global, arguments: &str, text: &mut String) -> Result<(), Fault> {
     let (kind, all) = parted(arguments, '@')?;
     let all = bytes(alloc, all)?;
     let mut refused = 0u64;
-    let mut unused = String::new(alloc);
     for n in 0..all.len() {
-        let mut input = &all[..n];
-        let taken = take(alloc, kind, &mut input, &mut unused);
-        if matches!(taken, Err(Fault::Bytes(Error::EndOfBuffer))) && input.len() == n {
-            refused = refused.saturating_add(1);
-        }
+        refused = refused.saturating_add(u64::from(ends_early(alloc, kind, &all, n)));
     }
     put(text, refused)?;
     Ok(())
+}
+
+/// Writes a value, and answers the number of bytes that it says.
+fn written(alloc: Global, kind: &str, value: &str, out: &mut Vec<u8>) -> Result<usize, Fault> {
+    match kind.trim() {
+        "length" => written_length(alloc, value, out),
+        "word" => written_word(alloc, value, out),
+        "element" => written_element(alloc, value, out),
+        "words" => written_words(alloc, value, out),
+        "poly" => written_poly(alloc, value, out),
+        "matrix" => written_matrix(alloc, value, out),
+        _ => Err(Fault::Unreadable("kind")),
+    }
 }
 
 /// `write KIND @ VALUE`: the number of bytes, and the bytes.
 fn write(alloc: Global, arguments: &str, text: &mut String) -> Result<(), Fault> {
     let (kind, value) = parted(arguments, '@')?;
     let mut out = Vec::new(alloc);
-    let size = match kind.trim() {
-        "length" => {
-            let n = short(value)?;
-            write_len(alloc, n, &mut out)?;
-            len_size(n as usize)
-        }
-        "word" => {
-            let word = number(value.trim())?;
-            word.write(alloc, &mut out)?;
-            word.encode_size()
-        }
-        "element" => {
-            let x = element::<F>(alloc, value)?;
-            x.write(alloc, &mut out)?;
-            x.encode_size()
-        }
-        "words" => written_words(alloc, value, &mut out)?,
-        "poly" => written_poly(alloc, value, &mut out)?,
-        "matrix" => written_matrix(alloc, value, &mut out)?,
-        _ => return Err(Fault::Unreadable("kind")),
-    };
-    put(text, size as u64)?;
+    put(text, written(alloc, kind, value, &mut out)? as u64)?;
     text.push_str(" :")?;
     put_bytes(text, &out)?;
     Ok(())
+}
+
+fn written_length(alloc: Global, value: &str, out: &mut Vec<u8>) -> Result<usize, Fault> {
+    let n = short(value)?;
+    write_len(alloc, n, out)?;
+    Ok(len_size(n as usize))
+}
+
+fn written_word(alloc: Global, value: &str, out: &mut Vec<u8>) -> Result<usize, Fault> {
+    let word = number(value.trim())?;
+    word.write(alloc, out)?;
+    Ok(word.encode_size())
+}
+
+fn written_element(alloc: Global, value: &str, out: &mut Vec<u8>) -> Result<usize, Fault> {
+    let x = element::<F>(alloc, value)?;
+    x.write(alloc, out)?;
+    Ok(x.encode_size())
 }
 
 fn written_words(alloc: Global, value: &str, out: &mut Vec<u8>) -> Result<usize, Fault> {

@@ -3,7 +3,7 @@
 use crate::answer::{Answer, put, put_firsts};
 use crate::fault::Fault;
 use crate::words::{element, elements, number, numbers, parted};
-use commonware_math::algebra::{Mem, Space, msm_naive, powers};
+use math_base::algebra::{Mem, Space, msm_naive, powers};
 use math_samples::elements::Element;
 use std::alloc::Global;
 
@@ -15,39 +15,47 @@ pub fn run<R: Element>(
     answer: &mut Answer<R>,
 ) -> Result<bool, Fault> {
     match call {
-        "zero" => answer.element(R::zero(alloc)?)?,
-        "one" => answer.element(R::one(alloc)?)?,
-        "coset_shift" => answer.element(R::coset_shift(alloc)?)?,
-        "coset_shift_inv" => answer.element(R::coset_shift_inv(alloc)?)?,
+        "zero" | "one" | "coset_shift" | "coset_shift_inv" => constant(alloc, call, answer)?,
         "neg" | "double" | "square" | "inv" | "div_2" | "clone" => {
-            let x = element::<R>(alloc, arguments)?;
-            answer.element(of_one(alloc, call, x)?)?;
+            put_of_one(alloc, call, arguments, answer)?
         }
-        "add" | "sub" | "mul" => {
-            let (a, b) = parted(arguments, ' ')?;
-            let a = element::<R>(alloc, a)?;
-            answer.element(of_two(alloc, call, a, &element::<R>(alloc, b)?)?)?;
-        }
+        "add" | "sub" | "mul" => put_of_two(alloc, call, arguments, answer)?,
         "scale" | "exp" => by_limbs(alloc, call, arguments, answer)?,
         "msm" | "msm_naive" => weighted(alloc, call, arguments, answer)?,
         "powers" => progression(alloc, arguments, answer)?,
         "root_of_unity" => root(alloc, arguments, answer)?,
         "equals" => same(alloc, arguments, answer)?,
-        "parts" => {
-            for x in elements::<R>(alloc, arguments)?.iter() {
-                put_parts(&mut answer.text, x)?;
-            }
-        }
-        "parts_add" | "parts_sub" | "parts_mul" => {
-            let (a, b) = parted(arguments, ' ')?;
-            let a = element::<R>(alloc, a)?;
-            let operation = call.strip_prefix("parts_").unwrap_or(call);
-            let out = of_two(alloc, operation, a, &element::<R>(alloc, b)?)?;
-            put_parts(&mut answer.text, &out)?;
-        }
+        _ => return run_parts(alloc, call, arguments, answer),
+    }
+    Ok(true)
+}
+
+/// Runs a call that answers parts; `false` where it is none.
+fn run_parts<R: Element>(
+    alloc: Global,
+    call: &str,
+    arguments: &str,
+    answer: &mut Answer<R>,
+) -> Result<bool, Fault> {
+    match call {
+        "parts" => parts(alloc, arguments, answer)?,
+        "parts_add" => parts_of_two(alloc, "add", arguments, answer)?,
+        "parts_sub" => parts_of_two(alloc, "sub", arguments, answer)?,
+        "parts_mul" => parts_of_two(alloc, "mul", arguments, answer)?,
         _ => return Ok(false),
     }
     Ok(true)
+}
+
+/// `zero`, `one`, `coset_shift`, `coset_shift_inv`.
+fn constant<R: Element>(alloc: Global, call: &str, answer: &mut Answer<R>) -> Mem<()> {
+    let x = match call {
+        "zero" => R::zero(alloc)?,
+        "one" => R::one(alloc)?,
+        "coset_shift" => R::coset_shift(alloc)?,
+        _ => R::coset_shift_inv(alloc)?,
+    };
+    answer.element(x)
 }
 
 /// `neg A`, `double A`, `square A`, `inv A`, `div_2 A`, `clone A`.
@@ -64,6 +72,18 @@ fn of_one<R: Element>(alloc: Global, call: &str, x: R) -> Mem<R> {
     Ok(x)
 }
 
+/// Adds the answer of an operation of one element.
+fn put_of_one<R: Element>(
+    alloc: Global,
+    call: &str,
+    arguments: &str,
+    answer: &mut Answer<R>,
+) -> Result<(), Fault> {
+    let x = element::<R>(alloc, arguments)?;
+    answer.element(of_one(alloc, call, x)?)?;
+    Ok(())
+}
+
 /// `add A B`, `sub A B`, `mul A B`.
 fn of_two<R: Element>(alloc: Global, call: &str, a: R, b: &R) -> Mem<R> {
     match call {
@@ -71,6 +91,25 @@ fn of_two<R: Element>(alloc: Global, call: &str, a: R, b: &R) -> Mem<R> {
         "sub" => a.sub(alloc, b),
         _ => a.mul(alloc, b),
     }
+}
+
+/// The operation of the two elements of `A B`.
+fn of_arguments<R: Element>(alloc: Global, call: &str, arguments: &str) -> Result<R, Fault> {
+    let (a, b) = parted(arguments, ' ')?;
+    let a = element::<R>(alloc, a)?;
+    let b = element::<R>(alloc, b)?;
+    Ok(of_two(alloc, call, a, &b)?)
+}
+
+/// Adds the answer of an operation of two elements.
+fn put_of_two<R: Element>(
+    alloc: Global,
+    call: &str,
+    arguments: &str,
+    answer: &mut Answer<R>,
+) -> Result<(), Fault> {
+    answer.element(of_arguments::<R>(alloc, call, arguments)?)?;
+    Ok(())
 }
 
 /// `scale A @ LIMB ..`, `exp A @ LIMB ..`: the multiple and the power.
@@ -147,10 +186,29 @@ fn same<R: Element>(alloc: Global, arguments: &str, answer: &mut Answer<R>) -> R
     Ok(())
 }
 
-/// Adds the two numbers that an element is shown by: `parts A ..`, and of a result `parts_add A B` and
-/// its kin.
+/// Adds the two numbers that an element is shown by.
 fn put_parts<R: Element>(text: &mut String, x: &R) -> Mem<()> {
     let (a, b) = x.parts();
     put(text, a)?;
     put(text, b)
+}
+
+/// `parts A ..`: numerator and denominator of each element.
+fn parts<R: Element>(alloc: Global, arguments: &str, answer: &mut Answer<R>) -> Result<(), Fault> {
+    for x in elements::<R>(alloc, arguments)?.iter() {
+        put_parts(&mut answer.text, x)?;
+    }
+    Ok(())
+}
+
+/// `parts_add A B`, `parts_sub A B`, `parts_mul A B`: numerator and denominator of the result.
+fn parts_of_two<R: Element>(
+    alloc: Global,
+    call: &str,
+    arguments: &str,
+    answer: &mut Answer<R>,
+) -> Result<(), Fault> {
+    let out = of_arguments::<R>(alloc, call, arguments)?;
+    put_parts(&mut answer.text, &out)?;
+    Ok(())
 }

@@ -1,12 +1,12 @@
 //! Polynomials.
 
-use crate::answer::{Answer, put, put_firsts};
-use crate::fault::Fault;
-use crate::words::{element, elements, numbers, parted};
-use commonware_math::algebra::{Additive, Mem, Object, Space};
-use commonware_math::codec::{LengthRange, decode, write_list};
-use commonware_math::poly::Poly;
+use math_base::algebra::{Additive, Mem, Object, Space};
+use math_codec::codec::{LengthRange, decode, write_list};
+use math_poly::poly::Poly;
 use math_samples::elements::Element;
+use rows_base::answer::{Answer, put, put_firsts};
+use rows_base::fault::Fault;
+use rows_base::words::{element, elements, numbers, parted};
 use std::alloc::Global;
 use std::cell::RefCell;
 
@@ -20,12 +20,9 @@ pub fn run<R: Element>(
     match call {
         "eval" | "eval_msm" => eval(alloc, call, arguments, answer)?,
         "lin_comb_eval" => combined(alloc, arguments, answer)?,
-        "poly_zero" => put_stored(alloc, &Poly::<R>::zero(alloc)?, answer)?,
-        "poly_clone" | "poly_neg" | "poly_double" => {
-            let p = polynomial::<R>(alloc, arguments)?;
-            put_stored(alloc, &of_one(alloc, call, p)?, answer)?;
-        }
-        "poly_add" | "poly_sub" => of_two(alloc, call, arguments, answer)?,
+        "poly_zero" => zero(alloc, answer)?,
+        "poly_clone" | "poly_neg" | "poly_double" => put_of_one(alloc, call, arguments, answer)?,
+        "poly_add" | "poly_sub" => put_of_two(alloc, call, arguments, answer)?,
         "poly_scaled" | "translate" => by_element(alloc, call, arguments, answer)?,
         "poly_scale" => by_limbs(alloc, arguments, answer)?,
         "poly_msm" => weighted(alloc, arguments, answer)?,
@@ -83,10 +80,7 @@ pub fn stored<R: Object>(alloc: Global, p: &Poly<R>) -> Mem<Vec<R>> {
 
 /// Adds the stored coefficients.
 pub fn put_stored<R: Element>(alloc: Global, p: &Poly<R>, answer: &mut Answer<R>) -> Mem<()> {
-    for x in stored(alloc, p)? {
-        answer.element(x)?;
-    }
-    Ok(())
+    answer.copies(alloc, &stored(alloc, p)?)
 }
 
 /// `eval C .. @ X`, `eval_msm C .. @ X`: the value at X.
@@ -108,6 +102,22 @@ fn eval<R: Element>(
     Ok(())
 }
 
+/// The weight and the point of `W:X`.
+fn weighted_point<R: Element>(alloc: Global, word: &str) -> Result<(R, R), Fault> {
+    let (weight, point) = parted(word, ':')?;
+    let weight = element::<R>(alloc, weight)?;
+    Ok((weight, element::<R>(alloc, point)?))
+}
+
+/// The weights and the points of `W:X ..`.
+fn weighted_points<R: Element>(alloc: Global, text: &str) -> Result<Vec<(R, R)>, Fault> {
+    let mut out = Vec::new(alloc);
+    for word in text.split_whitespace() {
+        out.push(weighted_point::<R>(alloc, word)?)?;
+    }
+    Ok(out)
+}
+
 /// `lin_comb_eval C .. @ W:X ..`: the sum of the values at the points X, each times its weight W.
 fn combined<R: Element>(
     alloc: Global,
@@ -116,13 +126,14 @@ fn combined<R: Element>(
 ) -> Result<(), Fault> {
     let (coefficients, pairs) = parted(arguments, '@')?;
     let p = polynomial::<R>(alloc, coefficients)?;
-    let mut list = Vec::new(alloc);
-    for pair in pairs.split_whitespace() {
-        let (weight, point) = parted(pair, ':')?;
-        list.push((element::<R>(alloc, weight)?, element::<R>(alloc, point)?))?;
-    }
-    answer.element(p.lin_comb_eval(alloc, &list)?)?;
+    let pairs = weighted_points::<R>(alloc, pairs)?;
+    answer.element(p.lin_comb_eval(alloc, &pairs)?)?;
     Ok(())
+}
+
+/// `poly_zero`: the stored coefficients.
+fn zero<R: Element>(alloc: Global, answer: &mut Answer<R>) -> Mem<()> {
+    put_stored(alloc, &Poly::<R>::zero(alloc)?, answer)
 }
 
 /// `poly_clone C ..`, `poly_neg C ..`, `poly_double C ..`: the stored coefficients.
@@ -136,22 +147,40 @@ fn of_one<R: Element>(alloc: Global, call: &str, p: Poly<R>) -> Mem<Poly<R>> {
     Ok(p)
 }
 
+/// Adds the stored coefficients of the answer of an operation of one polynomial.
+fn put_of_one<R: Element>(
+    alloc: Global,
+    call: &str,
+    arguments: &str,
+    answer: &mut Answer<R>,
+) -> Result<(), Fault> {
+    let p = polynomial::<R>(alloc, arguments)?;
+    put_stored(alloc, &of_one(alloc, call, p)?, answer)?;
+    Ok(())
+}
+
+/// The sum for `poly_add`, else the difference.
+fn of_two<R: Element>(alloc: Global, call: &str, p: Poly<R>, q: &Poly<R>) -> Mem<Poly<R>> {
+    let mut p = p;
+    if call == "poly_add" {
+        p.add_assign(alloc, q)?;
+    } else {
+        p.sub_assign(alloc, q)?;
+    }
+    Ok(p)
+}
+
 /// `poly_add A .. @ B ..`, `poly_sub A .. @ B ..`: the stored coefficients.
-fn of_two<R: Element>(
+fn put_of_two<R: Element>(
     alloc: Global,
     call: &str,
     arguments: &str,
     answer: &mut Answer<R>,
 ) -> Result<(), Fault> {
     let (a, b) = parted(arguments, '@')?;
-    let mut p = polynomial::<R>(alloc, a)?;
+    let p = polynomial::<R>(alloc, a)?;
     let q = polynomial::<R>(alloc, b)?;
-    if call == "poly_add" {
-        p.add_assign(alloc, &q)?;
-    } else {
-        p.sub_assign(alloc, &q)?;
-    }
-    put_stored(alloc, &p, answer)?;
+    put_stored(alloc, &of_two(alloc, call, p, &q)?, answer)?;
     Ok(())
 }
 
@@ -210,13 +239,18 @@ fn same<R: Element>(alloc: Global, arguments: &str, answer: &mut Answer<R>) -> R
     Ok(())
 }
 
+/// Adds the degree, the exact degree, and the number of values that fix the polynomial.
+fn put_sizes<R: Element>(alloc: Global, p: &Poly<R>, text: &mut String) -> Mem<()> {
+    put(text, u64::from(p.degree()))?;
+    put(text, u64::from(p.degree_exact(alloc)?))?;
+    put(text, u64::from(p.required().get()))
+}
+
 /// `degree C ..`: the degree, the exact degree, the number of values that fix the polynomial, and the
 /// constant.
 fn sizes<R: Element>(alloc: Global, arguments: &str, answer: &mut Answer<R>) -> Result<(), Fault> {
     let p = polynomial::<R>(alloc, arguments)?;
-    put(&mut answer.text, u64::from(p.degree()))?;
-    put(&mut answer.text, u64::from(p.degree_exact(alloc)?))?;
-    put(&mut answer.text, u64::from(p.required().get()))?;
+    put_sizes(alloc, &p, &mut answer.text)?;
     answer.element(p.constant().clone(alloc)?)?;
     Ok(())
 }

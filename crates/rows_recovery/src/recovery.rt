@@ -1,17 +1,15 @@
 //! Polynomials recovered from some rows of values.
 
-ghost use Rattle.std.specs.Prelude.{◌≡◌};
-
-use super::matrices::put_matrix;
-use super::transforms::has_domain;
-use super::vectors::fill;
-use crate::answer::Answer;
-use crate::fault::Fault;
-use crate::words::{number, parted, two_numbers};
-use commonware_math::algebra::{Additive, Mem, Object, Ring};
-use commonware_math::fields::goldilocks::MODULUS;
-use commonware_math::ntt::{EvaluationVector, PolynomialVector, Work};
+use crate::transforms::has_domain;
+use math_base::algebra::{Additive, Mem, Object, Ring};
+use math_base::fields::goldilocks::MODULUS;
+use math_ntt::ntt::{PolynomialVector, Work};
 use math_samples::elements::Element;
+use rows_base::answer::{Answer, put};
+use rows_base::fault::Fault;
+use rows_base::words::{number, parted, two_numbers};
+use rows_ntt::matrices::put_matrix;
+use rows_ntt::vectors::{Values, filled};
 use std::alloc::Global;
 
 /// Runs a call of this module; `false` where it is none.
@@ -33,49 +31,17 @@ pub fn run<R: Element>(
     Ok(true)
 }
 
-/// Rows of values, some of which are filled.
-#[derive(Drop)]
-struct Values<R: Element> {
-    vector: EvaluationVector<R>,
-    rows: usize,
-    cols: usize,
-    ghost has_rows: { vector.matrix.rows ≡ rows },
-    ghost has_cols: { vector.matrix.cols ≡ cols },
-}
-
-impl<R: Element> Values<R> {
-    /// 2^lg rows of zeros, none of which is filled.
-    fn empty(alloc: Global, lg: u64, cols: u64) -> Result<Values<R>, Fault> {
-        if lg >= 64 {
-            return Err(Fault::OutOfRange("too many rows"));
-        }
-        let rows: usize = 1 << lg;
-        let cols = cols as usize;
-        if rows.checked_mul(cols).is_none() {
-            return Err(Fault::OutOfRange("too many cells"));
-        }
-        let vector = EvaluationVector::empty(alloc, lg as usize, cols)?;
-        Ok(Values { vector, rows, cols })
+/// The polynomials that fit, and the work that they took.
+fn recovered<R: Element>(
+    alloc: Global,
+    values: Values<R>,
+) -> Result<(PolynomialVector<R>, Work), Fault> {
+    if !has_domain::<R>(values.rows) {
+        return Err(Fault::OutOfRange("no such domain"));
     }
-
-    /// Fills a row.
-    fn fill(&mut self, alloc: Global, row: usize, cells: &[R]) -> Result<(), Fault> {
-        if row >= self.rows || cells.len() > self.cols {
-            return Err(Fault::OutOfRange("no such cells"));
-        }
-        self.vector.fill_row(alloc, row, cells)?;
-        Ok(())
-    }
-
-    /// The polynomials that fit, and the work that they took.
-    fn recovered(self, alloc: Global) -> Result<(PolynomialVector<R>, Work), Fault> {
-        if !has_domain::<R>(self.rows) {
-            return Err(Fault::OutOfRange("no such domain"));
-        }
-        let mut work = Work::new();
-        let polynomials = self.vector.recover_counted(alloc, &mut work)?;
-        Ok((polynomials, work))
-    }
+    let mut work = Work::new();
+    let polynomials = values.vector.recover_counted(alloc, &mut work)?;
+    Ok((polynomials, work))
 }
 
 /// Which rows of a domain are filled.
@@ -136,9 +102,8 @@ fn rule_in(text: &str, rows: usize) -> Result<Rule, Fault> {
     }
 }
 
-/// One column of 2^lg rows, of which those that the rule names are filled with one.
-fn ones<R: Element>(alloc: Global, lg: u64, rule: Rule) -> Result<Values<R>, Fault> {
-    let mut values = Values::empty(alloc, lg, 1)?;
+/// Fills the rows that the rule names with one.
+fn fill_ones<R: Element>(alloc: Global, values: &mut Values<R>, rule: Rule) -> Result<(), Fault> {
     let mut one = Vec::new(alloc);
     one.push(R::one(alloc)?)?;
     for row in 0..values.rows {
@@ -146,13 +111,20 @@ fn ones<R: Element>(alloc: Global, lg: u64, rule: Rule) -> Result<Values<R>, Fau
             values.fill(alloc, row, &one)?;
         }
     }
+    Ok(())
+}
+
+/// One column of 2^lg rows, of which those that the rule names are filled with one.
+fn ones<R: Element>(alloc: Global, lg: u64, rule: Rule) -> Result<Values<R>, Fault> {
+    let mut values = Values::empty(alloc, lg, 1)?;
+    fill_ones(alloc, &mut values, rule)?;
     Ok(values)
 }
 
-/// Whether all elements are zero.
-fn all_zero<R: Element>(alloc: Global, cells: &[R], zero: &R) -> Mem<bool> {
+/// Whether all cells equal an element.
+fn all_equal<R: Element>(alloc: Global, cells: &[R], x: &R) -> Mem<bool> {
     for cell in cells {
-        if !cell.equals(alloc, zero)? {
+        if !cell.equals(alloc, x)? {
             return Ok(false);
         }
     }
@@ -166,7 +138,7 @@ fn row_counts<R: Element>(alloc: Global, polynomials: &PolynomialVector<R>) -> M
     let mut used = 0;
     for row in polynomials.coefficients_up_to(usize::MAX) {
         count = count.saturating_add(1);
-        if !all_zero(alloc, row, &zero)? {
+        if !all_equal(alloc, row, &zero)? {
             used = count;
         }
     }
@@ -190,24 +162,33 @@ fn put_rows<R: Element>(
     write!(answer.text, " + {} zero rows", count.saturating_sub(used))
 }
 
+/// The rows of values of `LG COLUMNS ROW: CELL .. ; ..`.
+fn listed<R: Element>(alloc: Global, text: &str) -> Result<Values<R>, Fault> {
+    let (lg, rest) = parted(text.trim(), ' ')?;
+    let (cols, rows) = rest.split_once(' ').unwrap_or((rest, ""));
+    let mut values = Values::empty(alloc, number(lg)?, number(cols)?)?;
+    for part in rows.split(';') {
+        if !part.trim().is_empty() {
+            values.fill_from(alloc, part)?;
+        }
+    }
+    Ok(values)
+}
+
 /// `recover LG COLUMNS ROW: CELL .. ; ..`: the rows of coefficients.
 fn recover<R: Element>(
     alloc: Global,
     arguments: &str,
     answer: &mut Answer<R>,
 ) -> Result<(), Fault> {
-    let (lg, rest) = parted(arguments.trim(), ' ')?;
-    let (cols, rows) = rest.split_once(' ').unwrap_or((rest, ""));
-    let mut values = Values::empty(alloc, number(lg)?, number(cols)?)?;
-    for part in rows.split(';') {
-        if !part.trim().is_empty() {
-            let (row, cells) = fill::<R>(alloc, part)?;
-            values.fill(alloc, row, &cells)?;
-        }
-    }
-    let (polynomials, _work) = values.recovered(alloc)?;
+    let (polynomials, _work) = recovered(alloc, listed::<R>(alloc, arguments)?)?;
     put_rows(alloc, &polynomials, answer)?;
     Ok(())
+}
+
+/// Adds the butterflies and the root products.
+fn put_work(work: &Work, text: &mut String) -> Mem<()> {
+    write!(text, " {} {}", work.butterflies(), work.root_products())
 }
 
 /// `recover_counted LG COLUMNS @ ROW : CELL .. @ ..`: butterflies, root products, and the coefficients.
@@ -216,20 +197,8 @@ fn recover_counted<R: Element>(
     arguments: &str,
     answer: &mut Answer<R>,
 ) -> Result<(), Fault> {
-    let (size, _rows) = arguments.split_once('@').unwrap_or((arguments, ""));
-    let (lg, cols) = two_numbers(size)?;
-    let mut values = Values::empty(alloc, lg, cols)?;
-    for part in arguments.split('@').skip(1) {
-        let (row, cells) = fill::<R>(alloc, part)?;
-        values.fill(alloc, row, &cells)?;
-    }
-    let (polynomials, work) = values.recovered(alloc)?;
-    write!(
-        answer.text,
-        " {} {}",
-        work.butterflies(),
-        work.root_products()
-    )?;
+    let (polynomials, work) = recovered(alloc, filled::<R>(alloc, arguments)?)?;
+    put_work(&work, &mut answer.text)?;
     put_matrix(alloc, &polynomials.data(), answer)?;
     Ok(())
 }
@@ -251,9 +220,19 @@ fn recover_ones<R: Element>(
     answer: &mut Answer<R>,
 ) -> Result<(), Fault> {
     let (lg, rule) = lg_and_rule(arguments)?;
-    let (polynomials, _work) = ones::<R>(alloc, lg, rule)?.recovered(alloc)?;
+    let (polynomials, _work) = recovered(alloc, ones::<R>(alloc, lg, rule)?)?;
     put_rows(alloc, &polynomials, answer)?;
     Ok(())
+}
+
+/// Adds `within` where the work is at most so much, else how much it is.
+fn put_within(work: &Work, butterflies: u64, root_products: u64, text: &mut String) -> Mem<()> {
+    if work.butterflies() <= u128::from(butterflies)
+        && work.root_products() <= u128::from(root_products)
+    {
+        return text.push_str(" within");
+    }
+    put_work(work, text)
 }
 
 /// `recover_ones_within LG RULE @ B R`: the same, and `within` where it took at most B butterflies and R
@@ -266,39 +245,29 @@ fn recover_within<R: Element>(
     let (column, bounds) = parted(arguments, '@')?;
     let (lg, rule) = lg_and_rule(column)?;
     let (butterflies, root_products) = two_numbers(bounds)?;
-    let (polynomials, work) = ones::<R>(alloc, lg, rule)?.recovered(alloc)?;
+    let (polynomials, work) = recovered(alloc, ones::<R>(alloc, lg, rule)?)?;
     put_rows(alloc, &polynomials, answer)?;
-    if work.butterflies() <= u128::from(butterflies)
-        && work.root_products() <= u128::from(root_products)
-    {
-        answer.text.push_str(" within")?;
-    } else {
-        write!(
-            answer.text,
-            " {} {}",
-            work.butterflies(),
-            work.root_products()
-        )?;
-    }
+    put_within(&work, butterflies, root_products, &mut answer.text)?;
     Ok(())
 }
 
-/// Whether the coefficients are one and then zeros; or all zero, where no row was filled.
-fn is_constant<R: Element>(
-    alloc: Global,
-    polynomials: &PolynomialVector<R>,
-    filled: bool,
-) -> Mem<bool> {
-    let (used, _count) = row_counts(alloc, polynomials)?;
+/// Whether the first row of coefficients is one in each column.
+fn begins_with_one<R: Element>(alloc: Global, polynomials: &PolynomialVector<R>) -> Mem<bool> {
     let one = R::one(alloc)?;
     for row in polynomials.coefficients_up_to(1) {
-        for cell in row {
-            if filled && !cell.equals(alloc, &one)? {
-                return Ok(false);
-            }
+        if !all_equal(alloc, row, &one)? {
+            return Ok(false);
         }
     }
-    Ok(used == u64::from(filled))
+    Ok(true)
+}
+
+/// Whether of the set of rows that are filled with one the constant one is recovered, or zero of none.
+fn is_recovered<R: Element>(alloc: Global, lg: u64, set: u64) -> Result<bool, Fault> {
+    let values = ones::<R>(alloc, lg, Rule::Bits(set))?;
+    let (polynomials, _work) = recovered(alloc, values)?;
+    let (used, _count) = row_counts(alloc, &polynomials)?;
+    Ok(used == u64::from(set > 0) && (set == 0 || begins_with_one(alloc, &polynomials)?))
 }
 
 /// `recover_each_set LG`: of how many sets of filled rows, with one in each, the constant one is
@@ -317,12 +286,9 @@ fn recover_each_set<R: Element>(
     };
     let mut fits = 0u64;
     for set in 0..sets {
-        let (polynomials, _work) = ones::<R>(alloc, lg, Rule::Bits(set))?.recovered(alloc)?;
-        if is_constant(alloc, &polynomials, set > 0)? {
-            fits = fits.saturating_add(1);
-        }
+        fits = fits.saturating_add(u64::from(is_recovered::<R>(alloc, lg, set)?));
     }
-    write!(answer.text, " {fits}")?;
+    put(&mut answer.text, fits)?;
     Ok(())
 }
 
@@ -363,6 +329,32 @@ fn hashed(hash: u64, n: u64) -> u64 {
     out
 }
 
+/// The hash FNV-1a of all coefficients.
+fn hash<R: Element>(polynomials: &PolynomialVector<R>) -> u64 {
+    let mut hash = 0xcbf2_9ce4_8422_2325;
+    for row in polynomials.coefficients_up_to(usize::MAX) {
+        for cell in row {
+            hash = hashed(hash, cell.parts().0);
+        }
+    }
+    hash
+}
+
+/// Fills the rows that the rule names with the next elements.
+fn fill_words<R: Element>(
+    alloc: Global,
+    values: &mut Values<R>,
+    rule: Rule,
+    state: &mut u64,
+) -> Result<(), Fault> {
+    for row in 0..values.rows {
+        if rule.fills(row) {
+            values.fill(alloc, row, &next_elements::<R>(alloc, state)?)?;
+        }
+    }
+    Ok(())
+}
+
 /// `recover-words LG RULE`: two columns of words of splitmix64, whose state begins at LG times 2^32, in the
 /// rows that are filled, and the hash FNV-1a of all coefficients.
 fn recover_words<R: Element>(
@@ -373,19 +365,8 @@ fn recover_words<R: Element>(
     let (lg, rule) = lg_and_rule(arguments)?;
     let mut values = Values::<R>::empty(alloc, lg, 2)?;
     let mut state = lg << 32;
-    for row in 0..values.rows {
-        if rule.fills(row) {
-            let cells = next_elements::<R>(alloc, &mut state)?;
-            values.fill(alloc, row, &cells)?;
-        }
-    }
-    let (polynomials, _work) = values.recovered(alloc)?;
-    let mut hash = 0xcbf2_9ce4_8422_2325;
-    for row in polynomials.coefficients_up_to(usize::MAX) {
-        for cell in row {
-            hash = hashed(hash, cell.parts().0);
-        }
-    }
-    write!(answer.text, " fnv {hash:016x}")?;
+    fill_words(alloc, &mut values, rule, &mut state)?;
+    let (polynomials, _work) = recovered(alloc, values)?;
+    write!(answer.text, " fnv {:016x}", hash(&polynomials))?;
     Ok(())
 }

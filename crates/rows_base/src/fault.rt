@@ -1,7 +1,7 @@
 //! Why a call of a row has no answer.
 
-use commonware_math::algebra::RandomError;
-use commonware_math::{codec, ordered};
+use math_base::algebra::RandomError;
+use math_codec::{codec, ordered};
 use std::alloc::{AllocError, AllocFailed};
 use thiserror::Error;
 

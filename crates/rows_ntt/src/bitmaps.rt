@@ -1,10 +1,10 @@
 //! Bitmaps of points. One is written `LG I ..`: 2^LG points, and the indices of those that don't vanish.
 
-use crate::answer::{put, put_firsts};
-use crate::fault::Fault;
-use crate::words::{number, short};
-use commonware_math::algebra::Mem;
-use commonware_math::ntt::VanishingPoints;
+use math_base::algebra::Mem;
+use math_ntt::ntt::VanishingPoints;
+use rows_base::answer::{put, put_firsts};
+use rows_base::fault::Fault;
+use rows_base::words::{number, short};
 use std::alloc::Global;
 
 /// Runs a call of this module; `false` where it is none.
@@ -27,23 +27,33 @@ fn full(alloc: Global, text: &str) -> Result<VanishingPoints, Fault> {
     Ok(VanishingPoints::all_non_vanishing(alloc, lg)?)
 }
 
+/// The bitmap of 2^LG points, all of which vanish.
+pub fn empty(alloc: Global, text: &str) -> Result<VanishingPoints, Fault> {
+    let lg = short(text)?;
+    if lg >= 64 {
+        return Err(Fault::OutOfRange("lg above 63"));
+    }
+    Ok(VanishingPoints::new(alloc, lg)?)
+}
+
+/// Sets a point to one that does not vanish.
+pub fn set(points: &mut VanishingPoints, index: u64) -> Result<(), Fault> {
+    if index >> points.lg_size() != 0 {
+        return Err(Fault::OutOfRange("no such point"));
+    }
+    points.set_non_vanishing(index);
+    Ok(())
+}
+
 /// The bitmap that a text writes; after `full` at its front, that of all points.
 fn bitmap(alloc: Global, text: &str) -> Result<VanishingPoints, Fault> {
     let (size, indices) = text.trim().split_once(' ').unwrap_or((text, ""));
     if size == "full" {
         return full(alloc, indices);
     }
-    let lg = short(size)?;
-    if lg >= 64 {
-        return Err(Fault::OutOfRange("lg above 63"));
-    }
-    let mut points = VanishingPoints::new(alloc, lg)?;
+    let mut points = empty(alloc, size)?;
     for word in indices.split_whitespace() {
-        let index = number(word)?;
-        if index >> points.lg_size() != 0 {
-            return Err(Fault::OutOfRange("no such point"));
-        }
-        points.set_non_vanishing(index);
+        set(&mut points, number(word)?)?;
     }
     Ok(points)
 }

@@ -2,7 +2,7 @@
 
 use crate::fault::Fault;
 use crate::words::element;
-use commonware_math::algebra::Mem;
+use math_base::algebra::Mem;
 use math_samples::elements::Element;
 use std::alloc::Global;
 

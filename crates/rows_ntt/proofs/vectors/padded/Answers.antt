@@ -1,6 +1,6 @@
 use Rattle.std.proofs.Common.{◌≡◌, arith}
 use Rattle.math_ntt.proofs.PaddedPolynomials.{next_power_of_two-once}
-use Rattle.rows.proofs.calls.vectors.padded.Goals as goal
+use Rattle.rows_ntt.proofs.vectors.padded.Goals as goal
 
 pub as_polynomials-requires : goal.as_polynomials-requires
 as_polynomials-requires g c = record {

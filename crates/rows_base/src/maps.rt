@@ -3,8 +3,8 @@
 use crate::answer::put;
 use crate::fault::Fault;
 use crate::words::{number, numbers, parted};
-use commonware_math::algebra::Mem;
-use commonware_math::ordered::{BiMap, Map};
+use math_base::algebra::Mem;
+use math_codec::ordered::{BiMap, Map};
 use std::alloc::Global;
 
 /// Runs a call of this module; `false` where it is none.
@@ -52,25 +52,37 @@ fn put_found(text: &mut String, found: Option<&u64>) -> Mem<()> {
     }
 }
 
-/// `map_get K:V .. @ K ..`: the value of each key, or `none`.
-fn get(alloc: Global, arguments: &str, text: &mut String) -> Result<(), Fault> {
-    let (list, keys) = parted(arguments, '@')?;
-    let map = Map::from_iter_dedup(alloc, pairs(alloc, list)?)?;
-    for key in numbers(alloc, keys)?.iter() {
+/// Adds the value of each key, or `none`.
+fn put_values(map: &Map<u64, u64>, keys: &[u64], text: &mut String) -> Mem<()> {
+    for key in keys {
         put_found(text, map.get(key))?;
     }
     Ok(())
 }
 
-/// `with_values K:V .. @ V ..`: the keys with these values.
-fn with_values(alloc: Global, arguments: &str, text: &mut String) -> Result<(), Fault> {
-    let (list, values) = parted(arguments, '@')?;
+/// `map_get K:V .. @ K ..`: the value of each key, or `none`.
+fn get(alloc: Global, arguments: &str, text: &mut String) -> Result<(), Fault> {
+    let (list, keys) = parted(arguments, '@')?;
+    let keys = numbers(alloc, keys)?;
     let map = Map::from_iter_dedup(alloc, pairs(alloc, list)?)?;
-    let values = numbers(alloc, values)?;
+    put_values(&map, &keys, text)?;
+    Ok(())
+}
+
+/// The keys of a map with these values.
+fn valued(map: Map<u64, u64>, values: Vec<u64>) -> Result<Map<u64, u64>, Fault> {
     if values.len() != map.len() {
         return Err(Fault::OutOfRange("as many values as keys"));
     }
-    put_map(&map.with_values(values), text)?;
+    Ok(map.with_values(values))
+}
+
+/// `with_values K:V .. @ V ..`: the keys with these values.
+fn with_values(alloc: Global, arguments: &str, text: &mut String) -> Result<(), Fault> {
+    let (list, values) = parted(arguments, '@')?;
+    let values = numbers(alloc, values)?;
+    let map = Map::from_iter_dedup(alloc, pairs(alloc, list)?)?;
+    put_map(&valued(map, values)?, text)?;
     Ok(())
 }
 
@@ -79,16 +91,23 @@ fn two_way(alloc: Global, text: &str) -> Result<BiMap<u64, u64>, Fault> {
     Ok(BiMap::try_from_iter(alloc, pairs(alloc, text)?)?)
 }
 
+/// Adds the number of pairs, whether there is none, and for each number the value of it as a key and the
+/// key of it as a value.
+fn put_both_ways(map: &BiMap<u64, u64>, wanted: &[u64], text: &mut String) -> Mem<()> {
+    put(text, map.len() as u64)?;
+    text.push_str(if map.is_empty() { " empty" } else { " :" })?;
+    for n in wanted {
+        put_found(text, map.get(n))?;
+        put_found(text, map.get_key(n))?;
+    }
+    Ok(())
+}
+
 /// `two_way_get K:V .. @ N ..`: the number of pairs, whether there is none, and for each n the value of
 /// the key n and the key of the value n, or `none`.
 fn two_way_get(alloc: Global, arguments: &str, text: &mut String) -> Result<(), Fault> {
     let (list, wanted) = parted(arguments, '@')?;
-    let map = two_way(alloc, list)?;
-    put(text, map.len() as u64)?;
-    text.push_str(if map.is_empty() { " empty" } else { " :" })?;
-    for n in numbers(alloc, wanted)?.iter() {
-        put_found(text, map.get(n))?;
-        put_found(text, map.get_key(n))?;
-    }
+    let wanted = numbers(alloc, wanted)?;
+    put_both_ways(&two_way(alloc, list)?, &wanted, text)?;
     Ok(())
 }
