@@ -1,28 +1,37 @@
 //! The calls that rows name: each module runs those of one subject.
 
-mod algebra;
-mod bitmaps;
-mod encodings;
-mod goldilocks;
-mod groups;
 mod interpolation;
-mod maps;
-mod matrices;
-mod polynomials;
-mod recovery;
 mod root_weights;
-mod sampling;
-mod transforms;
-mod vectors;
 
-use crate::answer::Answer;
-use crate::fault::Fault;
 use crate::row::Row;
 use commonware_math::fields::goldilocks::F;
 use math_samples::boxed::Boxed;
 use math_samples::elements::Element;
 use math_samples::quotients::Quotient;
+use rows_base::answer::Answer;
+use rows_base::fault::Fault;
+use rows_base::{algebra, goldilocks, maps};
+use rows_encodings::{encodings, sampling};
+use rows_ntt::{bitmaps, matrices, vectors};
+use rows_poly::{groups, polynomials};
+use rows_recovery::{recovery, transforms};
 use std::alloc::Global;
+
+/// Runs a call that adds words alone; `false` where it is none.
+fn of_words(alloc: Global, row: Row<'_>, text: &mut String) -> Result<bool, Fault> {
+    let Row {
+        call,
+        arguments,
+        ..
+    } = row;
+    Ok(
+        goldilocks::run(alloc, call, arguments, text)?
+            || encodings::run(alloc, call, arguments, text)?
+            || maps::run(alloc, call, arguments, text)?
+            || bitmaps::run(alloc, call, arguments, text)?
+            || rows_shards::run(alloc, call, arguments, text)?,
+    )
+}
 
 /// Runs a call that each field has; `false` where it is none.
 fn at_any<R: Element>(alloc: Global, row: Row<'_>, answer: &mut Answer<R>) -> Result<bool, Fault> {
@@ -40,10 +49,7 @@ fn at_any<R: Element>(alloc: Global, row: Row<'_>, answer: &mut Answer<R>) -> Re
             || transforms::run(alloc, call, arguments, answer)?
             || recovery::run(alloc, call, arguments, answer)?
             || root_weights::run(alloc, call, arguments, answer)?
-            || goldilocks::run(alloc, call, arguments, &mut answer.text)?
-            || encodings::run(alloc, call, arguments, &mut answer.text)?
-            || maps::run(alloc, call, arguments, &mut answer.text)?
-            || bitmaps::run(alloc, call, arguments, &mut answer.text)?,
+            || of_words(alloc, row, &mut answer.text)?,
     )
 }
 

@@ -4,16 +4,13 @@
 //! printed, and then how many answers there were.
 #![tactic(auto)]
 
-mod answer;
 mod calls;
-mod fault;
 mod row;
-mod words;
 
-use answer::Answer;
-use fault::Fault;
 use math_samples::elements::Element;
 use row::{Fields, Row};
+use rows_base::answer::Answer;
+use rows_base::fault::Fault;
 use std::alloc::Global;
 use std::process::ExitCode;
 use std::{env, fs, io};
@@ -77,6 +74,21 @@ fn told<R: Element>(
     Ok(false)
 }
 
+/// Compares an answer with that of its row, prints the row if it failed at a field, and says whether it
+/// did not.
+fn judged<R: Element>(
+    rt: &HostRuntime,
+    line: &str,
+    field: &str,
+    row: Row<'_>,
+    known: Result<bool, Fault>,
+    answer: Answer<R>,
+) -> io::Result<bool> {
+    let mut answer = answer;
+    let right = is_right(rt.alloc(), row, known, &mut answer);
+    told(rt, line, field, right, &answer)
+}
+
 /// Runs a row at the fields that are chosen.
 fn run_row(
     rt: &HostRuntime,
@@ -89,20 +101,17 @@ fn run_row(
     if fields.field {
         let mut answer = Answer::new(alloc);
         let known = calls::at_field(alloc, row, &mut answer);
-        let judged = is_right(alloc, row, known, &mut answer);
-        tally.add(told(rt, line, "field", judged, &answer)?);
+        tally.add(judged(rt, line, "field", row, known, answer)?);
     }
     if fields.boxed {
         let mut answer = Answer::new(alloc);
         let known = calls::at_boxed(alloc, row, &mut answer);
-        let judged = is_right(alloc, row, known, &mut answer);
-        tally.add(told(rt, line, "boxed", judged, &answer)?);
+        tally.add(judged(rt, line, "boxed", row, known, answer)?);
     }
     if fields.quotients {
         let mut answer = Answer::new(alloc);
         let known = calls::at_quotients(alloc, row, &mut answer);
-        let judged = is_right(alloc, row, known, &mut answer);
-        tally.add(told(rt, line, "quotients", judged, &answer)?);
+        tally.add(judged(rt, line, "quotients", row, known, answer)?);
     }
     Ok(())
 }

@@ -1,13 +1,13 @@
 //! Interpolation at keyed points.
 
-use super::polynomials::{polynomials, put_stored};
-use crate::answer::Answer;
-use crate::fault::Fault;
-use crate::words::{element, elements, keyed, parted};
 use commonware_math::algebra::Mem;
 use commonware_math::ordered::Map;
 use commonware_math::poly::Interpolator;
 use math_samples::elements::Element;
+use rows_base::answer::Answer;
+use rows_base::fault::Fault;
+use rows_base::words::{element, elements, keyed, parted};
+use rows_poly::polynomials::{polynomials, put_stored};
 use std::alloc::Global;
 
 /// Runs a call of this module; `false` where it is none.
@@ -18,18 +18,9 @@ pub fn run<R: Element>(
     answer: &mut Answer<R>,
 ) -> Result<bool, Fault> {
     match call {
-        "weights" => {
-            let points = counted(alloc, elements::<R>(alloc, arguments)?)?;
-            let interpolator = Interpolator::new(alloc, points)?;
-            answer.copies(alloc, interpolator.weights().values())?;
-        }
-        "interpolator" => {
-            let interpolator = Interpolator::new(alloc, keyed::<R>(alloc, arguments)?)?;
-            put_weights(alloc, &interpolator, answer)?;
-        }
-        "interpolator_at" => {
-            put_weights(alloc, &interpolator_at::<R>(alloc, arguments)?, answer)?;
-        }
+        "weights" => weights(alloc, arguments, answer)?,
+        "interpolator" => interpolator(alloc, arguments, answer)?,
+        "interpolator_at" => put_at(alloc, arguments, answer)?,
         "interpolate" => interpolate(alloc, arguments, answer)?,
         "interpolate_poly" => interpolate_polynomials(alloc, arguments, answer)?,
         _ => return Ok(false),
@@ -69,6 +60,35 @@ pub fn put_weights<R: Element>(
     Ok(())
 }
 
+/// `weights P ..`: the weights at zero of these points, under the keys 0, 1 and so on.
+fn weights<R: Element>(
+    alloc: Global,
+    arguments: &str,
+    answer: &mut Answer<R>,
+) -> Result<(), Fault> {
+    let points = counted(alloc, elements::<R>(alloc, arguments)?)?;
+    let interpolator = Interpolator::new(alloc, points)?;
+    answer.copies(alloc, interpolator.weights().values())?;
+    Ok(())
+}
+
+/// `interpolator K:P ..`: the weights at zero with their keys.
+fn interpolator<R: Element>(
+    alloc: Global,
+    arguments: &str,
+    answer: &mut Answer<R>,
+) -> Result<(), Fault> {
+    let interpolator = Interpolator::new(alloc, keyed::<R>(alloc, arguments)?)?;
+    put_weights(alloc, &interpolator, answer)?;
+    Ok(())
+}
+
+/// `interpolator_at X @ K:P ..`: the weights at X with their keys.
+fn put_at<R: Element>(alloc: Global, arguments: &str, answer: &mut Answer<R>) -> Result<(), Fault> {
+    put_weights(alloc, &interpolator_at::<R>(alloc, arguments)?, answer)?;
+    Ok(())
+}
+
 /// `interpolate K:V .. @ X @ K:P ..`: the value at X, or `none`.
 fn interpolate<R: Element>(
     alloc: Global,
@@ -76,9 +96,8 @@ fn interpolate<R: Element>(
     answer: &mut Answer<R>,
 ) -> Result<(), Fault> {
     let (values, points) = parted(arguments, '@')?;
-    let interpolator = interpolator_at::<R>(alloc, points)?;
     let values = Map::from_iter_dedup(alloc, keyed::<R>(alloc, values)?)?;
-    match interpolator.interpolate(alloc, &values)? {
+    match interpolator_at::<R>(alloc, points)?.interpolate(alloc, &values)? {
         Some(value) => answer.element(value)?,
         None => answer.text.push_str(" none")?,
     }
@@ -93,10 +112,9 @@ fn interpolate_polynomials<R: Element>(
     answer: &mut Answer<R>,
 ) -> Result<(), Fault> {
     let (values, points) = parted(arguments, '@')?;
-    let interpolator = interpolator_at::<R>(alloc, points)?;
     let values = counted(alloc, polynomials::<R>(alloc, values)?)?;
     let values = Map::from_iter_dedup(alloc, values)?;
-    match interpolator.interpolate(alloc, &values)? {
+    match interpolator_at::<R>(alloc, points)?.interpolate(alloc, &values)? {
         Some(value) => put_stored(alloc, &value, answer)?,
         None => answer.text.push_str(" none")?,
     }

@@ -4,15 +4,15 @@ ghost use Rattle.std.specs.Prelude.{IfOk};
 ghost use Rattle.math_ntt.specs.RootWeights.{HasDomainOf};
 
 use super::interpolation::put_weights;
-use super::transforms::has_domain;
-use crate::answer::Answer;
-use crate::fault::Fault;
-use crate::words::{element, number, parted, short};
-use commonware_math::algebra::{Mem, Multiplicative, Object};
+use commonware_math::algebra::{Mem, Object, powers};
 use commonware_math::ntt::{lagrange_coefficients, lagrange_coefficients_at};
 use commonware_math::ordered::{BiMap, Map};
 use commonware_math::poly::Interpolator;
 use math_samples::elements::Element;
+use rows_base::answer::{Answer, put};
+use rows_base::fault::Fault;
+use rows_base::words::{element, elements, number, parted, short};
+use rows_recovery::transforms::has_domain;
 use std::alloc::Global;
 use std::num::NonZeroU32;
 
@@ -27,12 +27,7 @@ pub fn run<R: Element>(
         "lagrange" => lagrange(alloc, arguments, answer)?,
         "lagrange_at" => lagrange_at(alloc, arguments, answer)?,
         "lagrange_as_at" => lagrange_as_at::<R>(alloc, arguments, answer)?,
-        "roots_of_unity" => {
-            let (total, points) = parted(arguments, ';')?;
-            let total = total_in::<R>(total)?;
-            let interpolator = Interpolator::roots_of_unity(alloc, total, keys(alloc, points)?)?;
-            put_weights(alloc, &interpolator, answer)?;
-        }
+        "roots_of_unity" => roots_of_unity(alloc, arguments, answer)?,
         "roots_of_unity_at" => roots_of_unity_at(alloc, arguments, answer)?,
         "roots_of_unity_as_new" => roots_of_unity_as_new::<R>(alloc, arguments, answer)?,
         _ => return Ok(false),
@@ -119,8 +114,20 @@ fn lagrange_at<R: Element>(
     Ok(())
 }
 
-/// `roots_of_unity_at X @ TOTAL ; K:I ..`: the interpolator for the value at X; `roots_of_unity TOTAL ; K:I ..`
-/// for that at zero.
+/// `roots_of_unity TOTAL ; K:I ..`: the interpolator for the value at zero.
+fn roots_of_unity<R: Element>(
+    alloc: Global,
+    arguments: &str,
+    answer: &mut Answer<R>,
+) -> Result<(), Fault> {
+    let (total, points) = parted(arguments, ';')?;
+    let total = total_in::<R>(total)?;
+    let interpolator = Interpolator::roots_of_unity(alloc, total, keys(alloc, points)?)?;
+    put_weights(alloc, &interpolator, answer)?;
+    Ok(())
+}
+
+/// `roots_of_unity_at X @ TOTAL ; K:I ..`: the interpolator for the value at X.
 fn roots_of_unity_at<R: Element>(
     alloc: Global,
     arguments: &str,
@@ -129,26 +136,29 @@ fn roots_of_unity_at<R: Element>(
     let (x, rest) = parted(arguments, '@')?;
     let (total, points) = parted(rest, ';')?;
     let total = total_in::<R>(total)?;
-    let x = element::<R>(alloc, x)?;
     let points = keys(alloc, points)?;
+    let x = element::<R>(alloc, x)?;
     let interpolator = Interpolator::roots_of_unity_at(alloc, total, points, &x)?;
     put_weights(alloc, &interpolator, answer)?;
     Ok(())
 }
 
+/// The first powers of an element.
+fn first_powers<R: Element>(alloc: Global, x: &R, count: usize) -> Mem<Vec<R>> {
+    let mut out = Vec::new(alloc);
+    for power in powers(alloc, R::one(alloc)?, x).take(count) {
+        out.push(power?)?;
+    }
+    Ok(out)
+}
+
 /// The powers of the root of the total's domain.
 fn domain<R: Element>(alloc: Global, total: NonZeroU32) -> Result<Vec<R>, Fault> {
     let size = (total.get() as usize).next_power_of_two();
-    let Some(root) = R::root_of_unity(alloc, size.trailing_zeros() as u8)? else {
-        return Err(Fault::OutOfRange("no such domain"));
-    };
-    let mut out = Vec::new(alloc);
-    let mut power = R::one(alloc)?;
-    for _ in 0..size {
-        out.push(power.clone(alloc)?)?;
-        power.mul_assign(alloc, &root)?;
+    match R::root_of_unity(alloc, size.trailing_zeros() as u8)? {
+        Some(root) => Ok(first_powers(alloc, &root, size)?),
+        None => Err(Fault::OutOfRange("no such domain")),
     }
-    Ok(out)
 }
 
 /// The indices below the total that d divides.
@@ -204,6 +214,23 @@ fn is_as_at<R: Element>(
     Ok(are_same(alloc, &weights, expected.weights())?)
 }
 
+/// At how many of the points these weights are those of `Interpolator::at`.
+fn fits_at<R: Element>(
+    alloc: Global,
+    total: NonZeroU32,
+    d: u32,
+    points: &[R],
+    xs: &[R],
+) -> Result<u64, Fault>
+    requires { HasDomainOf R.MAX_LG_ROOT_ORDER total.value }
+{
+    let mut fits = 0u64;
+    for x in xs {
+        fits = fits.saturating_add(u64::from(is_as_at(alloc, total, d, points, x)?));
+    }
+    Ok(fits)
+}
+
 /// `lagrange_as_at TOTAL D`: at how many of the points of the domain, zero and five the weights for the
 /// indices that D divides are those of `Interpolator::at`.
 fn lagrange_as_at<R: Element>(
@@ -215,15 +242,10 @@ fn lagrange_as_at<R: Element>(
     let total = total_in::<R>(total)?;
     let d = short(d)?;
     let points = domain::<R>(alloc, total)?;
-    let mut fits = 0u64;
-    for x in &points {
-        fits = fits.saturating_add(u64::from(is_as_at(alloc, total, d, &points, x)?));
-    }
-    for n in [0, 5] {
-        let x = R::from_number(alloc, n)?;
-        fits = fits.saturating_add(u64::from(is_as_at(alloc, total, d, &points, &x)?));
-    }
-    write!(answer.text, " {fits}")?;
+    let others = elements::<R>(alloc, "0 5")?;
+    let fits = fits_at(alloc, total, d, &points, &points)?;
+    let fits = fits.saturating_add(fits_at(alloc, total, d, &points, &others)?);
+    put(&mut answer.text, fits)?;
     Ok(())
 }
 
@@ -239,22 +261,37 @@ fn roots_of_unity_as_new<R: Element>(
     for total in short(first)?..=short(last)? {
         fits = fits.saturating_add(u64::from(is_as_new::<R>(alloc, total)?));
     }
-    write!(answer.text, " {fits}")?;
+    put(&mut answer.text, fits)?;
     Ok(())
+}
+
+/// The interpolator of all indices below a total, each its own key.
+fn of_all_indices<R: Element>(
+    alloc: Global,
+    total: NonZeroU32,
+) -> Result<Interpolator<u32, R>, Fault>
+    requires { HasDomainOf R.MAX_LG_ROOT_ORDER total.value }
+{
+    let mut pairs = Vec::new(alloc);
+    for index in 0..total.get() {
+        pairs.push((index, index))?;
+    }
+    let keys = BiMap::try_from_iter(alloc, pairs)?;
+    Ok(Interpolator::roots_of_unity(alloc, total, keys)?)
+}
+
+/// The interpolator of these points by `Interpolator::new`.
+fn of_points<R: Element>(alloc: Global, total: NonZeroU32) -> Result<Interpolator<u32, R>, Fault> {
+    let points = domain::<R>(alloc, total)?;
+    let indices = multiples(alloc, total, 1)?;
+    let pairs = indexed(alloc, &indices, &points)?;
+    Ok(Interpolator::new(alloc, pairs)?)
 }
 
 /// Whether the weights of all indices below a total are those of `Interpolator::new`.
 fn is_as_new<R: Element>(alloc: Global, total: u32) -> Result<bool, Fault> {
     let total = domain_of::<R>(total)?;
-    let points = domain::<R>(alloc, total)?;
-    let indices = multiples(alloc, total, 1)?;
-    let pairs = indexed(alloc, &indices, &points)?;
-    let expected = Interpolator::new(alloc, pairs)?;
-    let mut keyed = Vec::new(alloc);
-    for index in indices {
-        keyed.push((index, index))?;
-    }
-    let keys = BiMap::try_from_iter(alloc, keyed)?;
-    let interpolator = Interpolator::<u32, R>::roots_of_unity(alloc, total, keys)?;
+    let expected = of_points::<R>(alloc, total)?;
+    let interpolator = of_all_indices::<R>(alloc, total)?;
     Ok(are_same(alloc, interpolator.weights(), expected.weights())?)
 }

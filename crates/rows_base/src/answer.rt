@@ -1,0 +1,126 @@
+//! Answers, and their comparison with those of rows.
+
+use crate::fault::Fault;
+use crate::words::element;
+use math_base::algebra::Mem;
+use math_samples::elements::Element;
+use std::alloc::Global;
+
+/// The answer of a call: words, in which `_` stands for the next of the elements.
+#[derive(Drop)]
+pub struct Answer<R> {
+    pub text: String,
+    pub elements: Vec<R>,
+}
+
+impl<R: Element> Answer<R> {
+    pub fn new(alloc: Global) -> Answer<R> {
+        Answer {
+            text: String::new(alloc),
+            elements: Vec::new(alloc),
+        }
+    }
+
+    /// Adds an element.
+    pub fn element(&mut self, x: R) -> Mem<()> {
+        self.text.push_str(" _")?;
+        self.elements.push(x)?;
+        Ok(())
+    }
+
+    /// Adds an element with a key, as `K:E`.
+    pub fn keyed(&mut self, key: u64, x: R) -> Mem<()> {
+        write!(self.text, " {key}:_")?;
+        self.elements.push(x)?;
+        Ok(())
+    }
+
+    /// Adds copies of elements.
+    pub fn copies(&mut self, alloc: Global, xs: &[R]) -> Mem<()> {
+        for x in xs {
+            self.element(x.clone(alloc)?)?;
+        }
+        Ok(())
+    }
+
+    /// Whether the words of `expected` stand for this answer.
+    pub fn is(&self, alloc: Global, expected: &str) -> Result<bool, Fault> {
+        if expected.split_whitespace().count() != self.text.split_whitespace().count() {
+            return Ok(false);
+        }
+        let mut elements = self.elements.iter();
+        for (word, part) in expected
+            .split_whitespace()
+            .zip(self.text.split_whitespace())
+        {
+            let same = match part.strip_suffix('_') {
+                Some(key) => is_element(alloc, key, elements.next(), word)?,
+                None => part == word,
+            };
+            if !same {
+                return Ok(false);
+            }
+        }
+        Ok(true)
+    }
+}
+
+/// Whether a word is the key and a word for the element.
+fn is_element<R: Element>(
+    alloc: Global,
+    key: &str,
+    x: Option<&R>,
+    word: &str,
+) -> Result<bool, Fault> {
+    match (x, word.strip_prefix(key)) {
+        (Some(x), Some(word)) => Ok(x.equals(alloc, &element::<R>(alloc, word)?)?),
+        _ => Ok(false),
+    }
+}
+
+/// Adds a number to a text.
+pub fn put(text: &mut String, n: u64) -> Mem<()> {
+    write!(text, " {n}")
+}
+
+/// Adds numbers to a text.
+pub fn put_all(text: &mut String, numbers: &[u64]) -> Mem<()> {
+    for n in numbers {
+        put(text, *n)?;
+    }
+    Ok(())
+}
+
+/// Adds bytes to a text, as two hexadecimal digits each.
+pub fn put_bytes(text: &mut String, bytes: &[u8]) -> Mem<()> {
+    for byte in bytes {
+        write!(text, " {byte:02x}")?;
+    }
+    Ok(())
+}
+
+/// The place of the first item that equals this one.
+fn first<T, E: Fn(&T, &T) -> Mem<bool>>(items: &[T], item: &T, equal: &E) -> Mem<u64>
+    requires { E.IsAlwaysCallable equal.now }
+{
+    for (i, other) in items.iter().enumerate() {
+        if equal(other, item)? {
+            return Ok(i as u64);
+        }
+    }
+    Ok(u64::MAX)
+}
+
+/// Adds for each item the place of the first item that it equals.
+pub fn put_firsts<T, E: Fn(&T, &T) -> Mem<bool>>(
+    text: &mut String,
+    items: &[T],
+    equal: E,
+) -> Mem<()>
+    requires { E.IsAlwaysCallable equal }
+{
+    for item in items {
+        put(text, first(items, item, &equal)?)?;
+    }
+    Ok(())
+}

@@ -1,0 +1,85 @@
+//! What the Goldilocks field alone has: its operators, its bytes and packing. Elements are numbers.
+
+use crate::answer::{put, put_all, put_bytes};
+use crate::fault::Fault;
+use crate::words::{element, elements, number, numbers, two_numbers};
+use math_base::algebra::Mem;
+use math_base::fields::goldilocks::F;
+use math_samples::elements::Element;
+use std::alloc::Global;
+
+/// Runs a call of this module; `false` where it is none.
+pub fn run(alloc: Global, call: &str, arguments: &str, text: &mut String) -> Result<bool, Fault> {
+    match call {
+        "operators" => {
+            let (a, b) = two_numbers(arguments)?;
+            operators(F::from(a), F::from(b), text)?;
+        }
+        "constants" => {
+            put_element(text, F::ROOT_OF_UNITY)?;
+            put_element(text, F::NOT_ROOT_OF_UNITY)?;
+            put_element(text, F::NOT_ROOT_OF_UNITY_INV)?;
+        }
+        "to_le_bytes" => put_bytes(text, &element::<F>(alloc, arguments)?.to_le_bytes())?,
+        "bits_to_elements" => put(
+            text,
+            F::bits_to_elements(number(arguments)? as usize) as u64,
+        )?,
+        "pack" => pack(alloc, arguments, text)?,
+        "unpack" => unpack(alloc, arguments, text)?,
+        "pack_unpack" => pack_unpack(alloc, arguments, text)?,
+        _ => return Ok(false),
+    }
+    Ok(true)
+}
+
+/// Adds the number of an element.
+pub fn put_element(text: &mut String, x: F) -> Mem<()> {
+    put(text, x.parts().0)
+}
+
+/// `operators A B`: a + b, a - b, a b and -a; again the first three with b by reference; and the first
+/// three in place.
+fn operators(a: F, b: F, text: &mut String) -> Mem<()> {
+    let mut sum = a;
+    sum += &b;
+    let mut difference = a;
+    difference -= &b;
+    let mut product = a;
+    product *= &b;
+    let by_value = [a + b, a - b, a * b, -a];
+    let others = [a + &b, a - &b, a * &b, sum, difference, product];
+    for x in by_value.iter().chain(others.iter()) {
+        put_element(text, *x)?;
+    }
+    Ok(())
+}
+
+/// `pack W ..`: the elements that the words are packed into.
+fn pack(alloc: Global, arguments: &str, text: &mut String) -> Result<(), Fault> {
+    let words = numbers(alloc, arguments)?;
+    for x in F::stream_from_u64s(words.iter().copied()) {
+        put_element(text, x)?;
+    }
+    Ok(())
+}
+
+/// `unpack E ..`: the words that the elements hold.
+fn unpack(alloc: Global, arguments: &str, text: &mut String) -> Result<(), Fault> {
+    let elements = elements::<F>(alloc, arguments)?;
+    let words: Vec<u64> = F::stream_to_u64s(elements.iter().copied()).collect(alloc)?;
+    put_all(text, &words)?;
+    Ok(())
+}
+
+/// `pack_unpack W ..`: how many elements the words are packed into, and the words that these hold.
+fn pack_unpack(alloc: Global, arguments: &str, text: &mut String) -> Result<(), Fault> {
+    let words = numbers(alloc, arguments)?;
+    let packed: Vec<F> = F::stream_from_u64s(words.iter().copied()).collect(alloc)?;
+    put(text, packed.len() as u64)?;
+    let back: Vec<u64> = F::stream_to_u64s(F::stream_from_u64s(words.iter().copied())).collect(
+        alloc,
+    )?;
+    put_all(text, &back)?;
+    Ok(())
+}

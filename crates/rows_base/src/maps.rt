@@ -1,0 +1,113 @@
+//! Maps of numbers, and two-way maps.
+
+use crate::answer::put;
+use crate::fault::Fault;
+use crate::words::{number, numbers, parted};
+use math_base::algebra::Mem;
+use math_codec::ordered::{BiMap, Map};
+use std::alloc::Global;
+
+/// Runs a call of this module; `false` where it is none.
+pub fn run(alloc: Global, call: &str, arguments: &str, text: &mut String) -> Result<bool, Fault> {
+    match call {
+        "map" => put_map(
+            &Map::from_iter_dedup(alloc, pairs(alloc, arguments)?)?,
+            text,
+        )?,
+        "try_map" => put_map(&Map::try_from_iter(alloc, pairs(alloc, arguments)?)?, text)?,
+        "map_get" => get(alloc, arguments, text)?,
+        "with_values" => with_values(alloc, arguments, text)?,
+        "two_way_map" => put_map(&two_way(alloc, arguments)?.into_map(), text)?,
+        "two_way_get" => two_way_get(alloc, arguments, text)?,
+        _ => return Ok(false),
+    }
+    Ok(true)
+}
+
+/// The pairs `K:V` of two numbers.
+fn pairs(alloc: Global, text: &str) -> Result<Vec<(u64, u64)>, Fault> {
+    let mut out = Vec::new(alloc);
+    for word in text.split_whitespace() {
+        let (key, value) = parted(word, ':')?;
+        out.push((number(key)?, number(value)?))?;
+    }
+    Ok(out)
+}
+
+/// Adds the number of pairs, whether there is none, and the pairs.
+fn put_map(map: &Map<u64, u64>, text: &mut String) -> Mem<()> {
+    put(text, map.len() as u64)?;
+    text.push_str(if map.is_empty() { " empty" } else { " :" })?;
+    for (key, value) in map.keys().iter().zip(map.values()) {
+        write!(text, " {key}:{value}")?;
+    }
+    Ok(())
+}
+
+/// Adds a number that was found, or `none`.
+fn put_found(text: &mut String, found: Option<&u64>) -> Mem<()> {
+    match found {
+        Some(n) => put(text, *n),
+        None => text.push_str(" none"),
+    }
+}
+
+/// Adds the value of each key, or `none`.
+fn put_values(map: &Map<u64, u64>, keys: &[u64], text: &mut String) -> Mem<()> {
+    for key in keys {
+        put_found(text, map.get(key))?;
+    }
+    Ok(())
+}
+
+/// `map_get K:V .. @ K ..`: the value of each key, or `none`.
+fn get(alloc: Global, arguments: &str, text: &mut String) -> Result<(), Fault> {
+    let (list, keys) = parted(arguments, '@')?;
+    let keys = numbers(alloc, keys)?;
+    let map = Map::from_iter_dedup(alloc, pairs(alloc, list)?)?;
+    put_values(&map, &keys, text)?;
+    Ok(())
+}
+
+/// The keys of a map with these values.
+fn valued(map: Map<u64, u64>, values: Vec<u64>) -> Result<Map<u64, u64>, Fault> {
+    if values.len() != map.len() {
+        return Err(Fault::OutOfRange("as many values as keys"));
+    }
+    Ok(map.with_values(values))
+}
+
+/// `with_values K:V .. @ V ..`: the keys with these values.
+fn with_values(alloc: Global, arguments: &str, text: &mut String) -> Result<(), Fault> {
+    let (list, values) = parted(arguments, '@')?;
+    let values = numbers(alloc, values)?;
+    let map = Map::from_iter_dedup(alloc, pairs(alloc, list)?)?;
+    put_map(&valued(map, values)?, text)?;
+    Ok(())
+}
+
+/// `two_way_map K:V ..`: the pairs in the order of the keys.
+fn two_way(alloc: Global, text: &str) -> Result<BiMap<u64, u64>, Fault> {
+    Ok(BiMap::try_from_iter(alloc, pairs(alloc, text)?)?)
+}
+
+/// Adds the number of pairs, whether there is none, and for each number the value of it as a key and the
+/// key of it as a value.
+fn put_both_ways(map: &BiMap<u64, u64>, wanted: &[u64], text: &mut String) -> Mem<()> {
+    put(text, map.len() as u64)?;
+    text.push_str(if map.is_empty() { " empty" } else { " :" })?;
+    for n in wanted {
+        put_found(text, map.get(n))?;
+        put_found(text, map.get_key(n))?;
+    }
+    Ok(())
+}
+
+/// `two_way_get K:V .. @ N ..`: the number of pairs, whether there is none, and for each n the value of
+/// the key n and the key of the value n, or `none`.
+fn two_way_get(alloc: Global, arguments: &str, text: &mut String) -> Result<(), Fault> {
+    let (list, wanted) = parted(arguments, '@')?;
+    let wanted = numbers(alloc, wanted)?;
+    put_both_ways(&two_way(alloc, list)?, &wanted, text)?;
+    Ok(())
+}

@@ -1,0 +1,76 @@
+//! Samples of a source, whose words are listed.
+
+use math_base::algebra::Random;
+use math_ntt::ntt::Matrix;
+use math_poly::poly::Poly;
+use math_samples::elements::Element;
+use math_samples::sources::Listed;
+use rows_base::answer::{Answer, put};
+use rows_base::fault::Fault;
+use rows_base::words::{element, numbers, parted, short, two_numbers};
+use rows_ntt::matrices::put_matrix;
+use rows_poly::polynomials::put_stored;
+use std::alloc::Global;
+
+/// Runs a call of this module, and adds how many words are left; `false` where it is none.
+pub fn run<R: Element + Random>(
+    alloc: Global,
+    call: &str,
+    arguments: &str,
+    answer: &mut Answer<R>,
+) -> Result<bool, Fault> {
+    match call {
+        "random" | "poly_random" | "poly_random_with_constant" | "matrix_random" => {}
+        _ => return Ok(false),
+    }
+    let (how, words) = parted(arguments, '@')?;
+    let words = numbers(alloc, words)?;
+    let mut source = Listed::new(&words);
+    match call {
+        "random" => answer.element(R::random(alloc, &mut source)?)?,
+        "matrix_random" => matrix(alloc, how, &mut source, answer)?,
+        _ => polynomial(alloc, how, &mut source, answer)?,
+    }
+    answer.text.push_str(" left")?;
+    put(&mut answer.text, source.left() as u64)?;
+    Ok(true)
+}
+
+/// `matrix_random ROWS COLUMNS @ W ..`: the matrix.
+fn matrix<R: Element + Random>(
+    alloc: Global,
+    size: &str,
+    source: &mut Listed<'_>,
+    answer: &mut Answer<R>,
+) -> Result<(), Fault> {
+    let (rows, cols) = two_numbers(size)?;
+    let (rows, cols) = (rows as usize, cols as usize);
+    if rows.checked_mul(cols).is_none() {
+        return Err(Fault::OutOfRange("2^64 cells"));
+    }
+    let m = Matrix::<R>::rand(alloc, source, rows, cols)?;
+    put_matrix(alloc, &m, answer)?;
+    Ok(())
+}
+
+/// `poly_random DEGREE @ W ..`, `poly_random DEGREE CONSTANT @ W ..`: the stored coefficients.
+fn polynomial<R: Element + Random>(
+    alloc: Global,
+    how: &str,
+    source: &mut Listed<'_>,
+    answer: &mut Answer<R>,
+) -> Result<(), Fault> {
+    let (degree, constant) = how.trim().split_once(' ').unwrap_or((how, ""));
+    let degree = short(degree)?;
+    if degree == u32::MAX {
+        return Err(Fault::OutOfRange("2^32 coefficients"));
+    }
+    let p = if constant.is_empty() {
+        Poly::<R>::new(alloc, source, degree)?
+    } else {
+        let constant = element::<R>(alloc, constant)?;
+        Poly::<R>::new_with_constant(alloc, source, degree, constant)?
+    };
+    put_stored(alloc, &p, answer)?;
+    Ok(())
+}

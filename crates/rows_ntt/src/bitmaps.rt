@@ -1,0 +1,83 @@
+//! Bitmaps of points. One is written `LG I ..`: 2^LG points, and the indices of those that don't vanish.
+
+use math_base::algebra::Mem;
+use math_ntt::ntt::VanishingPoints;
+use rows_base::answer::{put, put_firsts};
+use rows_base::fault::Fault;
+use rows_base::words::{number, short};
+use std::alloc::Global;
+
+/// Runs a call of this module; `false` where it is none.
+pub fn run(alloc: Global, call: &str, arguments: &str, text: &mut String) -> Result<bool, Fault> {
+    match call {
+        "bitmap" => put_bitmap(&bitmap(alloc, arguments)?, text)?,
+        "full_bitmap" => put(text, full(alloc, arguments)?.count_non_vanishing())?,
+        "bitmap_equals" => same(alloc, arguments, text)?,
+        _ => return Ok(false),
+    }
+    Ok(true)
+}
+
+/// `full_bitmap LG`: how many points don't vanish, which all do not.
+fn full(alloc: Global, text: &str) -> Result<VanishingPoints, Fault> {
+    let lg = short(text)?;
+    if lg >= 64 {
+        return Err(Fault::OutOfRange("lg above 63"));
+    }
+    Ok(VanishingPoints::all_non_vanishing(alloc, lg)?)
+}
+
+/// The bitmap of 2^LG points, all of which vanish.
+pub fn empty(alloc: Global, text: &str) -> Result<VanishingPoints, Fault> {
+    let lg = short(text)?;
+    if lg >= 64 {
+        return Err(Fault::OutOfRange("lg above 63"));
+    }
+    Ok(VanishingPoints::new(alloc, lg)?)
+}
+
+/// Sets a point to one that does not vanish.
+pub fn set(points: &mut VanishingPoints, index: u64) -> Result<(), Fault> {
+    if index >> points.lg_size() != 0 {
+        return Err(Fault::OutOfRange("no such point"));
+    }
+    points.set_non_vanishing(index);
+    Ok(())
+}
+
+/// The bitmap that a text writes; after `full` at its front, that of all points.
+fn bitmap(alloc: Global, text: &str) -> Result<VanishingPoints, Fault> {
+    let (size, indices) = text.trim().split_once(' ').unwrap_or((text, ""));
+    if size == "full" {
+        return full(alloc, indices);
+    }
+    let mut points = empty(alloc, size)?;
+    for word in indices.split_whitespace() {
+        set(&mut points, number(word)?)?;
+    }
+    Ok(points)
+}
+
+/// Adds how many points don't vanish, and their indices.
+fn put_bitmap(points: &VanishingPoints, text: &mut String) -> Mem<()> {
+    put(text, points.count_non_vanishing())?;
+    let size: u64 = 1 << points.lg_size();
+    for index in 0..size {
+        if points.get(index) {
+            put(text, index)?;
+        }
+    }
+    Ok(())
+}
+
+/// `bitmap_equals LG I .. ; ..`: for each bitmap the place of the first that it equals.
+fn same(alloc: Global, arguments: &str, text: &mut String) -> Result<(), Fault> {
+    let mut items = Vec::new(alloc);
+    for part in arguments.split(';') {
+        items.push(bitmap(alloc, part)?)?;
+    }
+    put_firsts(text, &items, |a: &VanishingPoints, b: &VanishingPoints| {
+        Ok(a == b)
+    })?;
+    Ok(())
+}

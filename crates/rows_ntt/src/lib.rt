@@ -1,0 +1,6 @@
+//! The calls of `math_ntt` that rows name: each module runs those of one subject.
+#![tactic(auto)]
+
+pub mod bitmaps;
+pub mod matrices;
+pub mod vectors;

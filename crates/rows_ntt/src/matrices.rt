@@ -1,0 +1,194 @@
+//! Matrices. One is written `ROWS COLUMNS : CELL ..`, row by row.
+
+ghost use Rattle.std.specs.Prelude.{◌≡◌, ◌*◌, length, IfOk};
+
+use math_base::algebra::Mem;
+use math_ntt::ntt::Matrix;
+use math_samples::elements::Element;
+use rows_base::answer::{Answer, put, put_firsts};
+use rows_base::fault::Fault;
+use rows_base::words::{element, elements, number, parted, two_numbers};
+use std::alloc::Global;
+
+/// Runs a call of this module; `false` where it is none.
+pub fn run<R: Element>(
+    alloc: Global,
+    call: &str,
+    arguments: &str,
+    answer: &mut Answer<R>,
+) -> Result<bool, Fault> {
+    match call {
+        "matrix" => whole(alloc, arguments, answer)?,
+        "matrix_clone" => copy(alloc, arguments, answer)?,
+        "matrix_mul" => product(alloc, arguments, answer)?,
+        "matrix_equals" => same(alloc, arguments, answer)?,
+        "rows" => rows(alloc, arguments, answer)?,
+        "row" => row(alloc, arguments, answer)?,
+        "cell" => cell(alloc, arguments, answer)?,
+        "set_cell" | "set_in_row" => put_changed(alloc, call, arguments, answer)?,
+        _ => return Ok(false),
+    }
+    Ok(true)
+}
+
+/// The matrix with these cells, and with zeros after them.
+pub fn matrix<R: Element>(alloc: Global, text: &str) -> Result<Matrix<R>, Fault>
+    ensures { IfOk result (λ m. length m.cells ≡ m.rows * m.cols) }
+{
+    let (size, cells) = parted(text, ':')?;
+    let (rows, cols) = two_numbers(size)?;
+    let (rows, cols) = (rows as usize, cols as usize);
+    if rows.checked_mul(cols).is_none() {
+        return Err(Fault::OutOfRange("2^64 cells"));
+    }
+    let cells = elements::<R>(alloc, cells)?;
+    let m = Matrix::init(alloc, rows, cols, cells)?;
+    Ok(m)
+}
+
+/// The matrices of a text, with `;` between them.
+fn matrices<R: Element>(alloc: Global, text: &str) -> Result<Vec<Matrix<R>>, Fault> {
+    let mut out = Vec::new(alloc);
+    for part in text.split(';') {
+        out.push(matrix::<R>(alloc, part)?)?;
+    }
+    Ok(out)
+}
+
+/// Adds a matrix, as it is written.
+pub fn put_matrix<R: Element>(alloc: Global, m: &Matrix<R>, answer: &mut Answer<R>) -> Mem<()> {
+    put(&mut answer.text, m.rows() as u64)?;
+    put(&mut answer.text, m.cols() as u64)?;
+    answer.text.push_str(" :")?;
+    for row in m.iter() {
+        answer.copies(alloc, row)?;
+    }
+    Ok(())
+}
+
+/// `matrix M`: the matrix.
+fn whole<R: Element>(alloc: Global, arguments: &str, answer: &mut Answer<R>) -> Result<(), Fault> {
+    put_matrix(alloc, &matrix::<R>(alloc, arguments)?, answer)?;
+    Ok(())
+}
+
+/// `matrix_clone M`: a copy of the matrix.
+fn copy<R: Element>(alloc: Global, arguments: &str, answer: &mut Answer<R>) -> Result<(), Fault> {
+    let copy = matrix::<R>(alloc, arguments)?.clone(alloc)?;
+    put_matrix(alloc, &copy, answer)?;
+    Ok(())
+}
+
+/// Adds the rows, each after `;`.
+fn put_rows<R: Element>(alloc: Global, m: &Matrix<R>, answer: &mut Answer<R>) -> Mem<()> {
+    for row in m.iter() {
+        answer.text.push_str(" ;")?;
+        answer.copies(alloc, row)?;
+    }
+    Ok(())
+}
+
+/// `rows M`: the rows, each after `;`.
+fn rows<R: Element>(alloc: Global, arguments: &str, answer: &mut Answer<R>) -> Result<(), Fault> {
+    put_rows(alloc, &matrix::<R>(alloc, arguments)?, answer)?;
+    Ok(())
+}
+
+/// The product, where the shapes fit.
+fn multiplied<R: Element>(alloc: Global, a: &Matrix<R>, b: &Matrix<R>) -> Result<Matrix<R>, Fault> {
+    if a.cols() != b.rows() || a.rows().checked_mul(b.cols()).is_none() {
+        return Err(Fault::OutOfRange("shapes that don't fit"));
+    }
+    Ok(a.mul(alloc, b)?)
+}
+
+/// `matrix_mul M @ N`: the product.
+fn product<R: Element>(
+    alloc: Global,
+    arguments: &str,
+    answer: &mut Answer<R>,
+) -> Result<(), Fault> {
+    let (a, b) = parted(arguments, '@')?;
+    let a = matrix::<R>(alloc, a)?;
+    let b = matrix::<R>(alloc, b)?;
+    put_matrix(alloc, &multiplied(alloc, &a, &b)?, answer)?;
+    Ok(())
+}
+
+/// `matrix_equals M ; N ; ..`: for each matrix the place of the first that it equals.
+fn same<R: Element>(alloc: Global, arguments: &str, answer: &mut Answer<R>) -> Result<(), Fault> {
+    let items = matrices::<R>(alloc, arguments)?;
+    put_firsts(&mut answer.text, &items, |a: &Matrix<R>, b: &Matrix<R>| {
+        a.equals(alloc, b)
+    })?;
+    Ok(())
+}
+
+/// The cells of row i.
+fn row_of<R: Element>(m: &Matrix<R>, i: usize) -> Result<&[R], Fault> {
+    if i >= m.rows() {
+        return Err(Fault::OutOfRange("no such row"));
+    }
+    Ok(m.row(i))
+}
+
+/// `row M @ I`: the cells of row I.
+fn row<R: Element>(alloc: Global, arguments: &str, answer: &mut Answer<R>) -> Result<(), Fault> {
+    let (m, i) = parted(arguments, '@')?;
+    let i = number(i.trim())? as usize;
+    let m = matrix::<R>(alloc, m)?;
+    answer.copies(alloc, row_of(&m, i)?)?;
+    Ok(())
+}
+
+/// A copy of the cell in row i and column j.
+fn cell_of<R: Element>(alloc: Global, m: &Matrix<R>, i: usize, j: usize) -> Result<R, Fault> {
+    if i >= m.rows() || j >= m.cols() {
+        return Err(Fault::OutOfRange("no such cell"));
+    }
+    Ok(m[(i, j)].clone(alloc)?)
+}
+
+/// `cell M @ I J`: the cell in row I and column J.
+fn cell<R: Element>(alloc: Global, arguments: &str, answer: &mut Answer<R>) -> Result<(), Fault> {
+    let (m, place) = parted(arguments, '@')?;
+    let (i, j) = two_numbers(place)?;
+    let m = matrix::<R>(alloc, m)?;
+    answer.element(cell_of(alloc, &m, i as usize, j as usize)?)?;
+    Ok(())
+}
+
+/// Puts x in row i and column j, by its index or, for `set_in_row`, through the row.
+fn set<R: Element>(call: &str, m: &mut Matrix<R>, i: usize, j: usize, x: R) -> Result<(), Fault> {
+    if i >= m.rows() || j >= m.cols() {
+        return Err(Fault::OutOfRange("no such cell"));
+    }
+    if call == "set_in_row" {
+        m.row_mut(i)[j] = x;
+    } else {
+        m[(i, j)] = x;
+    }
+    Ok(())
+}
+
+/// `set_cell M @ I J @ X`, `set_in_row M @ I J @ X`: the matrix, after X was put in row I and column J.
+fn put_changed<R: Element>(
+    alloc: Global,
+    call: &str,
+    arguments: &str,
+    answer: &mut Answer<R>,
+) -> Result<(), Fault> {
+    let (m, rest) = parted(arguments, '@')?;
+    let (place, x) = parted(rest, '@')?;
+    let (i, j) = two_numbers(place)?;
+    let mut m = matrix::<R>(alloc, m)?;
+    set(
+        call,
+        &mut m,
+        i as usize,
+        j as usize,
+        element::<R>(alloc, x)?,
+    )?;
+    put_matrix(alloc, &m, answer)?;
+    Ok(())
+}

@@ -1,0 +1,5 @@
+//! The calls of transforms and of recovery that rows name: each module runs those of one subject.
+#![tactic(auto)]
+
+pub mod recovery;
+pub mod transforms;

@@ -1,0 +1,222 @@
+//! The calls of shards that rows name.
+#![tactic(auto)]
+
+use math_base::algebra::Mem;
+use math_base::fields::goldilocks::F;
+use math_codec::codec::{EncodeSize, Read, Write};
+use math_samples::elements::Element;
+use math_shards::shards::{Error, Shard, join, split};
+use rows_base::answer::{put, put_all, put_bytes};
+use rows_base::fault::Fault;
+use rows_base::words::{bytes, elements, numbers, parted, short};
+use std::alloc::Global;
+
+/// Runs a call of this module; `false` where it is none.
+pub fn run(alloc: Global, call: &str, arguments: &str, text: &mut String) -> Result<bool, Fault> {
+    match call {
+        "split" => split_words(alloc, arguments, text)?,
+        "join" => join_shards(alloc, arguments, text)?,
+        "join_each_set" => join_each_set(alloc, arguments, text)?,
+        "write_shard" => write_shard(alloc, arguments, text)?,
+        "read_shard" => read_shard(alloc, arguments, text)?,
+        _ => return Ok(false),
+    }
+    Ok(true)
+}
+
+/// Adds a shard: index, `min`, `total`, `:` and the cells.
+fn put_shard(text: &mut String, shard: &Shard) -> Mem<()> {
+    put(text, u64::from(shard.index))?;
+    put(text, u64::from(shard.min))?;
+    put(text, u64::from(shard.total))?;
+    text.push_str(" :")?;
+    for cell in &shard.cells {
+        put(text, cell.parts().0)?;
+    }
+    Ok(())
+}
+
+/// The shard that a text writes.
+fn shard_in(alloc: Global, text: &str) -> Result<Shard, Fault> {
+    let (head, cells) = parted(text, ':')?;
+    let mut words = head.split_whitespace();
+    let (Some(index), Some(min), Some(total)) = (words.next(), words.next(), words.next()) else {
+        return Err(Fault::Unreadable("shard"));
+    };
+    Ok(Shard {
+        index: short(index)?,
+        min: short(min)?,
+        total: short(total)?,
+        cells: elements::<F>(alloc, cells)?,
+    })
+}
+
+/// The shards of some words, where 1 <= `min` <= `total`.
+fn shards_of(alloc: Global, data: &[u64], min: u32, total: u32) -> Result<Vec<Shard>, Fault> {
+    if min == 0 || total < min {
+        return Err(Fault::OutOfRange("no such numbers of shards"));
+    }
+    Ok(split(alloc, data, min, total)?)
+}
+
+/// `split MIN TOTAL ; W ..`: the shards, with `;` between them.
+fn split_words(alloc: Global, arguments: &str, text: &mut String) -> Result<(), Fault> {
+    let (head, data) = parted(arguments, ';')?;
+    let (min, total) = parted(head.trim(), ' ')?;
+    let data = numbers(alloc, data)?;
+    let shards = shards_of(alloc, &data, short(min)?, short(total)?)?;
+    for (i, shard) in shards.iter().enumerate() {
+        if i > 0 {
+            text.push_str(" ;")?;
+        }
+        put_shard(text, shard)?;
+    }
+    Ok(())
+}
+
+/// Adds the words that shards give back, after `data`, or why they give none.
+fn put_joined(alloc: Global, shards: &[Shard], text: &mut String) -> Result<(), Fault> {
+    match join(alloc, shards) {
+        Ok(data) => {
+            text.push_str(" data")?;
+            put_all(text, &data)?;
+        }
+        Err(Error::Memory(e)) => return Err(Fault::Memory(e)),
+        Err(error) => write!(text, " refused {error}")?,
+    }
+    Ok(())
+}
+
+/// `join INDEX MIN TOTAL : CELL .. ; ..`: `data` and the words, or the refusal.
+fn join_shards(alloc: Global, arguments: &str, text: &mut String) -> Result<(), Fault> {
+    let mut shards = Vec::new(alloc);
+    if !arguments.trim().is_empty() {
+        for part in arguments.split(';') {
+            shards.push(shard_in(alloc, part)?)?;
+        }
+    }
+    put_joined(alloc, &shards, text)
+}
+
+/// A copy of a shard, with one more in a cell where `changed` names it.
+fn copy_of(alloc: Global, shard: &Shard, changed: Option<usize>) -> Mem<Shard> {
+    let mut cells = Vec::new(alloc);
+    for (k, cell) in shard.cells.iter().enumerate() {
+        cells.push(if changed == Some(k) { *cell + F::from(1) } else { *cell })?;
+    }
+    Ok(Shard {
+        index: shard.index,
+        min: shard.min,
+        total: shard.total,
+        cells,
+    })
+}
+
+/// Copies of the shards whose bits are set, with one more in cell `cell` of shard `changed`.
+fn chosen(
+    alloc: Global,
+    shards: &[Shard],
+    set: u64,
+    changed: u32,
+    cell: Option<usize>,
+) -> Mem<Vec<Shard>> {
+    let mut out = Vec::new(alloc);
+    for shard in shards {
+        if shard.index < 64 && (set >> shard.index) & 1 == 1 {
+            let place = if shard.index == changed { cell } else { None };
+            out.push(copy_of(alloc, shard, place)?)?;
+        }
+    }
+    Ok(out)
+}
+
+/// In how many ways a shard of a set with one more in a cell, beside a further shard, is found to be
+/// of no data.
+fn damages_found(alloc: Global, shards: &[Shard], set: u64) -> Mem<u64> {
+    let mut found = 0u64;
+    for further in shards {
+        for changed in shards {
+            if further.index < 64 && (set >> further.index) & 1 == 0 && further.index != changed.index {
+                for k in 0..changed.cells.len() {
+                    let all = chosen(alloc, shards, set | 1 << further.index, changed.index, Some(k))?;
+                    if is_of_no_data(alloc, &all)? {
+                        found = found.saturating_add(1);
+                    }
+                }
+            }
+        }
+    }
+    Ok(found)
+}
+
+/// Whether the shards are refused as those of no data.
+fn is_of_no_data(alloc: Global, shards: &[Shard]) -> Mem<bool> {
+    match join(alloc, shards) {
+        Err(Error::Memory(e)) => Err(e),
+        Err(Error::Inconsistent) => Ok(true),
+        _ => Ok(false),
+    }
+}
+
+/// Whether the shards give these words back.
+fn give_back(alloc: Global, shards: &[Shard], data: &[u64]) -> Mem<bool> {
+    match join(alloc, shards) {
+        Err(Error::Memory(e)) => Err(e),
+        Ok(found) => Ok(found.as_slice() == data),
+        _ => Ok(false),
+    }
+}
+
+/// `join_each_set MIN TOTAL ; W ..`: how many sets of `min` shards give the words back, and in how many
+/// ways one more in a cell of such a set, beside a further shard, is refused as of no data.
+fn join_each_set(alloc: Global, arguments: &str, text: &mut String) -> Result<(), Fault> {
+    let (head, data) = parted(arguments, ';')?;
+    let (min, total) = parted(head.trim(), ' ')?;
+    let data = numbers(alloc, data)?;
+    let (min, total) = (short(min)?, short(total)?);
+    if total > 16 {
+        return Err(Fault::OutOfRange("too many sets"));
+    }
+    let shards = shards_of(alloc, &data, min, total)?;
+    let mut joined = 0u64;
+    let mut found = 0u64;
+    for set in 0..1u64 << total {
+        if set.count_ones() == min {
+            let some = chosen(alloc, &shards, set, total, None)?;
+            if give_back(alloc, &some, &data)? {
+                joined = joined.saturating_add(1);
+            }
+            found = found.saturating_add(damages_found(alloc, &shards, set)?);
+        }
+    }
+    put(text, joined)?;
+    put(text, found)?;
+    Ok(())
+}
+
+/// `write_shard INDEX MIN TOTAL : CELL ..`: the bytes, and how many there are.
+fn write_shard(alloc: Global, arguments: &str, text: &mut String) -> Result<(), Fault> {
+    let shard = shard_in(alloc, arguments)?;
+    if shard.cells.len() >= 1 << 32 {
+        return Err(Fault::OutOfRange("too many cells"));
+    }
+    let mut out = Vec::new(alloc);
+    shard.write(alloc, &mut out)?;
+    put_bytes(text, &out)?;
+    text.push_str(" size")?;
+    put(text, shard.encode_size() as u64)?;
+    Ok(())
+}
+
+/// `read_shard MOST @ BYTE ..`: the shard, `rest` and how many bytes are left.
+fn read_shard(alloc: Global, arguments: &str, text: &mut String) -> Result<(), Fault> {
+    let (most, given) = parted(arguments, '@')?;
+    let most = short(most)?;
+    let given = bytes(alloc, given)?;
+    let mut rest: &[u8] = &given;
+    let shard = Shard::read_cfg(alloc, &mut rest, &most)?;
+    put_shard(text, &shard)?;
+    text.push_str(" rest")?;
+    put(text, rest.len() as u64)?;
+    Ok(())
+}
