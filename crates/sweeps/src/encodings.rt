@@ -31,7 +31,7 @@ pub const MATRIX: [u8; 35] = [
 ];
 
 /// The value, refused for want of memory alone: it is `None` where it is refused otherwise.
-fn memory_alone<V: Drop>(answer: Result<V, Error>) -> Mem<Option<V>> {
+pub fn memory_alone<V: Drop>(answer: Result<V, Error>) -> Mem<Option<V>> {
     match answer {
         Ok(value) => Ok(Some(value)),
         Err(Error::Memory(refused)) => Err(refused),

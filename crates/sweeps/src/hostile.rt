@@ -1,6 +1,6 @@
 //! Byte strings that are no encodings, or that claim more than follows.
 //!
-//! Each is read as a list of words, as a polynomial and as a matrix, with configurations that admit every length.
+//! Each is read as a list of words, as a polynomial, as a matrix and as a shard, with configurations that admit every length.
 //! What is accepted has to be written back to exactly the bytes that were taken, and what is refused has to
 //! leave the input. While a string is read, no allocation may be larger than the bytes at hand justify: room
 //! for four items, or for twice as many as the bytes can spell.
@@ -9,12 +9,14 @@ ghost use Rattle.std.specs.Prelude.{◌<◌, IfOk};
 
 use crate::encodings::{MATRIX, POLYNOMIAL, write_matrix};
 use crate::refusals::{refuse, took_more_than};
+use crate::shards::{SHARD, write_shard};
 use crate::table::Table;
 use commonware_math::algebra::Mem;
 use commonware_math::codec::{Error, LengthRange, Read, Write};
 use commonware_math::fields::goldilocks::F;
 use commonware_math::ntt::Matrix;
 use commonware_math::poly::Poly;
+use commonware_math::shards::Shard;
 use std::alloc::{AllocError, Global};
 
 /// The words 1 and 256 as a list.
@@ -31,6 +33,14 @@ const MATRIX_CLAIMS: [&[u8]; 2] = [
     &[2, 2, 255, 255, 255, 255, 15, 1, 2, 3],
     &[
         2, 2, 255, 255, 255, 255, 15, 0, 0, 0, 0, 0, 0, 0, 1, 1, 2, 3,
+    ],
+];
+
+/// The same of cells of a shard.
+const SHARD_CLAIMS: [&[u8]; 2] = [
+    &[0, 1, 1, 255, 255, 255, 255, 15, 1, 2, 3],
+    &[
+        0, 1, 1, 255, 255, 255, 255, 15, 0, 0, 0, 0, 0, 0, 0, 1, 1, 2, 3,
     ],
 ];
 
@@ -110,12 +120,21 @@ fn as_matrix(alloc: Global, input: &mut &[u8]) -> Result<Vec<u8>, Error> {
     Ok(out)
 }
 
+/// Reads a shard, and writes it again.
+fn as_shard(alloc: Global, input: &mut &[u8]) -> Result<Vec<u8>, Error> {
+    let shard: Shard = read(alloc, input, &u32::MAX)?;
+    let mut out = Vec::new(alloc);
+    write_shard(alloc, &shard, &mut out)?;
+    Ok(out)
+}
+
 /// As what bytes are read.
 #[derive(Clone, Copy)]
 enum Kind {
     Words,
     Polynomial,
     Matrix,
+    Shard,
 }
 
 impl Kind {
@@ -126,6 +145,7 @@ impl Kind {
             Kind::Words => as_words(alloc, &mut input),
             Kind::Polynomial => as_polynomial(alloc, &mut input),
             Kind::Matrix => as_matrix(alloc, &mut input),
+            Kind::Shard => as_shard(alloc, &mut input),
         };
         shown(bytes, input, read)
     }
@@ -159,11 +179,12 @@ fn next_byte(state: &mut u64) -> u8 {
     }
 }
 
-/// An encoding of two words, of a polynomial or of a matrix.
+/// An encoding of two words, of a polynomial, of a matrix or of a shard.
 fn next_encoding(state: &mut u64) -> &'static [u8] {
-    match next_word(state) % 3 {
+    match next_word(state) % 4 {
         0 => &WORDS,
         1 => &POLYNOMIAL,
+        2 => &SHARD,
         _ => &MATRIX,
     }
 }
@@ -239,6 +260,7 @@ pub fn generated_strings(alloc: Global, table: &mut Table<'_>) -> Mem<()> {
         ("words", Kind::Words),
         ("polynomials", Kind::Polynomial),
         ("matrices", Kind::Matrix),
+        ("shards", Kind::Shard),
     ] {
         if !table.wants("generated strings") {
             return Ok(());
@@ -281,5 +303,9 @@ pub fn claims(alloc: Global, table: &mut Table<'_>) -> Mem<()> {
     table.add_line(
         "claims of cells: refused as ended",
         all_ended(alloc, &MATRIX_CLAIMS, Kind::Matrix),
+    )?;
+    table.add_line(
+        "claims of cells of a shard: refused as ended",
+        all_ended(alloc, &SHARD_CLAIMS, Kind::Shard),
     )
 }

@@ -12,6 +12,7 @@ mod hostile;
 mod interpolation;
 mod polynomials;
 mod refusals;
+mod shards;
 mod table;
 mod transforms;
 mod values;
@@ -50,7 +51,7 @@ fn run(alloc: Global, table: &mut Table<'_>) -> Mem<()> {
     table.sweep::<commitments::Given<Quotient>>(alloc, &commitments::NAMES)?;
     table.set_type("field", Texts::Apart, true);
     table.sweep::<encodings::Given>(alloc, &encodings::NAMES)?;
-    // The sweeps of shards belong here.
+    table.sweep::<shards::Given>(alloc, &shards::NAMES)?;
     transforms::recovery_of_32768(alloc, table)?;
     hostile::generated_strings(alloc, table)?;
     hostile::claims(alloc, table)
