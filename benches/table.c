@@ -207,6 +207,32 @@ static void encodings(void) {
   }
 }
 
+/* the words of a buffer of 2^lg, split into shards of which every second is lost */
+static void shards(const char *split, const char *join, uint32_t min, int from) {
+  double forward = 0, back = 0, time;
+  uint32_t total = 2 * min, *indices = malloc(min * sizeof *indices);
+  if (indices == NULL) fail("malloc");
+  for (int lg = from; lg <= 20; lg += 2) {
+    size_t n = (size_t)1 << lg, size = 0, written = 0;
+    need(split, cwm_shard_sizes(n, min, total, &size));
+    uint64_t *a = some(n), *b = words(n), *rows = words(total * size), *left = words(min * size);
+    uint64_t *copy = words(min * size);
+    LEAST(time, b, a, n, need(split, cwm_split(b, n, min, total, rows, total * size)));
+    line(split, lg, size, time, 8 * (double)n, "byte", &forward);
+    for (uint32_t i = 0; i < min; i++) {
+      indices[i] = 2 * i + 1;
+      memcpy(left + i * size, rows + indices[i] * size, size * sizeof *left);
+    }
+    memset(b, 0, n * sizeof *b);
+    LEAST(time, copy, left, min * size,
+          need(join, cwm_join(indices, min, min, total, copy, min * size, b, n, &written)));
+    line(join, lg, size, time, 8 * (double)n, "byte", &back);
+    if (written != n || memcmp(a, b, n * sizeof *a) != 0) fail(join);
+    free(a), free(b), free(rows), free(left), free(copy);
+  }
+  free(indices);
+}
+
 int main(int argc, char **argv) {
   if (argc > 1) seconds = atoi(argv[1]);
   printf("%-18s %4s %6s %17s %28s %8s\n", "work", "lg", "cols", "time", "for one", "growth");
@@ -218,5 +244,7 @@ int main(int argc, char **argv) {
   recoveries(16);
   weights();
   encodings();
+  shards("split, 8 of 16", "join, 8 of 16", 8, 10);
+  shards("split, 512 of 1024", "join, 512 of 1024", 512, 14);
   return 0;
 }

@@ -1,7 +1,7 @@
 /* commonware-math for C: polynomials over the Goldilocks field, in the caller's memory.
  *
  * An element of the field is a whole number below P = 2^64 - 2^32 + 1, in a uint64_t. Every word that is
- * handed in is tested: one of P or more gives CWM_OUT_OF_RANGE. Coefficients go from the constant upwards.
+ * handed in as one is tested: P or more gives CWM_OUT_OF_RANGE. Coefficients go from the constant upwards.
  *
  * Rows of cells lie one behind the other: cell (i, k) is cells[i * cols + k], and each column is a
  * polynomial of its own. A domain has N = 2^lg points, lg at most 32: point i is power i of the root of
@@ -29,13 +29,17 @@ extern "C" {
 /* P, the modulus. */
 #define CWM_MODULUS UINT64_C(0xffffffff00000001)
 
-/* What a call answers. The numbers 4, 5, 7 and 8 are kept for the refusals of shards. */
+/* What a call answers. */
 enum cwm_status {
   CWM_DONE = 0,            /* the call did what it says */
   CWM_OUT_OF_MEMORY = 1,   /* malloc gave none */
   CWM_OUT_OF_RANGE = 2,    /* a word is P or more, or a byte that says whether a row is filled is neither 0 nor 1 */
   CWM_WRONG_SIZE = 3,      /* a number of words, rows or columns is none that the call takes, or there is no room */
-  CWM_WRONG_INDEX = 6,     /* an index is not below the total, or not above the one before it */
+  CWM_TOO_FEW = 4,         /* fewer than `min` distinct indices of shards are there */
+  CWM_MISMATCH = 5,        /* not 1 <= min <= total */
+  CWM_WRONG_INDEX = 6,     /* an index is not below the total, or of weights not above the one before it */
+  CWM_CONFLICT = 7,        /* two shards have one index and unequal words */
+  CWM_INCONSISTENT = 8,    /* there are no data that have each of the shards */
   CWM_END_OF_BUFFER = 9,   /* the bytes end within a polynomial */
   CWM_INVALID_VARINT = 10, /* the bytes begin with no length */
   CWM_INVALID_LENGTH = 11, /* the length is zero */
@@ -95,6 +99,37 @@ uint32_t cwm_encode_poly(const uint64_t *coefficients, size_t n, uint8_t *out, s
  * are no encoding give their first fault: CWM_INVALID_VARINT, CWM_INVALID_LENGTH, CWM_END_OF_BUFFER,
  * CWM_OUT_OF_RANGE for a word of P or more, CWM_EXTRA_DATA. */
 uint32_t cwm_decode_poly(const uint8_t *bytes, size_t n, uint64_t *out, size_t m, size_t *count);
+
+/* Data of n words, each any uint64_t, are split into `total` shards of which any `min` give them back. A
+ * shard is known by its index, from 0 to total - 1, and has the same number of words as each other, all
+ * below P: about n / min. The shards hide nothing of the data. Keep min, total and each shard's index
+ * beside it; the number of data words need not be kept.
+ *
+ * Writes how many words each shard of `words` words of data has into *cells.
+ * 1 <= min <= total, else CWM_MISMATCH. The words of the data, and total times *cells, are below 2^57, else
+ * CWM_WRONG_SIZE. */
+uint32_t cwm_shard_sizes(size_t words, uint32_t min, uint32_t total, size_t *cells);
+
+/* Writes the shards of the n words of data: shard i is row i of the m words of `cells`, in `total` rows of
+ * as many words as cwm_shard_sizes says.
+ * 1 <= min <= total, else CWM_MISMATCH. m is total times the size of a shard, and the sizes are such as
+ * cwm_shard_sizes takes, else CWM_WRONG_SIZE. Takes memory for a few times N rows of a shard's size, where
+ * N is `total` rounded up to a power of two. */
+uint32_t cwm_split(const uint64_t *data, size_t n, uint32_t min, uint32_t total, uint64_t *cells, size_t m);
+
+/* Writes the data that k shards give back over the first of the m words of data, and their number into
+ * *written. Row i of the n words of `cells`, in k rows, is the shard whose index is indices[i]; the order
+ * does not matter, and a shard that is there twice counts once. At most min * (n / k) words are written;
+ * less room than needed: CWM_WRONG_SIZE.
+ * n is a multiple of k, and 0 where k is, else CWM_WRONG_SIZE. A word of P or more: CWM_OUT_OF_RANGE. Then,
+ * in this order: no shard at all: CWM_TOO_FEW; not 1 <= min <= total: CWM_MISMATCH; an index of `total` or
+ * more: CWM_WRONG_INDEX; unequal shards of one index: CWM_CONFLICT; fewer than `min` distinct indices:
+ * CWM_TOO_FEW; shards of no data: CWM_INCONSISTENT. Where more than `min` shards are there, damage to one
+ * is so found; where just `min` are there, it is not.
+ * Takes memory for a few times N rows of a shard's size, where N is `total` rounded up to a power of two:
+ * who takes shards from strangers bounds `total` first. */
+uint32_t cwm_join(const uint32_t *indices, size_t k, uint32_t min, uint32_t total, const uint64_t *cells, size_t n,
+                  uint64_t *data, size_t m, size_t *written);
 
 #ifdef __cplusplus
 }

@@ -15,6 +15,19 @@ mod library {
         pub fn cwm_eval(coefficients: *const u64, n: usize, x: u64, out: *mut u64) -> u32;
         pub fn cwm_evaluate(cells: *mut u64, n: usize, cols: usize) -> u32;
         pub fn cwm_recover(cells: *mut u64, n: usize, cols: usize, filled: *const u8, rows: usize) -> u32;
+        pub fn cwm_shard_sizes(words: usize, min: u32, total: u32, cells: *mut usize) -> u32;
+        pub fn cwm_split(data: *const u64, n: usize, min: u32, total: u32, cells: *mut u64, m: usize) -> u32;
+        pub fn cwm_join(
+            indices: *const u32,
+            k: usize,
+            min: u32,
+            total: u32,
+            cells: *const u64,
+            n: usize,
+            data: *mut u64,
+            m: usize,
+            written: *mut usize,
+        ) -> u32;
     }
 }
 
@@ -60,4 +73,43 @@ pub fn evaluate(cells: &mut [u64], cols: usize) -> Result<(), Refused> {
 pub fn recover(cells: &mut [u64], cols: usize, filled: &[bool]) -> Result<(), Refused> {
     // SAFETY: as above; a `bool` is a byte that is 0 or 1.
     done(unsafe { library::cwm_recover(cells.as_mut_ptr(), cells.len(), cols, filled.as_ptr().cast(), filled.len()) })
+}
+
+/// How many words each of `total` shards of so many words has, of which `min` give these back.
+pub fn shard_size(words: usize, min: u32, total: u32) -> Result<usize, Refused> {
+    let mut cells = 0;
+    // SAFETY: `cells` is new, and borrowed for the call alone.
+    done(unsafe { library::cwm_shard_sizes(words, min, total, &mut cells) })?;
+    Ok(cells)
+}
+
+/// The shards of the data, row by row, in the order of their indices.
+pub fn split(data: &[u64], min: u32, total: u32) -> Result<Vec<u64>, Refused> {
+    let mut cells = vec![0; total as usize * shard_size(data.len(), min, total)?];
+    // SAFETY: as above; a slice's pointer is not null and its length is true.
+    done(unsafe { library::cwm_split(data.as_ptr(), data.len(), min, total, cells.as_mut_ptr(), cells.len()) })?;
+    Ok(cells)
+}
+
+/// The data that the shards with these indices, row by row, give back.
+pub fn join(indices: &[u32], min: u32, total: u32, cells: &[u64]) -> Result<Vec<u64>, Refused> {
+    let cols = cells.len() / indices.len().max(1);
+    let mut data = vec![0; (min as usize).min(indices.len()) * cols];
+    let mut written = 0;
+    // SAFETY: as above; the slices and the new vector overlap with nothing.
+    done(unsafe {
+        library::cwm_join(
+            indices.as_ptr(),
+            indices.len(),
+            min,
+            total,
+            cells.as_ptr(),
+            cells.len(),
+            data.as_mut_ptr(),
+            data.len(),
+            &mut written,
+        )
+    })?;
+    data.truncate(written);
+    Ok(data)
 }

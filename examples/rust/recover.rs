@@ -2,7 +2,7 @@
 //! coefficients are recovered from the other three. No line here is unsafe.
 #![deny(unsafe_code)]
 
-#[allow(unsafe_code)]
+#[allow(dead_code, unsafe_code)]
 mod commonware_math;
 
 use commonware_math::{MODULUS, Refused, eval, evaluate, recover};

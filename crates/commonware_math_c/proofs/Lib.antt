@@ -4,3 +4,4 @@ pub mod WordEncodings
 pub mod TruthValues
 pub mod RisingIndices
 pub mod WordWeights
+pub mod WordShards

@@ -3,3 +3,4 @@ pub mod WordElements
 pub mod WordRows
 pub mod WordWeights
 pub mod WordEncodings
+pub mod WordShards

@@ -1,8 +1,10 @@
 -- What a call answers: its status, and the text of a status.
 use Rattle.std.specs.Prelude.{ℕ, List, codes, Result, Ok, Err, ◌==◌, if◌then◌else◌}
 use Rattle.math_codec.specs.Faults as faults
+use Rattle.math_shards.specs.declared.shards.Error as shards
+use Rattle.math_shards.specs.declared.shards.Error.TheVariants as errors
 use Rattle.commonware_math_c.specs.declared.status.Status.{Status}
-use Rattle.commonware_math_c.specs.declared.status.Status.TheVariants.{Done, OutOfMemory, OutOfRange, WrongSize, WrongIndex, EndOfBuffer, InvalidVarint, InvalidLength, ExtraData}
+use Rattle.commonware_math_c.specs.declared.status.Status.TheVariants.{Done, OutOfMemory, OutOfRange, WrongSize, TooFew, Mismatch, WrongIndex, Conflict, Inconsistent, EndOfBuffer, InvalidVarint, InvalidLength, ExtraData}
 
 -- the number of a status
 abbrev pub code_of : Status → ℕ
@@ -10,7 +12,11 @@ code_of Done = 0
 code_of OutOfMemory = 1
 code_of OutOfRange = 2
 code_of WrongSize = 3
+code_of TooFew = 4
+code_of Mismatch = 5
 code_of WrongIndex = 6
+code_of Conflict = 7
+code_of Inconsistent = 8
 code_of EndOfBuffer = 9
 code_of InvalidVarint = 10
 code_of InvalidLength = 11
@@ -32,7 +38,11 @@ out_of_range = 2
 abbrev pub wrong_size : ℕ
 wrong_size = 3
 
--- an index is not below the total, or not above the one before it
+-- `min` and `total` are not such as shards have
+abbrev pub mismatch : ℕ
+mismatch = 5
+
+-- an index is not below the total, or of weights not above the one before it
 abbrev pub wrong_index : ℕ
 wrong_index = 6
 
@@ -45,6 +55,15 @@ status_of_read (Err (faults.InvalidLength n)) = 11
 status_of_read (Err (faults.Invalid kind text)) = out_of_range
 status_of_read (Err (faults.ExtraData n)) = 12
 
+-- the status of shards that give no data back, by what is wrong with them
+abbrev pub status_of_shards : shards.Error → ℕ
+status_of_shards (errors.Memory e) = out_of_memory
+status_of_shards errors.TooFew = 4
+status_of_shards errors.Mismatch = mismatch
+status_of_shards errors.Index = wrong_index
+status_of_shards errors.Conflict = 7
+status_of_shards errors.Inconsistent = 8
+
 -- the text of a status
 abbrev pub text_of : ℕ → List ℕ
 text_of n =
@@ -52,7 +71,11 @@ text_of n =
     if n == 1 then codes "out of memory" else
     if n == 2 then codes "out of range" else
     if n == 3 then codes "wrong size" else
+    if n == 4 then codes "too few shards" else
+    if n == 5 then codes "mismatch" else
     if n == 6 then codes "wrong index" else
+    if n == 7 then codes "unequal shards of one index" else
+    if n == 8 then codes "shards of no data" else
     if n == 9 then codes "end of buffer" else
     if n == 10 then codes "invalid varint" else
     if n == 11 then codes "invalid length" else

@@ -5,19 +5,22 @@
 //! a pointer and a length, and a `Global` takes no place among the arguments.
 #![tactic(auto)]
 
-ghost use Rattle.std.specs.Prelude.{◌≡◌, ◌≢◌, ◌<◌, ◌≤◌, ◌-◌, ◌++◌, ◌⊎◌, ℕ, List, length, replicate, All};
+ghost use Rattle.std.specs.Prelude.{◌≡◌, ◌≢◌, ◌<◌, ◌≤◌, ◌-◌, ◌*◌, ◌++◌, ◌⊎◌, ℕ, List, length, replicate, All};
 ghost use Rattle.math_numbers.specs.Goldilocks.{P};
 ghost use Rattle.math_base.specs.Elements.{number, residue};
 ghost use Rattle.math_base.specs.Polynomials.{value_in_ring};
-ghost use Rattle.commonware_math_c.specs.Statuses.{done, out_of_memory, out_of_range, wrong_size, wrong_index, status_of_read, text_of};
+ghost use Rattle.commonware_math_c.specs.Statuses.{done, out_of_memory, out_of_range, wrong_size, mismatch, wrong_index, status_of_read, status_of_shards, text_of};
 ghost use Rattle.commonware_math_c.specs.WordElements.{AreElements, elements, goldilocks};
 ghost use Rattle.commonware_math_c.specs.WordRows.{AreWordValues, AreRecoveredWords, AreFilledElements, HasRows, HasRowsFor};
 ghost use Rattle.commonware_math_c.specs.WordWeights.{AreRising, AreWordWeights, AreWordWeightsAtRoots};
+ghost use Rattle.commonware_math_c.specs.WordShards.{AreRefused, AreRowsOf, AreWordsOfShards, DoJoinTo, HaveShardSizes, IsSplit};
+ghost use Rattle.math_shards.specs.declared.shards.Error.{Error};
 ghost use Rattle.commonware_math_c.specs.WordEncodings.{IsCoefficientCount, IsEncodedBy, StandInFront, polynomial_spelling, scan_polynomial};
 
 mod elements;
 mod polynomials;
 mod rows;
+mod shards;
 mod status;
 mod weights;
 
@@ -25,6 +28,7 @@ use commonware_math::fields::goldilocks::MODULUS;
 use elements::are_elements;
 use polynomials::is_coefficient_count;
 use rows::{are_filled_elements, are_marks, lg_of_rows, lg_of_these_rows};
+use shards::is_split;
 use status::Status;
 use std::alloc::Global;
 use std::num::NonZeroU32;
@@ -229,6 +233,85 @@ pub extern "C" fn cwm_decode_poly(
         }
         Ok(None) => Status::WrongSize.code(),
         Err(error) => status::of_read(&error).code(),
+    }
+}
+
+/// Writes how many cells each of `total` shards of so many words has, of which `min` give these back.
+#[unsafe(no_mangle)]
+pub extern "C" fn cwm_shard_sizes(words: usize, min: u32, total: u32, cells: &mut usize) -> u32
+    ensures sizes { result ≡ done → IsSplit min total × HaveShardSizes words min total cells.new }
+    ensures kept { result ≢ done → cells.new ≡ cells.old }
+    ensures size { result ≡ wrong_size → (n : ℕ) → ¬ (HaveShardSizes words min total n) }
+    ensures mismatch { result ≡ mismatch → ¬ (IsSplit min total) }
+    ensures statuses { (result ≡ done) ⊎ (result ≡ wrong_size) ⊎ (result ≡ mismatch) }
+{
+    if !is_split(min, total) {
+        return Status::Mismatch.code();
+    }
+    let Some(size) = shards::size(words, min, total) else {
+        return Status::WrongSize.code();
+    };
+    *cells = size;
+    Status::Done.code()
+}
+
+/// Writes the shards of the data over the cells, a shard a row, in the order of the indices.
+#[unsafe(no_mangle)]
+pub extern "C" fn cwm_split(alloc: Global, words: &[u64], min: u32, total: u32, cells: &mut [u64]) -> u32
+    ensures shards { result ≡ done → IsSplit min total × AreWordsOfShards words.now min total cells.new }
+    ensures kept { result ≢ done → cells.new ≡ cells.old }
+    ensures size { result ≡ wrong_size → ¬ ((n : ℕ) × HaveShardSizes (length words.now) min total n
+        × (length cells.old ≡ total * n)) }
+    ensures mismatch { result ≡ mismatch → ¬ (IsSplit min total) }
+    ensures statuses { (result ≡ done) ⊎ (result ≡ out_of_memory) ⊎ (result ≡ wrong_size) ⊎ (result ≡ mismatch) }
+{
+    if !is_split(min, total) {
+        return Status::Mismatch.code();
+    }
+    if !shards::have_room(words.len(), min, total, cells.len()) {
+        return Status::WrongSize.code();
+    }
+    match shards::write_shards(alloc, words, min, total, cells) {
+        Ok(()) => Status::Done.code(),
+        Err(_) => Status::OutOfMemory.code(),
+    }
+}
+
+/// Writes the data that the shards give back over the first words of `out`: row i of the cells is the
+/// shard of index i of the indices.
+#[unsafe(no_mangle)]
+pub extern "C" fn cwm_join(
+    alloc: Global,
+    indices: &[u32],
+    min: u32,
+    total: u32,
+    cells: &[u64],
+    out: &mut [u64],
+    written: &mut usize,
+) -> u32
+    ensures joined { result ≡ done → (words : List ℕ) × DoJoinTo words min total indices.now cells.now
+        × (written.new ≡ length words) × StandInFront words out.old out.new }
+    ensures kept { result ≢ done → (out.new ≡ out.old) × (written.new ≡ written.old) }
+    ensures range { result ≡ out_of_range → ¬ (AreElements cells.now) }
+    ensures size { result ≡ wrong_size → ¬ (AreRowsOf (length cells.now) (length indices.now))
+        ⊎ ((words : List ℕ) × DoJoinTo words min total indices.now cells.now × (length out.old < length words)) }
+    ensures refused { (e : Error) → result ≡ status_of_shards e → result ≢ out_of_memory
+        → AreRefused e min total indices.now cells.now }
+    ensures statuses { result ≤ 8 }
+{
+    let Some(cols) = shards::cols_of(cells.len(), indices.len()) else {
+        return Status::WrongSize.code();
+    };
+    if !are_elements(cells) {
+        return Status::OutOfRange.code();
+    }
+    match shards::write_data(alloc, indices, min, total, cells, cols, out) {
+        Ok(Some(many)) => {
+            *written = many;
+            Status::Done.code()
+        }
+        Ok(None) => Status::WrongSize.code(),
+        Err(error) => status::of_shards(&error).code(),
     }
 }
 

@@ -2,11 +2,12 @@
 
 ghost use Rattle.std.specs.Prelude.{◌≡◌, ◌≢◌, ◌≤◌, ◌-◌, ◌++◌, Result, length, codes, replicate};
 ghost use Rattle.math_codec.specs.Faults.{Fault, Reports};
-ghost use Rattle.commonware_math_c.specs.Statuses.{code_of, done, out_of_memory, status_of_read, text_of};
+ghost use Rattle.commonware_math_c.specs.Statuses.{code_of, done, out_of_memory, status_of_read, status_of_shards, text_of};
 
 use commonware_math::codec::Error;
+use commonware_math::shards;
 
-/// What a call answers. The numbers 4 to 8 are those of the refusals of shards.
+/// What a call answers.
 #[derive(Clone, Copy, Debug)]
 pub enum Status {
     /// The call did what it says.
@@ -17,8 +18,16 @@ pub enum Status {
     OutOfRange = 2,
     /// A number of words, rows or columns is none that the call takes, or there is no room for the answer.
     WrongSize = 3,
-    /// An index is not below the total, or not above the one before it.
+    /// Fewer than `min` distinct indices of shards are there.
+    TooFew = 4,
+    /// Not 1 <= `min` <= `total`.
+    Mismatch = 5,
+    /// An index is not below the total, or of weights not above the one before it.
     WrongIndex = 6,
+    /// Two shards have one index and unequal cells.
+    Conflict = 7,
+    /// There are no data that have each of the shards.
+    Inconsistent = 8,
     /// The bytes end within a polynomial.
     EndOfBuffer = 9,
     /// The bytes begin with no length.
@@ -54,6 +63,20 @@ pub fn of_read(error: &Error) -> Status
     }
 }
 
+/// The status of shards that give no data back.
+pub fn of_shards(error: &shards::Error) -> Status
+    ensures { code_of result ≡ status_of_shards error.now }
+{
+    match error {
+        shards::Error::Memory(_) => Status::OutOfMemory,
+        shards::Error::TooFew => Status::TooFew,
+        shards::Error::Mismatch => Status::Mismatch,
+        shards::Error::Index => Status::WrongIndex,
+        shards::Error::Conflict => Status::Conflict,
+        shards::Error::Inconsistent => Status::Inconsistent,
+    }
+}
+
 /// What a status says, in at most 31 ASCII characters.
 fn text(status: u32) -> &'static str
     ensures text { result.now ≡ text_of status }
@@ -64,7 +87,11 @@ fn text(status: u32) -> &'static str
         1 => "out of memory",
         2 => "out of range",
         3 => "wrong size",
+        4 => "too few shards",
+        5 => "mismatch",
         6 => "wrong index",
+        7 => "unequal shards of one index",
+        8 => "shards of no data",
         9 => "end of buffer",
         10 => "invalid varint",
         11 => "invalid length",

@@ -1,0 +1,151 @@
+//! Shards of data as words, a shard a row.
+
+ghost use Rattle.std.specs.Prelude.{◌≡◌, ◌↔◌, ◌<◌, ◌≤◌, ◌*◌, ℕ, List, IsTrue, IsSome, IfOk, IfErr, IfSome, IfNone, OnOk, OnErr, length, ◌⊎◌};
+ghost use Rattle.std.specs.List.{flat_map};
+ghost use Rattle.math_shards.specs.declared.shards.Shard.{Shard};
+ghost use Rattle.math_shards.specs.Shards.{AreShardsOf};
+ghost use Rattle.math_shards.specs.Joining.{IsMemory};
+ghost use Rattle.commonware_math_c.specs.WordElements.{AreElements};
+ghost use Rattle.commonware_math_c.specs.WordEncodings.{StandInFront};
+ghost use Rattle.commonware_math_c.specs.WordShards.{AreRefused, AreRowsOf, AreWordShards, AreWordsOfShards, DoJoinTo, HaveShardSizes, IsSplit};
+
+use crate::elements::{elements, write_numbers};
+use commonware_math::algebra::Mem;
+use commonware_math::fields::goldilocks::F;
+use commonware_math::shards::{Error, Shard, join, split};
+use std::alloc::Global;
+
+/// 2^57: there are fewer words of data, and fewer of shards.
+const WORDS: usize = 0x0200_0000_0000_0000;
+
+/// Whether `min` of `total` shards give data back.
+pub fn is_split(min: u32, total: u32) -> bool
+    ensures { IsTrue result ↔ IsSplit min total }
+{
+    1 <= min && min <= total
+}
+
+/// How many cells each shard of so many words has: `None` where these or the cells are too many.
+///
+/// The words and their number are packed by 63 bits.
+pub fn size(words: usize, min: u32, total: u32) -> Option<usize>
+    requires { 1 ≤ min }
+    ensures some { IfSome result (λ cells. HaveShardSizes words min total cells) }
+    ensures none { IfNone result ((cells : ℕ) → ¬ (HaveShardSizes words min total cells)) }
+{
+    if words >= WORDS {
+        return None;
+    }
+    let rows = min as usize;
+    let elements = (64 * (words + 1) + 62) / 63;
+    let cells = (elements + (rows - 1)) / rows;
+    match (total as usize).checked_mul(cells) {
+        Some(all) if all < WORDS => Some(cells),
+        _ => None,
+    }
+}
+
+/// Whether so many cells are those of the shards of so many words.
+pub fn have_room(words: usize, min: u32, total: u32, room: usize) -> bool
+    requires { 1 ≤ min }
+    ensures { IsTrue result ↔ ((n : ℕ) × HaveShardSizes words min total n × (room ≡ total * n)) }
+{
+    match size(words, min, total) {
+        Some(cells) => total as usize * cells == room,
+        None => false,
+    }
+}
+
+/// How many columns n cells have in so many rows.
+pub fn cols_of(n: usize, rows: usize) -> Option<usize>
+    ensures some { IfSome result (λ cols. n ≡ rows * cols) }
+    ensures none { IfNone result (¬ (AreRowsOf n rows)) }
+{
+    if rows == 0 {
+        return if n == 0 { Some(0) } else { None };
+    }
+    if n % rows == 0 { Some(n / rows) } else { None }
+}
+
+/// The cells of all shards.
+fn all_cells(alloc: Global, shards: &[Shard]) -> Mem<Vec<F>>
+    ensures { IfOk result (λ cells. cells.items ≡ flat_map (λ (s : Shard). s.cells.items) shards.now) }
+{
+    let mut out = Vec::new(alloc);
+    for shard in shards {
+        out.extend_from_slice(&shard.cells)?;
+    }
+    Ok(out)
+}
+
+/// Writes the shards of the data over the cells, a shard a row.
+pub fn write_shards(alloc: Global, words: &[u64], min: u32, total: u32, cells: &mut [u64]) -> Mem<()>
+    requires split { IsSplit min total }
+    requires size { (n : ℕ) × HaveShardSizes (length words.now) min total n × (length cells.old ≡ total * n) }
+    ensures ok { OnOk result (AreWordsOfShards words.now min total cells.new) }
+    ensures err { OnErr result (cells.new ≡ cells.old) }
+{
+    let shards = split(alloc, words, min, total)?;
+    let found = all_cells(alloc, &shards)?;
+    write_numbers(cells, &found);
+    Ok(())
+}
+
+/// The shards whose cells the words are, a shard a row.
+fn shards_of(
+    alloc: Global,
+    indices: &[u32],
+    min: u32,
+    total: u32,
+    cells: &[u64],
+    cols: usize,
+) -> Mem<Vec<Shard>>
+    requires count { length cells.now ≡ length indices.now * cols }
+    requires below { AreElements cells.now }
+    ensures { IfOk result (λ shards. AreWordShards min total indices.now cells.now shards.items) }
+{
+    let mut out = Vec::new(alloc);
+    for i in 0..indices.len() {
+        let from = i * cols;
+        let cells = elements(alloc, &cells[from..from + cols])?;
+        out.push(Shard {
+            index: indices[i],
+            min,
+            total,
+            cells,
+        })?;
+    }
+    Ok(out)
+}
+
+/// Writes the data that the shards give back over the first words of `out`, and gives their number.
+///
+/// `None` where there is no room for them. It refuses as `join` does.
+pub fn write_data(
+    alloc: Global,
+    indices: &[u32],
+    min: u32,
+    total: u32,
+    cells: &[u64],
+    cols: usize,
+    out: &mut [u64],
+) -> Result<Option<usize>, Error>
+    requires count { length cells.now ≡ length indices.now * cols }
+    requires below { AreElements cells.now }
+    ensures some { IfOk result (λ answer. IfSome answer (λ n. (words : List ℕ)
+        × DoJoinTo words min total indices.now cells.now × (n ≡ length words) × StandInFront words out.old out.new)) }
+    ensures none { IfOk result (λ answer. IfNone answer ((words : List ℕ)
+        × DoJoinTo words min total indices.now cells.now × (length out.old < length words))) }
+    ensures kept { IfOk result (λ answer. IfNone answer (out.new ≡ out.old)) }
+    ensures err { OnErr result (out.new ≡ out.old) }
+    ensures due { IfErr result (λ e. IsMemory e ⊎ AreRefused e min total indices.now cells.now) }
+{
+    let shards = shards_of(alloc, indices, min, total, cells, cols)?;
+    let words = join(alloc, &shards)?;
+    let n = words.len();
+    if n > out.len() {
+        return Ok(None);
+    }
+    out[..n].copy_from_slice(&words);
+    Ok(Some(n))
+}
