@@ -1,6 +1,8 @@
 //! Words as elements, and elements as words.
 
-ghost use Rattle.std.specs.Prelude.{◌≡◌, ◌↔◌, ◌<◌, IsTrue, IfOk, OnOk, length};
+ghost use Rattle.std.specs.Prelude.{◌≡◌, ◌↔◌, ◌<◌, ◌≤◌, ◌+◌, ◌*◌, ◌++◌, IsTrue, IfOk, OnOk, length, take, drop};
+ghost use Rattle.std.specs.Int.{to_be_bytes, w64};
+ghost use Rattle.std.specs.List.{flat_map};
 ghost use Rattle.math_base.specs.Elements.{number};
 ghost use Rattle.commonware_math_c.specs.WordElements.{AreElements, elements, numbers};
 
@@ -40,5 +42,17 @@ pub fn write_numbers(words: &mut [u64], items: &[F])
 {
     for i in 0..items.len() {
         words[i] = number_of(&items[i]);
+    }
+}
+
+/// Writes the words over the bytes from place `from` on: eight bytes each, highest first.
+pub fn write_words(bytes: &mut [u8], from: usize, words: &[u64])
+    requires { from + 8 * length words.now ≤ length bytes.old }
+    ensures { bytes.new ≡ take from bytes.old ++ flat_map (to_be_bytes w64) words.now
+        ++ drop (from + 8 * length words.now) bytes.old }
+{
+    for i in 0..words.len() {
+        let at = from + 8 * i;
+        bytes[at..at + 8].copy_from_slice(&words[i].to_be_bytes());
     }
 }

@@ -7,8 +7,8 @@ ghost use Rattle.math_base.specs.Polynomials.{value_in_ring};
 ghost use Rattle.commonware_math_c.specs.WordElements.{AreElements, elements, goldilocks};
 ghost use Rattle.commonware_math_c.specs.WordEncodings.{IsCoefficientCount, IsEncodedBy, StandInFront, polynomial_spelling, scan_polynomial};
 
-use crate::elements::{elements, number_of, write_numbers};
-use commonware_math::codec::{self, Error, LengthRange, Mem, write_list};
+use crate::elements::{elements, number_of, write_numbers, write_words};
+use commonware_math::codec::{self, Error, LengthRange, Mem, write_len};
 use commonware_math::fields::goldilocks::F;
 use commonware_math::poly::Poly;
 use std::alloc::Global;
@@ -43,14 +43,15 @@ pub fn encode(alloc: Global, coefficients: &[u64], out: &mut [u8]) -> Mem<Option
     ensures kept { IfOk result (λ answer. IfNone answer (out.new ≡ out.old)) }
     ensures err { OnErr result (out.new ≡ out.old) }
 {
-    let mut bytes = Vec::new(alloc);
-    let items = elements(alloc, coefficients)?;
-    write_list(alloc, &items, &mut bytes)?;
-    let n = bytes.len();
+    let mut front = Vec::new(alloc);
+    write_len(alloc, coefficients.len() as u32, &mut front)?;
+    let from = front.len();
+    let n = from + 8 * coefficients.len();
     if n > out.len() {
         return Ok(None);
     }
-    out[..n].copy_from_slice(&bytes);
+    out[..from].copy_from_slice(&front);
+    write_words(out, from, coefficients);
     Ok(Some(n))
 }
 

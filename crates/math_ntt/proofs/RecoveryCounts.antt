@@ -41,6 +41,11 @@ merges lg h =
     let f : lg - 2 + 1 ≡ lg - 1 = omega arith in
     rw (e, f) at (merges-at (lg - 2))
 
+-- three transforms of half as many points are fewer
+pub fewer-transforms : (lg : ℕ) → 0 < lg → 3 * 2 ^ (lg - 1) * (lg - 1) ≤ 3 * 2 ^ lg * lg
+fewer-transforms lg h =
+    mul-le-mul (let l : 3 * 2 ^ (lg - 1) ≤ 3 * 2 ^ lg = omega (arith, power_of_two-double lg h) in l) (let l : lg - 1 ≤ lg = omega arith in l)
+
 pub points-of_halves : (lg : ℕ) → 0 < lg → 128 * 2 ^ (lg - 1) + 128 * 2 ^ (lg - 1) ≡ 128 * 2 ^ lg
 points-of_halves lg h = omega (arith, power_of_two-double lg h)
 

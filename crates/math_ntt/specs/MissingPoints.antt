@@ -1,6 +1,6 @@
 -- Polynomials that vanish at the missing points of a domain, and the pieces of which they are built.
 use Rattle.std.specs.List.{range_with_len, count_by}
-use Rattle.std.specs.Prelude.{◌≡◌, ℕ, ◌+◌, ◌*◌, List, Bool, false, not, map, slice_index_or, vec_len}
+use Rattle.std.specs.Prelude.{◌≡◌, ℕ, ◌+◌, ◌*◌, ◌≤◌, List, Bool, false, not, map, slice_index_or, vec_len}
 use Rattle.math_theory.specs.Powers.{power}
 use Rattle.math_theory.specs.Vanishing.{VanishesAt, missing_points}
 use Rattle.math_theory.specs.Vanishing as Vanishing
@@ -35,11 +35,11 @@ piece_value R n Nowhere r = R.one
 piece_value R n Everywhere r = R.sum (power R.one R.product r n) (R.negative R.one)
 piece_value R n (Somewhere p) r = value_in_ring R p.items r
 
--- a piece has n coefficients, where it has coefficients
+-- a piece has at most n coefficients
 abbrev pub HasLength : {A : Type 0} → ℕ → Piece A → Type 0
 HasLength n Nowhere = Unit {0}
 HasLength n Everywhere = Unit {0}
-HasLength n (Somewhere p) = vec_len p ≡ n
+HasLength n (Somewhere p) = vec_len p ≤ n
 
 -- a piece vanishes at all points
 abbrev pub IsEverywhere : {A : Type 0} → Piece A → Type 0

@@ -8,6 +8,9 @@
 //! missing points.
 //!
 //! Few points make a base chunk, whose polynomial is built factor by factor, one for each missing point.
+//!
+//! A piece has few coefficients more than missing points. So a product is had from its values on the smallest domain
+//! that has a point for each of its coefficients: where a third of the points are missing, on half of the domain.
 
 ghost use Rattle.std.specs.Prelude.{◌≡◌, ◌+◌, ◌-◌, ◌*◌, ◌<◌, ◌≤◌, ◌^◌, ℕ, IfOk, OnOk, length, vec_len};
 ghost use Rattle.math_theory.specs.Powers.{power};
@@ -36,7 +39,7 @@ const WHOLE_LG: u8 = 8;
 const CHUNK_LG: u8 = 6;
 
 /// A polynomial that vanishes at the missing ones of n points, and at no others: one where none is
-/// missing, X^n - 1 where all are, and else n coefficients.
+/// missing, X^n - 1 where all are, and else at most n coefficients.
 #[derive(Drop)]
 pub(super) enum Piece<F: Drop> {
     Nowhere,
@@ -175,8 +178,7 @@ fn chunk<F: FieldNTT>(
         unreachable!()
     };
     let product = chunk_product(alloc, points, start, stride, count, &root, work)?;
-    let all = filled_up(alloc, product, count)?;
-    Ok(Piece::Somewhere(all))
+    Ok(Piece::Somewhere(product))
 }
 
 /// The polynomial one, with n coefficients.
@@ -237,7 +239,8 @@ fn multiply_values<F: FieldNTT>(
     Ok(())
 }
 
-/// The product of two polynomials of half as many coefficients as the domain has points: it is had from its values.
+/// The product of two polynomials that have together at most as many coefficients as the domain has points. It is had
+/// from its values on the smallest domain of which that holds.
 fn multiplied<F: FieldNTT>(
     alloc: Global,
     left: Vec<F>,
@@ -249,17 +252,22 @@ fn multiplied<F: FieldNTT>(
 ) -> Mem<Vec<F>>
     requires domain { lg ≤ F.MAX_LG_ROOT_ORDER }
     requires small { lg < 64 }
-    requires positive { 0 < lg }
-    requires left { vec_len left ≡ 2 ^ (lg - 1) }
-    requires right { vec_len right ≡ 2 ^ (lg - 1) }
+    requires few { vec_len left + vec_len right ≤ 2 ^ lg }
     requires evaluation { ArePowersByLevel F.Ring F.root lg evaluation.now }
     requires interpolation { ArePowersByLevel F.Ring (λ l. F.inverse (F.root l)) lg interpolation.now }
     requires room { 2 * work.old.butterflies + 3 * 2 ^ lg * lg < 2 ^ 129 }
-    ensures length { IfOk result (λ p. vec_len p ≡ 2 ^ lg) }
+    ensures length { IfOk result (λ p. vec_len p ≤ 2 ^ lg) }
     ensures values { IfOk result (λ p. (r : F) → F.same (value_in_ring F.Ring p.items r)
         (F.product (value_in_ring F.Ring left.items r) (value_in_ring F.Ring right.items r))) }
     ensures bounded { AddsAtMost (3 * 2 ^ lg * lg) work.old work.new }
 {
+    if lg > 0 && left.len() + right.len() <= size_of(lg - 1) {
+        let half = size_of(lg - 1);
+        let (lower, _) = evaluation.split_at(half);
+        let (lower_back, _) = interpolation.split_at(half);
+        let product = multiplied(alloc, left, right, lg - 1, lower, lower_back, work)?;
+        return Ok(product);
+    }
     let n = size_of(lg);
     let mut product = filled_up(alloc, left, n)?;
     let mut other = filled_up(alloc, right, n)?;
@@ -313,10 +321,7 @@ fn merged<F: FieldNTT>(
                 let all = with_multiple(alloc, one, &factor)?;
                 Ok(Piece::Somewhere(all))
             }
-            Piece::Somewhere(p) => {
-                let all = filled_up(alloc, p, half + half)?;
-                Ok(Piece::Somewhere(all))
-            }
+            Piece::Somewhere(p) => Ok(Piece::Somewhere(p)),
         },
         Piece::Everywhere => match left {
             Piece::Nowhere => {
@@ -328,22 +333,22 @@ fn merged<F: FieldNTT>(
             Piece::Everywhere => Ok(Piece::Everywhere),
             Piece::Somewhere(p) => {
                 let factor = F::one(alloc)?;
-                let all = with_multiple(alloc, p, &factor)?;
+                let low = filled_up(alloc, p, half)?;
+                let all = with_multiple(alloc, low, &factor)?;
                 Ok(Piece::Somewhere(all))
             }
         },
         Piece::Somewhere(q) => {
             let mut moved = q;
             let (_, back) = interpolation.split_at(half);
-            multiply_rows(alloc, &mut moved, 1, back)?;
+            let (powers, _) = back.split_at(moved.len());
+            multiply_rows(alloc, &mut moved, 1, powers)?;
             match left {
-                Piece::Nowhere => {
-                    let all = filled_up(alloc, moved, half + half)?;
-                    Ok(Piece::Somewhere(all))
-                }
+                Piece::Nowhere => Ok(Piece::Somewhere(moved)),
                 Piece::Everywhere => {
                     let factor = F::one(alloc)?.neg(alloc)?;
-                    let all = with_multiple(alloc, moved, &factor)?;
+                    let low = filled_up(alloc, moved, half)?;
+                    let all = with_multiple(alloc, low, &factor)?;
                     Ok(Piece::Somewhere(all))
                 }
                 Piece::Somewhere(p) => {
@@ -466,7 +471,10 @@ pub(super) fn vanishing_coefficients<F: FieldNTT>(
             Ok(one)
         }
         Piece::Everywhere => unreachable!(),
-        Piece::Somewhere(all) => Ok(all),
+        Piece::Somewhere(p) => {
+            let all = filled_up(alloc, p, size_of(lg))?;
+            Ok(all)
+        }
     }
 }
 

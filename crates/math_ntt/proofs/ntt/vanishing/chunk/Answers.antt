@@ -1,5 +1,4 @@
 use Rattle.std.proofs.Common.{◌≡◌, ◌∙◌, ◌^◌, sym, arith}
-use Rattle.math_theory.proofs.polynomials.BuiltPolynomials.{value-zeros_after}
 use Rattle.math_theory.proofs.domains.BuiltVanishing.{VanishesAt-none, VanishesAt-all, VanishesAt-product}
 use Rattle.math_ntt.specs.MissingPoints.{count_false, every}
 use Rattle.math_ntt.proofs.MissingPlaces.{length-every, count_both, count_false-within, all_filled, all_missing}
@@ -49,8 +48,8 @@ returns-then-missing-count-clause-exact g c = λ l.
     let all = c.if-missing-count.true in
     absurd (omega arith)
 
-pub filled_up-requires : goal.filled_up-requires
-filled_up-requires g c =
+pub returns-clause-length : goal.returns-clause-length
+returns-clause-length g c =
     let size = c.size_of-count.ensures in
     let few = c.count_missing-missing.ensures in
     let long = c.in_ok-product.ensures.length in
@@ -67,16 +66,6 @@ returns-in_err-product-clause-bounded g c =
     (chunk-bounded c.args.work.now _ (count_false (every c.args.start c.args.stride c.size_of-count.result c.args.points.now)) c.size_of-count.result (omega arith)
     (omega (arith, c.size_of-count.ensures, power_of_two-few c.args.lg c.requires.small))
     c.in_err-product.ensures.butterflies c.in_err-product.ensures.no_fewer c.in_err-product.ensures.no_more)
-
-pub returns-in_err-all-clause-bounded : goal.returns-in_err-all-clause-bounded
-returns-in_err-all-clause-bounded g c =
-    let few = c.count_missing-missing.ensures in
-    let other = c.if-missing-count.false in
-    let below = count_false-within c.args.start c.args.stride c.args.points.now c.size_of-count.result in
-    rw (← c.size_of-count.ensures)
-    (chunk-bounded c.args.work.now _ (count_false (every c.args.start c.args.stride c.size_of-count.result c.args.points.now)) c.size_of-count.result (omega arith)
-    (omega (arith, c.size_of-count.ensures, power_of_two-few c.args.lg c.requires.small))
-    c.in_ok-product.ensures.butterflies c.in_ok-product.ensures.no_fewer c.in_ok-product.ensures.no_more)
 
 pub returns-clause-bounded : goal.returns-clause-bounded
 returns-clause-bounded g c =
@@ -98,7 +87,6 @@ returns-clause-vanishes g c =
     let G = F.Additive.group in
     let P = F.Multiplicative.commutes in
     let R = F.Ring.ring in
-    let filled = c.in_ok-all.ensures.cells in
     let root = rw c.in-Some.is at c.in_ok-root.ensures.ok in
     VanishesAt-product E G P R F.Field.field (g.F.FieldNTT.root c.args.lg) c.in-Some.root (every c.args.start c.args.stride (2 ^ c.args.lg) c.args.points.now) _ root
-    (λ r. rw filled.1 (E.transitive _ _ _ (value-zeros_after E G P R r c.in_ok-product.product.items filled.0 filled.2) (rw c.size_of-count.ensures at (c.in_ok-product.ensures.values r))))
+    (λ r. rw c.size_of-count.ensures at (c.in_ok-product.ensures.values r))

@@ -36,20 +36,15 @@ returns-in_ok-all-in-Everywhere-left-clause-merged g c =
           (with_multiple-same E G P R f _ _ _ _ _ _ (rw long at (c.in_ok-all-in-Everywhere-left.ensures.values r)) minus (c.in_ok-one-in-Everywhere-left-2.ensures.values r));
     })
 
-pub returns-in_ok-all-in-Somewhere-left-clause-merged : goal.returns-in_ok-all-in-Somewhere-left-clause-merged
-returns-in_ok-all-in-Somewhere-left-clause-merged g c =
+pub returns-in-Somewhere-left-clause-merged : goal.returns-in-Somewhere-left-clause-merged
+returns-in-Somewhere-left-clause-merged g c =
     let F = g.met.F in
     let E = F.Object.equality in
     let G = F.Additive.group in
     let P = F.Multiplicative.commutes in
     let R = F.Ring.ring in
     let f = F.Field.field in
-    let filled = c.in_ok-all-in-Somewhere-left.ensures.cells in
-    rw (c.in-Nowhere.is, c.in-Somewhere-left.is) (record {
-      factor = g.F.Ring.one;
-      factor_is_not_zero = f.distinct;
-      gives = λ r. times_one-right E G P R f _ _ (rw filled.1 (value-zeros_after E G P R r _ filled.0 filled.2));
-    })
+    rw (c.in-Nowhere.is, c.in-Somewhere-left.is) (record { factor = g.F.Ring.one; factor_is_not_zero = f.distinct; gives = λ r. times_one-right E G P R f _ _ (E.reflexive _) })
 
 pub returns-in_ok-all-in-Nowhere-left-2-clause-merged : goal.returns-in_ok-all-in-Nowhere-left-2-clause-merged
 returns-in_ok-all-in-Nowhere-left-2-clause-merged g c =
@@ -103,16 +98,19 @@ returns-in_ok-all-in-Somewhere-left-2-clause-merged g c =
     let up : suc (lg - 1) ≡ lg = omega arith in
     let order : HasExactOrder g.F.Object.same g.F.Ring.one g.F.Multiplicative.product (g.F.FieldNTT.root lg) (2 ^ suc (lg - 1)) = rw up (F.FieldNTT.roots.order lg c.requires.domain) in
     let turned = moved-power E G P R f (g.F.FieldNTT.root lg) (lg - 1) order in
-    let long = rw c.in-Somewhere-left-2.is at c.requires.left in
+    let low = c.in_ok-low-in-Somewhere-left-2 in
+    let filled = low.ensures.cells in
+    let long : vec_len low.low ≡ 2 ^ (lg - 1) = omega (arith, low.ensures.count, low.low.ok.0, c.size_of-half.ensures) in
     rw (c.in-Everywhere.is, c.in-Somewhere-left-2.is) (record {
       factor = g.F.Additive.negative g.F.Ring.one;
       factor_is_not_zero = minus_one_nonzero E G P R f;
       gives = λ r. plus_case E G P R f _ _ _ _ (turned r)
-          (with_multiple-same E G P R f _ _ _ _ _ _ (rw long at (c.in_ok-all-in-Somewhere-left-2.ensures.values r)) c.in_ok-factor-in-Somewhere-left-2.ensures.ok (E.reflexive _));
+          (with_multiple-same E G P R f _ _ _ _ _ _ (rw long at (c.in_ok-all-in-Somewhere-left-2.ensures.values r)) c.in_ok-factor-in-Somewhere-left-2.ensures.ok
+          (rw filled.1 (value-zeros_after E G P R r _ filled.0 filled.2)));
     })
 
-pub returns-in_ok-all-in-Nowhere-left-3-clause-merged : goal.returns-in_ok-all-in-Nowhere-left-3-clause-merged
-returns-in_ok-all-in-Nowhere-left-3-clause-merged g c =
+pub returns-in-Nowhere-left-3-clause-merged : goal.returns-in-Nowhere-left-3-clause-merged
+returns-in-Nowhere-left-3-clause-merged g c =
     let F = g.met.F in
     let E = F.Object.equality in
     let G = F.Additive.group in
@@ -127,20 +125,20 @@ returns-in_ok-all-in-Nowhere-left-3-clause-merged g c =
     let q = c.in-Somewhere.q in
     let new = c.multiply_rows.new.cells in
     let back = c.split_at.result.1.now in
-    let right_long = rw c.in-Somewhere.is at c.requires.right in
+    let right_few = rw c.in-Somewhere.is at c.requires.right in
     let positive : lg ≢ 0 = omega arith in
     let up : suc (lg - 1) ≡ lg = omega arith in
     let kept : length new ≡ length q.items = c.multiply_rows.auto.cells ∙ ap length c.deref_mut.ensures.value in
     let written : take q.len (new ++ drop (length new) q.items) ≡ new = take-written q.len q.items new q.ok.0 kept in
     let level = rw up at (powers-level ring inverse_root lg half table positive c.size_of-half.ensures c.requires.interpolation back c.split_at.ensures.back) in
     let count = length-level ring inverse_root lg half table positive c.size_of-half.ensures c.requires.interpolation back c.split_at.ensures.back_len in
-    let moved = value-moved ring E G P R (inverse_root lg) (2 ^ (lg - 1)) q.items new back (omega (arith, right_long, q.ok.0)) kept count level
+    let moved = value-moved ring E G P R (inverse_root lg) (2 ^ (lg - 1)) c.len.result q.items new back c.split_at-in-Somewhere.result.0.now (omega (arith, right_few, q.ok.0)) kept
+    count level (omega (arith, c.len.ensures, q.ok.0)) c.split_at-in-Somewhere.ensures.front
     (rw c.deref_mut.ensures.value at c.in_ok-multiply_rows-in-Somewhere.ensures) in
-    let filled = c.in_ok-all-in-Nowhere-left-3.ensures.cells in
     rw (c.in-Somewhere.is, c.in-Nowhere-left-3.is) (record {
       factor = g.F.Ring.one;
       factor_is_not_zero = f.distinct;
-      gives = λ r. times_one-left E G P R f _ _ (rw (filled.1, written) (E.transitive _ _ _ (value-zeros_after E G P R r new filled.0 filled.2) (moved r)));
+      gives = λ r. times_one-left E G P R f _ _ (rw written (moved r));
     })
 
 pub returns-in_ok-all-in-Everywhere-left-3-clause-merged : goal.returns-in_ok-all-in-Everywhere-left-3-clause-merged
@@ -159,21 +157,26 @@ returns-in_ok-all-in-Everywhere-left-3-clause-merged g c =
     let q = c.in-Somewhere.q in
     let new = c.multiply_rows.new.cells in
     let back = c.split_at.result.1.now in
-    let right_long = rw c.in-Somewhere.is at c.requires.right in
+    let right_few = rw c.in-Somewhere.is at c.requires.right in
     let positive : lg ≢ 0 = omega arith in
     let up : suc (lg - 1) ≡ lg = omega arith in
     let kept : length new ≡ length q.items = c.multiply_rows.auto.cells ∙ ap length c.deref_mut.ensures.value in
     let written : take q.len (new ++ drop (length new) q.items) ≡ new = take-written q.len q.items new q.ok.0 kept in
     let level = rw up at (powers-level ring inverse_root lg half table positive c.size_of-half.ensures c.requires.interpolation back c.split_at.ensures.back) in
     let count = length-level ring inverse_root lg half table positive c.size_of-half.ensures c.requires.interpolation back c.split_at.ensures.back_len in
-    let moved = value-moved ring E G P R (inverse_root lg) (2 ^ (lg - 1)) q.items new back (omega (arith, right_long, q.ok.0)) kept count level
+    let moved = value-moved ring E G P R (inverse_root lg) (2 ^ (lg - 1)) c.len.result q.items new back c.split_at-in-Somewhere.result.0.now (omega (arith, right_few, q.ok.0)) kept
+    count level (omega (arith, c.len.ensures, q.ok.0)) c.split_at-in-Somewhere.ensures.front
     (rw c.deref_mut.ensures.value at c.in_ok-multiply_rows-in-Somewhere.ensures) in
+    let low = c.in_ok-low-in-Everywhere-left-3 in
+    let filled = low.ensures.cells in
+    let long : vec_len low.low ≡ 2 ^ (lg - 1) = omega (arith, low.ensures.count, low.low.ok.0, c.size_of-half.ensures) in
     let minus = E.transitive _ _ _ c.in_ok-factor-in-Everywhere-left-3.ensures.ok (G.respects_negative _ _ c.in_ok-one-in-Everywhere-left-3.ensures.ok) in
     rw (c.in-Somewhere.is, c.in-Everywhere-left-3.is) (record {
       factor = g.F.Additive.negative g.F.Ring.one;
       factor_is_not_zero = minus_one_nonzero E G P R f;
       gives = λ r. minus_case E G P R f _ _ _
-          (with_multiple-same E G P R f _ _ _ _ _ _ (rw right_long at (c.in_ok-all-in-Everywhere-left-3.ensures.values r)) minus (rw (rw right_long at written) (moved r)));
+          (with_multiple-same E G P R f _ _ _ _ _ _ (rw long at (c.in_ok-all-in-Everywhere-left-3.ensures.values r)) minus
+          (rw (filled.1, written) (E.transitive _ _ _ (value-zeros_after E G P R r new filled.0 filled.2) (moved r))));
     })
 
 pub returns-in_ok-all-in-Somewhere-left-3-clause-merged : goal.returns-in_ok-all-in-Somewhere-left-3-clause-merged
@@ -192,14 +195,15 @@ returns-in_ok-all-in-Somewhere-left-3-clause-merged g c =
     let q = c.in-Somewhere.q in
     let new = c.multiply_rows.new.cells in
     let back = c.split_at.result.1.now in
-    let right_long = rw c.in-Somewhere.is at c.requires.right in
+    let right_few = rw c.in-Somewhere.is at c.requires.right in
     let positive : lg ≢ 0 = omega arith in
     let up : suc (lg - 1) ≡ lg = omega arith in
     let kept : length new ≡ length q.items = c.multiply_rows.auto.cells ∙ ap length c.deref_mut.ensures.value in
     let written : take q.len (new ++ drop (length new) q.items) ≡ new = take-written q.len q.items new q.ok.0 kept in
     let level = rw up at (powers-level ring inverse_root lg half table positive c.size_of-half.ensures c.requires.interpolation back c.split_at.ensures.back) in
     let count = length-level ring inverse_root lg half table positive c.size_of-half.ensures c.requires.interpolation back c.split_at.ensures.back_len in
-    let moved = value-moved ring E G P R (inverse_root lg) (2 ^ (lg - 1)) q.items new back (omega (arith, right_long, q.ok.0)) kept count level
+    let moved = value-moved ring E G P R (inverse_root lg) (2 ^ (lg - 1)) c.len.result q.items new back c.split_at-in-Somewhere.result.0.now (omega (arith, right_few, q.ok.0)) kept
+    count level (omega (arith, c.len.ensures, q.ok.0)) c.split_at-in-Somewhere.ensures.front
     (rw c.deref_mut.ensures.value at c.in_ok-multiply_rows-in-Somewhere.ensures) in
     rw (c.in-Somewhere.is, c.in-Somewhere-left-3.is) (record {
       factor = g.F.Ring.one;

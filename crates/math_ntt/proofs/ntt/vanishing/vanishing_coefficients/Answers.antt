@@ -1,4 +1,5 @@
 use Rattle.std.proofs.Common.{rules, ◌^◌, ◌<◌, arith}
+use Rattle.math_theory.proofs.polynomials.BuiltPolynomials.{value-zeros_after}
 use Rattle.math_theory.proofs.domains.BuiltVanishing.{VanishesAt-respects}
 use Rattle.math_ntt.specs.MissingPoints.{count_false}
 use Rattle.math_ntt.proofs.MissingPlaces.{every-whole, count_both}
@@ -29,10 +30,17 @@ returns-in_ok-one-in-Nowhere-clause-vanishes g c =
     (λ r. g.F.Ring.one) _ c.in_ok-one-in-Nowhere.ensures.values
     (rw (c.in-Nowhere.is, whole) at c.in_ok-piece.ensures.vanishes)
 
-pub returns-in-Somewhere-clause-vanishes : goal.returns-in-Somewhere-clause-vanishes
-returns-in-Somewhere-clause-vanishes g c =
+pub returns-in_ok-all-in-Somewhere-clause-vanishes : goal.returns-in_ok-all-in-Somewhere-clause-vanishes
+returns-in_ok-all-in-Somewhere-clause-vanishes g c =
+    let F = g.met.F in
+    let E = F.Object.equality in
+    let G = F.Additive.group in
+    let P = F.Multiplicative.commutes in
     let whole = every-whole c.args.points.now (2 ^ c.args.lg) c.requires.points in
-    rw (c.in-Somewhere.is, whole) at c.in_ok-piece.ensures.vanishes
+    let filled = c.in_ok-all-in-Somewhere.ensures.cells in
+    VanishesAt-respects E G P F.Ring.ring (g.F.FieldNTT.root c.args.lg) c.args.points.now _ _
+    (λ r. rw filled.1 (value-zeros_after E G P F.Ring.ring r c.in-Somewhere.p.items filled.0 filled.2))
+    (rw (c.in-Somewhere.is, whole) at c.in_ok-piece.ensures.vanishes)
 
 pub returns-in_ok-one-in-Nowhere-clause-exact : goal.returns-in_ok-one-in-Nowhere-clause-exact
 returns-in_ok-one-in-Nowhere-clause-exact g c = λ small.
@@ -40,8 +48,8 @@ returns-in_ok-one-in-Nowhere-clause-exact g c = λ small.
     let few : count_false c.args.points.now < 2 ^ c.args.lg = omega (arith, count_both c.args.points.now) in
     (rw whole at c.in_ok-piece.ensures.exact) (search rules) few
 
-pub returns-in-Somewhere-clause-exact : goal.returns-in-Somewhere-clause-exact
-returns-in-Somewhere-clause-exact g c = λ small.
+pub returns-in_ok-all-in-Somewhere-clause-exact : goal.returns-in_ok-all-in-Somewhere-clause-exact
+returns-in_ok-all-in-Somewhere-clause-exact g c = λ small.
     let whole = every-whole c.args.points.now (2 ^ c.args.lg) c.requires.points in
     let few : count_false c.args.points.now < 2 ^ c.args.lg = omega (arith, count_both c.args.points.now) in
     (rw whole at c.in_ok-piece.ensures.exact) (search rules) few
