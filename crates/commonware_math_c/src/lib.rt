@@ -257,7 +257,13 @@ pub extern "C" fn cwm_shard_sizes(words: usize, min: u32, total: u32, cells: &mu
 
 /// Writes the shards of the data over the cells, a shard a row, in the order of the indices.
 #[unsafe(no_mangle)]
-pub extern "C" fn cwm_split(alloc: Global, words: &[u64], min: u32, total: u32, cells: &mut [u64]) -> u32
+pub extern "C" fn cwm_split(
+    alloc: Global,
+    words: &[u64],
+    min: u32,
+    total: u32,
+    cells: &mut [u64],
+) -> u32
     ensures shards { result ≡ done → IsSplit min total × AreWordsOfShards words.now min total cells.new }
     ensures kept { result ≢ done → cells.new ≡ cells.old }
     ensures size { result ≡ wrong_size → ¬ ((n : ℕ) × HaveShardSizes (length words.now) min total n

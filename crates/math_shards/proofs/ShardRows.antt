@@ -66,7 +66,7 @@ same_by_columns r c q m size other columns =
 -- and same matrices have the same columns
 pub columns_of_same : (q m : MatrixOf F) → AreSame same q m → HaveSamePolynomials same nought q m
 columns_of_same q m h = λ k l i.
-    ap (λ (n : MatrixOf F). number (get_or (column_of nought n k) i nought)) 
+    ap (λ (n : MatrixOf F). number (get_or (column_of nought n k) i nought))
     (ap₂ (λ (size : ℕ × ℕ) cells. record { rows = size.0; cols = size.1; cells = cells }) (ap₂ (λ (r c : ℕ). (r, c)) h.0 h.1) (same_are_equal q.cells m.cells h.2))
 
 -- matrices that have the columns of m have the same ones

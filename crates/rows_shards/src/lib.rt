@@ -102,7 +102,11 @@ fn join_shards(alloc: Global, arguments: &str, text: &mut String) -> Result<(), 
 fn copy_of(alloc: Global, shard: &Shard, changed: Option<usize>) -> Mem<Shard> {
     let mut cells = Vec::new(alloc);
     for (k, cell) in shard.cells.iter().enumerate() {
-        cells.push(if changed == Some(k) { *cell + F::from(1) } else { *cell })?;
+        cells.push(if changed == Some(k) {
+            *cell + F::from(1)
+        } else {
+            *cell
+        })?;
     }
     Ok(Shard {
         index: shard.index,
@@ -136,9 +140,18 @@ fn damages_found(alloc: Global, shards: &[Shard], set: u64) -> Mem<u64> {
     let mut found = 0u64;
     for further in shards {
         for changed in shards {
-            if further.index < 64 && (set >> further.index) & 1 == 0 && further.index != changed.index {
+            if further.index < 64
+                && (set >> further.index) & 1 == 0
+                && further.index != changed.index
+            {
                 for k in 0..changed.cells.len() {
-                    let all = chosen(alloc, shards, set | 1 << further.index, changed.index, Some(k))?;
+                    let all = chosen(
+                        alloc,
+                        shards,
+                        set | 1 << further.index,
+                        changed.index,
+                        Some(k),
+                    )?;
                     if is_of_no_data(alloc, &all)? {
                         found = found.saturating_add(1);
                     }

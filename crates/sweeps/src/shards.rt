@@ -68,7 +68,9 @@ impl Calls for Given {
                 write_shard(alloc, shards.first().ok_or(AllocError)?, out)?;
                 Ok(Answer::Written)
             }
-            "Shard::read_cfg" => Ok(Answer::Shard(memory_alone(Shard::read_cfg(alloc, input, &4))?)),
+            "Shard::read_cfg" => Ok(Answer::Shard(memory_alone(Shard::read_cfg(
+                alloc, input, &4,
+            ))?)),
             _ => Err(AllocError),
         }
     }

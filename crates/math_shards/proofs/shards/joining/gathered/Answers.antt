@@ -27,8 +27,7 @@ returns-in_err-fill-clause-err c =
 pub loop-shard-init : goal.loop-shard-init
 loop-shard-init c =
     let domain : c.args.first.now.total ≤ 2 ^ c.lg_of.result = omega (arith, c.next_power_of_two-points.ensures.lower_bound, c.lg_of.ensures.value) in
-    let wide : length c.args.first.now.cells.items ≡ c.len-cols.result = search rules in
-    (
+    let wide : length c.args.first.now.cells.items ≡ c.len-cols.result = search rules in (
       c.lg_of.result,
       c.lg_of.ensures.value,
       holds_none c.lg_of.result _ c.args.first.now c.args.shards.now domain wide c.requires c.in_ok-values.values c.in_ok-values.ensures.size c.in_ok-values.ensures.filled,
