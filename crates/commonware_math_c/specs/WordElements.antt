@@ -1,5 +1,6 @@
 -- Words as elements of the Goldilocks field.
-use Rattle.std.specs.Prelude.{ℕ, ◌<◌, List, map, All, None, true}
+use Rattle.std.specs.Prelude.{◌≡◌, ℕ, ◌<◌, List, length, map, slice_index_or, All, None, true}
+use Rattle.math_theory.specs.Powers.{power}
 use Rattle.math_numbers.specs.Goldilocks.{P}
 use Rattle.math_base.specs.declared.fields.goldilocks.F.{F}
 use Rattle.math_base.specs.Elements.{number, residue, same, sum, product, negative}
@@ -20,3 +21,7 @@ numbers items = map number items
 -- the operations of the Goldilocks field
 abbrev pub goldilocks : RingOf F
 goldilocks = record { product = product; debug_output = λ a. None; same = same; NEVER_REFUSES = true; zero = residue 0; sum = sum; negative = negative; one = residue 1 }
+
+-- entry i is power i of x
+abbrev pub ArePowersOf : F → List F → Type 0
+ArePowersOf x powers = (i : ℕ) → i < length powers → slice_index_or powers i (residue 0) ≡ power (residue 1) product x i

@@ -22,6 +22,7 @@ mod polynomials;
 mod rows;
 mod shards;
 mod status;
+mod values;
 mod weights;
 
 use commonware_math::fields::goldilocks::MODULUS;
@@ -51,7 +52,7 @@ pub extern "C" fn cwm_eval(alloc: Global, coefficients: &[u64], x: u64, out: &mu
     if x >= MODULUS || !are_elements(coefficients) {
         return Status::OutOfRange.code();
     }
-    match polynomials::value(alloc, coefficients, x) {
+    match values::value(alloc, coefficients, x) {
         Ok(value) => {
             *out = value;
             Status::Done.code()

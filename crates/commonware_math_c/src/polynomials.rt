@@ -7,10 +7,9 @@ ghost use Rattle.math_base.specs.Polynomials.{value_in_ring};
 ghost use Rattle.commonware_math_c.specs.WordElements.{AreElements, elements, goldilocks};
 ghost use Rattle.commonware_math_c.specs.WordEncodings.{IsCoefficientCount, IsEncodedBy, StandInFront, polynomial_spelling, scan_polynomial};
 
-use crate::elements::{elements, number_of, write_numbers, write_words};
+use crate::elements::{write_numbers, write_words};
 use commonware_math::codec::{self, Error, LengthRange, Mem, write_len};
 use commonware_math::fields::goldilocks::F;
-use commonware_math::poly::Poly;
 use std::alloc::Global;
 
 /// Whether a polynomial may have so many coefficients: 1 to 2^32 - 1.
@@ -18,16 +17,6 @@ pub fn is_coefficient_count(n: usize) -> bool
     ensures { IsTrue result ↔ IsCoefficientCount n }
 {
     0 < n && n <= u32::MAX as usize
-}
-
-/// The value at x of the polynomial with these coefficients.
-pub fn value(alloc: Global, coefficients: &[u64], x: u64) -> Mem<u64>
-    requires { IsCoefficientCount (length coefficients.now) }
-    ensures { IfOk result (λ v. v ≡ number (value_in_ring goldilocks (elements coefficients.now) (residue x))) }
-{
-    let polynomial = Poly::from_coefficients(elements(alloc, coefficients)?);
-    let value = polynomial.eval(alloc, &F::from(x))?;
-    Ok(number_of(&value))
 }
 
 /// Writes the encoding of the polynomial with these coefficients over the first bytes of `out`, and gives
