@@ -5,3 +5,4 @@ pub mod TruthValues
 pub mod RisingIndices
 pub mod WordWeights
 pub mod WordShards
+pub mod AlikeShards

@@ -257,7 +257,13 @@ pub extern "C" fn cwm_shard_sizes(words: usize, min: u32, total: u32, cells: &mu
 
 /// Writes the shards of the data over the cells, a shard a row, in the order of the indices.
 #[unsafe(no_mangle)]
-pub extern "C" fn cwm_split(alloc: Global, words: &[u64], min: u32, total: u32, cells: &mut [u64]) -> u32
+pub extern "C" fn cwm_split(
+    alloc: Global,
+    words: &[u64],
+    min: u32,
+    total: u32,
+    cells: &mut [u64],
+) -> u32
     ensures shards { result ≡ done → IsSplit min total × AreWordsOfShards words.now min total cells.new }
     ensures kept { result ≢ done → cells.new ≡ cells.old }
     ensures size { result ≡ wrong_size → ¬ ((n : ℕ) × HaveShardSizes (length words.now) min total n
@@ -297,6 +303,8 @@ pub extern "C" fn cwm_join(
         ⊎ ((words : List ℕ) × DoJoinTo words min total indices.now cells.now × (length out.old < length words)) }
     ensures refused { (e : Error) → result ≡ status_of_shards e → result ≢ out_of_memory
         → AreRefused e min total indices.now cells.now }
+    ensures found { (words : List ℕ) → DoJoinTo words min total indices.now cells.now
+        → length words ≤ length out.old → (result ≡ done) ⊎ (result ≡ out_of_memory) }
     ensures statuses { result ≤ 8 }
 {
     let Some(cols) = shards::cols_of(cells.len(), indices.len()) else {

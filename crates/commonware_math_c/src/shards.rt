@@ -79,7 +79,13 @@ fn all_cells(alloc: Global, shards: &[Shard]) -> Mem<Vec<F>>
 }
 
 /// Writes the shards of the data over the cells, a shard a row.
-pub fn write_shards(alloc: Global, words: &[u64], min: u32, total: u32, cells: &mut [u64]) -> Mem<()>
+pub fn write_shards(
+    alloc: Global,
+    words: &[u64],
+    min: u32,
+    total: u32,
+    cells: &mut [u64],
+) -> Mem<()>
     requires split { IsSplit min total }
     requires size { (n : ℕ) × HaveShardSizes (length words.now) min total n × (length cells.old ≡ total * n) }
     ensures ok { OnOk result (AreWordsOfShards words.now min total cells.new) }
