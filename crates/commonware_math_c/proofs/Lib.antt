@@ -7,3 +7,4 @@ pub mod TruthValues
 pub mod RisingIndices
 pub mod WordWeights
 pub mod WordShards
+pub mod AlikeShards

@@ -46,7 +46,7 @@ only_size words min total cells h =
 abbrev pub cells_of : Shard → List F
 cells_of s = s.cells.items
 
-abbrev word_row : Shard → List ℕ
+abbrev pub word_row : Shard → List ℕ
 word_row s = numbers s.cells.items
 
 -- the shards of the rows before row i
@@ -77,7 +77,7 @@ count_of_all w (s ∷ shards) h =
     omega (arith, first, rest, both)
 
 -- the numbers of all cells are the rows of words
-numbers_of_all : (shards : List Shard) → numbers (flat_map cells_of shards) ≡ flat_map word_row shards
+pub numbers_of_all : (shards : List Shard) → numbers (flat_map cells_of shards) ≡ flat_map word_row shards
 numbers_of_all [] = refl
 numbers_of_all (s ∷ shards) = map-append number s.cells.items (flat_map cells_of shards) ∙ ap (λ xs. word_row s ++ xs) (numbers_of_all shards)
 

@@ -304,6 +304,8 @@ pub extern "C" fn cwm_join(
         ⊎ ((words : List ℕ) × DoJoinTo words min total indices.now cells.now × (length out.old < length words)) }
     ensures refused { (e : Error) → result ≡ status_of_shards e → result ≢ out_of_memory
         → AreRefused e min total indices.now cells.now }
+    ensures found { (words : List ℕ) → DoJoinTo words min total indices.now cells.now
+        → length words ≤ length out.old → (result ≡ done) ⊎ (result ≡ out_of_memory) }
     ensures statuses { result ≤ 8 }
 {
     let Some(cols) = shards::cols_of(cells.len(), indices.len()) else {

@@ -1,0 +1,169 @@
+-- Shards that are the same words join to the same data.
+use Rattle.std.proofs.Common.{◌≡◌, ◌∙◌, ℕ, ◌+◌, ◌<◌, ◌≤◌, ◌*◌, ◌/◌, ◌==◌, ◌||◌, ◌⊎◌, inl, inr, Bool, cond, List, [], ◌∷◌, ◌++◌, length, map, take, drop, get_or, refl, sym, ap, ap₂, subst, arith}
+use Rattle.std.specs.List.{All, AllZip, flat_map, range_with_len, count_by}
+use Rattle.std.proofs.Math.Nat.{mul-div_cancel}
+use Rattle.std.proofs.Math.Seq.{take-append_seam, drop-append_seam}
+use Rattle.std.proofs.lemmas.List.{length-map}
+use Rattle.std.proofs.lemmas.List.Sums.{sum_by-cons}
+use Rattle.std.proofs.lemmas.List.Elements.{All-cons, All-head, All-tail}
+use Rattle.math_base.specs.Elements.{number, residue, same}
+use Rattle.math_ntt.specs.Matrices.{column_of}
+use Rattle.math_shards.specs.declared.shards.Shard.{Shard}
+use Rattle.math_shards.specs.Shards.{IsShardOf, JoinTo, has_index, rows_for, value_at}
+use Rattle.math_shards.specs.declared.shards.Error.{Error}
+use Rattle.math_shards.specs.declared.shards.Error.TheVariants.{Memory, TooFew, Mismatch, Index, Conflict, Inconsistent}
+use Rattle.math_shards.specs.Joining.{IsMemory}
+use Rattle.math_shards.proofs.JoinedShards.{joined_some}
+use Rattle.math_shards.proofs.DueErrors.{joined_not_due}
+use Rattle.math_shards.proofs.OnlyData.{only_data}
+use Rattle.commonware_math_c.specs.Statuses.{out_of_memory, status_of_shards}
+use Rattle.commonware_math_c.specs.WordElements.{AreElements, elements}
+use Rattle.commonware_math_c.specs.WordShards.{AreRefused, AreRowsOf, AreWordShards, DoJoinTo}
+use Rattle.commonware_math_c.proofs.WordElements.{elements_of_numbers, numbers_below}
+use Rattle.commonware_math_c.proofs.WordShards.{cells_of, word_row, numbers_of_all}
+
+-- the shards have the same numbers and cells
+record AreAlike (s t : Shard) : Type 0 where
+  index : s.index ≡ t.index
+  least : s.min ≡ t.min
+  most : s.total ≡ t.total
+  cells : s.cells.items ≡ t.cells.items
+
+shard_alike : (words : List ℕ) (min total : ℕ) (s t : Shard) → AreAlike s t → IsShardOf words min total s → IsShardOf words min total t
+shard_alike words min total s t a h = record {
+  index = subst (λ n. n < total) a.index h.index;
+  least = sym a.least ∙ h.least;
+  most = sym a.most ∙ h.most;
+  count = ap length (sym a.cells) ∙ h.count;
+  values = λ lg k domain b.
+      let column = column_of (residue 0) (rows_for min words) k in
+      subst (λ i. same (get_or t.cells.items k (residue 0)) (value_at lg column i)) a.index
+      (subst (λ xs. same (get_or xs k (residue 0)) (value_at lg column s.index)) a.cells (h.values lg k domain b));
+}
+
+each_alike : (words : List ℕ) (min total : ℕ) (xs ys : List Shard) → AllZip AreAlike xs ys → All (IsShardOf words min total) xs → All (IsShardOf words min total) ys
+each_alike words min total [] [] a h = h
+each_alike words min total [] (y ∷ ys) a h = absurd a
+each_alike words min total (x ∷ xs) [] a h = absurd a
+each_alike words min total (x ∷ xs) (y ∷ ys) a h =
+    All-cons (IsShardOf words min total) y ys (shard_alike words min total x y a.0 (All-head (IsShardOf words min total) x xs h))
+    (each_alike words min total xs ys a.1 (All-tail (IsShardOf words min total) x xs h))
+
+index_alike : (xs ys : List Shard) (i : ℕ) → AllZip AreAlike xs ys → has_index xs i ≡ has_index ys i
+index_alike [] [] i a = refl
+index_alike [] (y ∷ ys) i a = absurd a
+index_alike (x ∷ xs) [] i a = absurd a
+index_alike (x ∷ xs) (y ∷ ys) i a = ap₂ (λ j b. (j == i) || b) a.0.index (index_alike xs ys i a.1)
+
+same_counts : (p q : ℕ → Bool) (ns : List ℕ) → ((i : ℕ) → p i ≡ q i) → count_by p ns ≡ count_by q ns
+same_counts p q [] h = refl
+same_counts p q (n ∷ ns) h =
+    sum_by-cons (λ i. cond (p i) 1 0) n ns ∙ ap₂ (λ b m. cond b 1 0 + m) (h n) (same_counts p q ns h) ∙ sym (sum_by-cons (λ i. cond (q i) 1 0) n ns)
+
+join_alike : (words : List ℕ) (xs ys : List Shard) → AllZip AreAlike xs ys → JoinTo words xs → JoinTo words ys
+join_alike words xs ys a h = record {
+  min = h.min;
+  total = h.total;
+  some = h.some;
+  within = h.within;
+  short = h.short;
+  each_word = h.each_word;
+  few = h.few;
+  enough = subst (λ n. h.min ≤ n) (same_counts (has_index xs) (has_index ys) (range_with_len 0 h.total) (λ i. index_alike xs ys i a)) h.enough;
+  each = each_alike words h.min h.total xs ys a h.each;
+}
+
+-- what the shards of rows of words are: their indices, numbers and rows
+record AreRows (min total w : ℕ) (indices cells : List ℕ) (shards : List Shard) : Type 0 where
+  keys : map (λ s. s.index) shards ≡ indices
+  least : All (λ s. s.min ≡ min) shards
+  most : All (λ s. s.total ≡ total) shards
+  count : All (λ s. length s.cells.items ≡ w) shards
+  rows : flat_map word_row shards ≡ cells
+
+same_fronts : (xs ys us vs : List ℕ) → length xs ≡ length ys → xs ++ us ≡ ys ++ vs → (xs ≡ ys) × (us ≡ vs)
+same_fronts xs ys us vs l e = (
+  sym (take-append_seam xs us) ∙ ap (take (length xs)) e ∙ ap (λ n. take n (ys ++ vs)) l ∙ take-append_seam ys vs,
+  sym (drop-append_seam xs us) ∙ ap (drop (length xs)) e ∙ ap (λ n. drop n (ys ++ vs)) l ∙ drop-append_seam ys vs,
+)
+
+alike_rows : (min total w : ℕ) (indices cells : List ℕ) (xs ys : List Shard) → AreRows min total w indices cells xs → AreRows min total w indices cells ys → AllZip AreAlike xs ys
+alike_rows min total w indices cells [] [] h k = tt
+alike_rows min total w indices cells [] (y ∷ ys) h k = let e : 0 ≡ length (y ∷ ys) = ap length (h.keys ∙ sym k.keys) ∙ length-map (y ∷ ys) (λ (s : Shard). s.index) in absurd (omega (arith, e))
+alike_rows min total w indices cells (x ∷ xs) [] h k = let e : 0 ≡ length (x ∷ xs) = ap length (k.keys ∙ sym h.keys) ∙ length-map (x ∷ xs) (λ (s : Shard). s.index) in absurd (omega (arith, e))
+alike_rows min total w indices cells (x ∷ xs) (y ∷ ys) h k =
+    let keys = h.keys ∙ sym k.keys in
+    let wide = All-head (λ (s : Shard). length s.cells.items ≡ w) x xs h.count ∙ sym (All-head (λ (s : Shard). length s.cells.items ≡ w) y ys k.count) in
+    let long : length (word_row x) ≡ length (word_row y) = length-map x.cells.items number ∙ wide ∙ sym (length-map y.cells.items number) in
+    let parts = same_fronts (word_row x) (word_row y) (flat_map word_row xs) (flat_map word_row ys) long (h.rows ∙ sym k.rows) in (
+      record {
+        index = ap (λ is. get_or is 0 0) keys;
+        least = All-head (λ (s : Shard). s.min ≡ min) x xs h.least ∙ sym (All-head (λ (s : Shard). s.min ≡ min) y ys k.least);
+        most = All-head (λ (s : Shard). s.total ≡ total) x xs h.most ∙ sym (All-head (λ (s : Shard). s.total ≡ total) y ys k.most);
+        cells = sym (elements_of_numbers x.cells.items) ∙ ap elements parts.0 ∙ elements_of_numbers y.cells.items;
+      },
+      alike_rows min total w (map (λ (s : Shard). s.index) ys) (flat_map word_row ys) xs ys
+          (rest x xs (drop_one x xs (y ∷ ys) keys) parts.1 h)
+          (rest y ys refl refl k),
+    )
+  where
+    drop_one : (s : Shard) (ss ts : List Shard) → map (λ (t : Shard). t.index) (s ∷ ss) ≡ map (λ (t : Shard). t.index) ts → map (λ (t : Shard). t.index) ss ≡ drop 1 (map (λ (t : Shard). t.index) ts)
+    drop_one s ss ts e = ap (drop 1) e
+
+    rest : (s : Shard) (ss : List Shard) → {js ds : List ℕ} → map (λ (t : Shard). t.index) ss ≡ js → flat_map word_row ss ≡ ds → AreRows min total w indices cells (s ∷ ss) → AreRows min total w js ds ss
+    rest s ss e f r = record {
+      keys = e;
+      least = All-tail (λ (t : Shard). t.min ≡ min) s ss r.least;
+      most = All-tail (λ (t : Shard). t.total ≡ total) s ss r.most;
+      count = All-tail (λ (t : Shard). length t.cells.items ≡ w) s ss r.count;
+      rows = f;
+    }
+
+rows_of : (min total : ℕ) (indices cells : List ℕ) (shards : List Shard) → AreWordShards min total indices cells shards → AreRows min total (length cells / length indices) indices cells shards
+rows_of min total indices cells shards h =
+    let many : length shards ≡ length indices = sym (length-map shards (λ (s : Shard). s.index)) ∙ ap length h.keys in
+    record {
+      keys = h.keys;
+      least = h.least;
+      most = h.most;
+      count = λ i d l.
+          let n : ℕ = length (get_or shards i d).cells.items in
+          let whole : length cells ≡ n * length indices = omega (arith, h.count i d l ∙ ap (λ m. m * n) many) in
+          sym (mul-div_cancel n (omega (arith, l, many))) ∙ ap (λ m. m / length indices) (sym whole);
+      rows = h.rows;
+    }
+
+-- whichever shards are these words, they join to the data
+join_given : (words : List ℕ) (min total : ℕ) (indices cells : List ℕ) (shards : List Shard) → DoJoinTo words min total indices cells → AreWordShards min total indices cells shards → JoinTo words shards
+join_given words min total indices cells shards h k =
+    join_alike words h.0 shards (alike_rows min total (length cells / length indices) indices cells h.0 shards (rows_of min total indices cells h.0 h.1) (rows_of min total indices cells shards k)) h.2
+
+-- words that join to data are rows of words below P
+pub rows_there : (words : List ℕ) (min total : ℕ) (indices cells : List ℕ) → DoJoinTo words min total indices cells → AreRowsOf (length cells) (length indices)
+rows_there words min total indices cells (shards, are, join) = first_row shards are (joined_some words shards join)
+  where
+    first_row : (shards : List Shard) → AreWordShards min total indices cells shards → 0 < length shards → AreRowsOf (length cells) (length indices)
+    first_row [] are some = absurd (omega (arith, some))
+    first_row (s ∷ ss) are some =
+        let many : length (s ∷ ss) ≡ length indices = sym (length-map (s ∷ ss) (λ (t : Shard). t.index)) ∙ ap length are.keys in
+        (length s.cells.items, are.count 0 s some ∙ ap (λ n. n * length s.cells.items) many)
+
+pub below_there : (words : List ℕ) (min total : ℕ) (indices cells : List ℕ) → DoJoinTo words min total indices cells → AreElements cells
+below_there words min total indices cells h = subst AreElements (numbers_of_all h.0 ∙ h.1.rows) (numbers_below (flat_map cells_of h.0))
+
+-- they join to no other data
+pub one_data : (words others : List ℕ) (min total : ℕ) (indices cells : List ℕ) → DoJoinTo words min total indices cells → DoJoinTo others min total indices cells → words ≡ others
+one_data words others min total indices cells h k = only_data words others k.0 (join_given words min total indices cells k.0 h k.1) k.2
+
+memory_status : (e : Error) → IsMemory e → status_of_shards e ≡ out_of_memory
+memory_status (Memory a) h = refl
+memory_status TooFew h = absurd h
+memory_status Mismatch h = absurd h
+memory_status Index h = absurd h
+memory_status Conflict h = absurd h
+memory_status Inconsistent h = absurd h
+
+-- and nothing but memory can be wanting
+pub only_memory : (words : List ℕ) (min total : ℕ) (indices cells : List ℕ) (e : Error) → DoJoinTo words min total indices cells → IsMemory e ⊎ AreRefused e min total indices cells → status_of_shards e ≡ out_of_memory
+only_memory words min total indices cells e h (inl m) = memory_status e m
+only_memory words min total indices cells e h (inr r) = memory_status e (joined_not_due words r.0 (join_given words min total indices cells r.0 h r.1) e r.2)
