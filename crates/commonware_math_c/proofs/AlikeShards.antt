@@ -110,7 +110,8 @@ alike_rows min total w indices cells (x ∷ xs) (y ∷ ys) h k =
     drop_one : (s : Shard) (ss ts : List Shard) → map (λ (t : Shard). t.index) (s ∷ ss) ≡ map (λ (t : Shard). t.index) ts → map (λ (t : Shard). t.index) ss ≡ drop 1 (map (λ (t : Shard). t.index) ts)
     drop_one s ss ts e = ap (drop 1) e
 
-    rest : (s : Shard) (ss : List Shard) → {js ds : List ℕ} → map (λ (t : Shard). t.index) ss ≡ js → flat_map word_row ss ≡ ds → AreRows min total w indices cells (s ∷ ss) → AreRows min total w js ds ss
+    rest : (s : Shard) (ss : List Shard) → {js ds : List ℕ} → map (λ (t : Shard). t.index) ss ≡ js → flat_map word_row ss ≡ ds
+        → AreRows min total w indices cells (s ∷ ss) → AreRows min total w js ds ss
     rest s ss e f r = record {
       keys = e;
       least = All-tail (λ (t : Shard). t.min ≡ min) s ss r.least;
@@ -134,7 +135,8 @@ rows_of min total indices cells shards h =
     }
 
 -- whichever shards are these words, they join to the data
-join_given : (words : List ℕ) (min total : ℕ) (indices cells : List ℕ) (shards : List Shard) → DoJoinTo words min total indices cells → AreWordShards min total indices cells shards → JoinTo words shards
+join_given : (words : List ℕ) (min total : ℕ) (indices cells : List ℕ) (shards : List Shard) → DoJoinTo words min total indices cells → AreWordShards min total indices cells shards
+    → JoinTo words shards
 join_given words min total indices cells shards h k =
     join_alike words h.0 shards (alike_rows min total (length cells / length indices) indices cells h.0 shards (rows_of min total indices cells h.0 h.1) (rows_of min total indices cells shards k)) h.2
 
@@ -164,6 +166,7 @@ memory_status Conflict h = absurd h
 memory_status Inconsistent h = absurd h
 
 -- and nothing but memory can be wanting
-pub only_memory : (words : List ℕ) (min total : ℕ) (indices cells : List ℕ) (e : Error) → DoJoinTo words min total indices cells → IsMemory e ⊎ AreRefused e min total indices cells → status_of_shards e ≡ out_of_memory
+pub only_memory : (words : List ℕ) (min total : ℕ) (indices cells : List ℕ) (e : Error) → DoJoinTo words min total indices cells
+    → IsMemory e ⊎ AreRefused e min total indices cells → status_of_shards e ≡ out_of_memory
 only_memory words min total indices cells e h (inl m) = memory_status e m
 only_memory words min total indices cells e h (inr r) = memory_status e (joined_not_due words r.0 (join_given words min total indices cells r.0 h r.1) e r.2)
