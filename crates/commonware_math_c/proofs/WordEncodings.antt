@@ -18,10 +18,6 @@ use Rattle.commonware_math_c.proofs.WordElements.{numbers_of_elements, numbers_b
 pub spelled_numbers : (items : List F) → list_spelling (λ a. to_be_bytes w64 (number a)) items ≡ polynomial_spelling (numbers items)
 spelled_numbers items = sym (ap₂ (λ n bytes. length_spelling n ++ bytes) (length-map items number) (flat_map-map (to_be_bytes w64) number items))
 
--- and that of the elements of words below P is that of the words
-pub spelled_words : (words : List ℕ) → AreElements words → list_spelling (λ a. to_be_bytes w64 (number a)) (elements words) ≡ polynomial_spelling words
-spelled_words words below = spelled_numbers (elements words) ∙ ap polynomial_spelling (numbers_of_elements words below)
-
 -- bytes that spell elements encode their numbers
 pub encoded_numbers : (items : List F) (bytes : List ℕ) → 0 < length items → length items < 2 ^ 32 → bytes ≡ list_spelling (λ a. to_be_bytes w64 (number a)) items → IsEncodedBy (numbers items) bytes
 encoded_numbers items bytes some few h =

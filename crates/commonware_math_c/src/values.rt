@@ -1,9 +1,9 @@
 //! Values of polynomials whose coefficients are words.
 //!
 //! The coefficients are taken in blocks of as many as there are powers of x in a table. A block has the value
-//! w_0 p_0 + w_1 p_1 + .., p_i being power i of x. Each word is w = a + 2^32 b with a and b below 2^32, so that the sums
-//! of all a_i p_i and of all b_i p_i fit 128 bits, and only these two are reduced modulo P, once a block. The values of
-//! the blocks are put together by Horner's rule.
+//! w_0 p_0 + w_1 p_1 + .., p_i being power i of x. Each word is w = a + 2^32 b with a and b below 2^32, so
+//! that the sums of all a_i p_i and of all b_i p_i fit 128 bits, and only these two are reduced modulo P, once
+//! a block. The values of the blocks are put together by Horner's rule.
 
 ghost use Rattle.std.specs.Prelude.{◌≡◌, ◌+◌, ◌*◌, ◌<◌, ◌≤◌, ◌^◌, ℕ, IfOk, length};
 ghost use Rattle.math_theory.specs.Powers.{power};

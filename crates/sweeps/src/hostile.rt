@@ -1,9 +1,9 @@
 //! Byte strings that are no encodings, or that claim more than follows.
 //!
-//! Each is read as a list of words, as a polynomial, as a matrix and as a shard, with configurations that admit every length.
-//! What is accepted has to be written back to exactly the bytes that were taken, and what is refused has to
-//! leave the input. While a string is read, no allocation may be larger than the bytes at hand justify: room
-//! for four items, or for twice as many as the bytes can spell.
+//! Each is read as a list of words, as a polynomial, as a matrix and as a shard, with configurations that
+//! admit every length. What is accepted has to be written back to exactly the bytes that were taken, and what
+//! is refused has to leave the input. While a string is read, no allocation may be larger than the bytes at
+//! hand justify: room for four items, or for twice as many as the bytes can spell.
 
 ghost use Rattle.std.specs.Prelude.{◌<◌, IfOk};
 
