@@ -16,7 +16,7 @@ use Rattle.math_theory.proofs.classes.Classes.{Class, class, class_same, same_cl
 use Rattle.math_theory.proofs.classes.ClassesOfLists.{power-class, powers-class, root_product-class}
 use Rattle.math_theory.proofs.recovery.FilledItems.{missing_items-map}
 use Rattle.math_theory.proofs.domains.PowerLists.{power-apart, coset-apart}
-use Rattle.math_theory.proofs.domains.RootOrders.{HasExactOrder-of_principal, IsPrincipalRoot-of_order}
+use Rattle.math_theory.proofs.domains.RootOrders.{IsPrincipalRoot-of_order}
 use Rattle.math_theory.proofs.domains.RootProductLists.{root_product-powers}
 
 module _ {A : Type 0} {same : A → A → Type 0} {zero_of : A} {sum : A → A → A} {negative : A → A} {product : A → A → A} {one : A}
@@ -38,16 +38,6 @@ module _ {A : Type 0} {same : A → A → Type 0} {zero_of : A} {sum : A → A �
   IsPrincipalRoot-from_classes : (lg : ℕ) (w : A) → DomainsOverRing.IsPrincipalRoot C lg (class E w) → IsPrincipalRoot same one negative product lg w
   IsPrincipalRoot-from_classes zero w h = same_class E _ _ h
   IsPrincipalRoot-from_classes (suc lg) w h = same_class E _ _ (sym (power-class E G P R w (2 ^ lg)) ∙ h)
-
-  -- a principal root of order 2 ^ lg has that exact order, where one is not minus one
-  pub HasExactOrder-of_principal-same : ¬ (same one (negative one)) → (lg : ℕ) (w : A) → IsPrincipalRoot same one negative product lg w → HasExactOrder same one product w (2 ^ lg)
-  HasExactOrder-of_principal-same apart lg w h =
-      let o = HasExactOrder-of_principal C (λ e. apart (same_class E _ _ e)) lg (class E w) (IsPrincipalRoot-classes lg w h) in
-      record {
-        positive = o.positive;
-        power_is_one = same_class E _ _ (sym (power-class E G P R w (2 ^ lg)) ∙ o.power_is_one);
-        least = λ m positive small e. o.least m positive small (power-class E G P R w m ∙ class_same E _ _ e);
-      }
 
   -- the powers of a root of exact order n are apart
   pub powers_apart-same : (w : A) (n : ℕ) → HasExactOrder same one product w n → AreApart same (powers one product w n)

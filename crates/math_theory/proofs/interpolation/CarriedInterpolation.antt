@@ -51,14 +51,7 @@ module _ {A : Type 0} {same : A → A → Type 0} {zero : A} {sum : A → A → 
         ∙ W.give (classes_of a) (omega (arith, l, length-classes E a, length-classes E points)) ∙ value-class E G P R x a);
   }
 
-  -- at points that are apart, Lagrange's formula gives weights
-  pub weights_given-same : (x : A) (points : List A) → AreApart same points → AreWeightsAt same zero sum product one x points (lagrange_weights zero sum negative product one inverse x points)
-  weights_given-same x points d =
-      AreWeightsAt-from_classes x points (lagrange_weights zero sum negative product one inverse x points)
-      (subst (λ ws. OverRing.AreWeightsAt classes.ring (class E x) (classes_of points) ws) (lagrange_weights-class E G P R F x points)
-      (lagrange_weights-give classes (class E x) (classes_of points) (AreDistinct-classes E zero points d)))
-
-  -- and no others
+  -- weights at points that are apart are those of Lagrange's formula
   pub weights_once-same : (x : A) (points weights : List A) → AreApart same points → AreWeightsAt same zero sum product one x points weights
       → (i : ℕ) → same (get_or weights i zero) (get_or (lagrange_weights zero sum negative product one inverse x points) i zero)
   weights_once-same x points weights d W i =
