@@ -4,6 +4,7 @@ pub mod TakenCells
 pub mod PackedData
 pub mod SoundShards
 pub mod GatheredShards
+pub mod ExtendedRuns
 pub mod FilledShards
 pub mod JoinedShards
 pub mod DueErrors

@@ -161,7 +161,9 @@ fn words_in(alloc: Global, recovered: &PolynomialVector<F>, min: u32) -> Mem<Vec
     for row in recovered.coefficients_up_to(min as usize) {
         elements.extend_from_slice(row)?;
     }
-    F::stream_to_u64s(elements.into_iter()).collect(alloc)
+    let mut words = Vec::with_capacity(alloc, elements.len() - elements.len() / 64)?;
+    words.extend(F::stream_to_u64s(elements.into_iter()))?;
+    Ok(words)
 }
 
 /// The data that the first `min` rows of coefficients begin with, where so many words follow as the first

@@ -16,8 +16,11 @@ use std::alloc::{AllocError, Global};
 fn packed(alloc: Global, data: &[u64]) -> Mem<Vec<F>>
     ensures { IfOk result (λ elements. elements.items ≡ elements_for «data».now) }
 {
+    let count = data.len() + 1;
+    let mut elements = Vec::with_capacity(alloc, count + count.div_ceil(63))?;
     let words = std::iter::once(data.len() as u64).chain(data.iter().copied());
-    F::stream_from_u64s(words).collect(alloc)
+    elements.extend(F::stream_from_u64s(words))?;
+    Ok(elements)
 }
 
 /// The `min` rows that the data fill.
