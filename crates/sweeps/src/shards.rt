@@ -7,9 +7,8 @@ use commonware_math::codec::{Read, Write};
 use commonware_math::shards::{Error, Shard, join, split};
 use std::alloc::{AllocError, Global};
 
-/// What is swept. `split` and `join` are not yet: their lists are collected by the standard library, which goes
-/// on without a block that is refused where it can, and a sweep takes that for a failure.
-pub const NAMES: [&str; 2] = ["Shard::write", "Shard::read_cfg"];
+/// What is swept.
+pub const NAMES: [&str; 4] = ["split", "join", "Shard::write", "Shard::read_cfg"];
 
 /// Shard 0 of the word 1, of which four are made and three give it back.
 pub const SHARD: [u8; 12] = [0, 3, 4, 1, 0, 0, 0, 0, 0, 0, 0, 3];
