@@ -34,3 +34,4 @@ pub mod RecoveredFromValues
 pub mod RootWeightSteps
 pub mod PresentIndices
 pub mod RootWeightCases
+mod TrimmedCoefficients

@@ -12,7 +12,8 @@
 //! A piece has few coefficients more than missing points. So a product is had from its values on the smallest domain
 //! that has a point for each of its coefficients: where a third of the points are missing, on half of the domain.
 
-ghost use Rattle.std.specs.Prelude.{◌≡◌, ◌+◌, ◌-◌, ◌*◌, ◌<◌, ◌≤◌, ◌^◌, ℕ, IfOk, OnOk, length, vec_len};
+ghost use Rattle.std.specs.Prelude.{◌≡◌, ◌+◌, ◌-◌, ◌*◌, ◌<◌, ◌≤◌, ◌^◌, ℕ, IfOk, OnOk, length, slice_index_or, vec_len};
+ghost use Rattle.std.specs.List.{AllWithin};
 ghost use Rattle.math_theory.specs.Powers.{power};
 ghost use Rattle.math_theory.specs.Recovery.{count_true};
 ghost use Rattle.math_base.specs.Polynomials.{value_in_ring};
@@ -208,6 +209,36 @@ fn with_multiple<F: Ring>(alloc: Global, low: Vec<F>, factor: &F) -> Mem<Vec<F>>
     Ok(all)
 }
 
+/// The number of coefficients before the zeros at the end.
+fn count_before_zeros<F: Ring>(alloc: Global, coefficients: &[F]) -> Mem<usize>
+    ensures within { IfOk result (λ n. n ≤ length coefficients.now) }
+    ensures zeros { IfOk result (λ n. AllWithin (λ c. F.same c F.zero) coefficients.now n (length coefficients.now)) }
+    ensures last { IfOk result (λ n. 0 < n
+        → ¬ (F.same (slice_index_or coefficients.now (n - 1) F.zero) F.zero)) }
+{
+    let zero = F::zero(alloc)?;
+    for i in (0..coefficients.len()).rev() {
+        if !coefficients[i].equals(alloc, &zero)? {
+            return Ok(i + 1);
+        }
+    }
+    Ok(0)
+}
+
+/// The polynomial without the zeros at the end of its coefficients.
+fn trimmed<F: Ring>(alloc: Global, coefficients: Vec<F>) -> Mem<Vec<F>>
+    ensures length { IfOk result (λ p. vec_len p ≤ vec_len coefficients) }
+    ensures last { IfOk result (λ p. 0 < vec_len p
+        → ¬ (F.same (slice_index_or p.items (vec_len p - 1) F.zero) F.zero)) }
+    ensures values { IfOk result (λ p. (r : F) → F.same (value_in_ring F.Ring p.items r)
+        (value_in_ring F.Ring coefficients.items r)) }
+{
+    let count = count_before_zeros(alloc, &coefficients)?;
+    let mut out = coefficients;
+    out.truncate(count);
+    Ok(out)
+}
+
 /// Turns the coefficients of two polynomials into those of the polynomial whose values on the domain are
 /// the products of theirs, which stand where the first ones stood.
 fn multiply_values<F: FieldNTT>(
@@ -240,7 +271,8 @@ fn multiply_values<F: FieldNTT>(
 }
 
 /// The product of two polynomials that have together at most as many coefficients as the domain has points. It is had
-/// from its values on the smallest domain of which that holds.
+/// from its values on the smallest domain of which that holds, and has no zeros at its end, so that the products made
+/// with it are on the smallest domains too.
 fn multiplied<F: FieldNTT>(
     alloc: Global,
     left: Vec<F>,
@@ -280,7 +312,8 @@ fn multiplied<F: FieldNTT>(
         interpolation,
         work,
     )?;
-    Ok(product)
+    let out = trimmed(alloc, product)?;
+    Ok(out)
 }
 
 /// p(X) q(X / w), up to its sign, for pieces p and q of 2^(lg - 1) points, w being the root of order 2^lg.

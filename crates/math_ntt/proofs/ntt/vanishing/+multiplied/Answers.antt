@@ -62,7 +62,8 @@ returns-clause-values g t c = λ r.
     let low = c.in_ok-product-2.ensures.cells in
     let high = c.in_ok-other.ensures.cells in
     let values = rw (c.deref_mut.ensures.value, c.deref_mut-2.ensures.value, low.1, high.1) at c.in_ok-multiply_values.ensures.values in
-    rw written
+    E.transitive _ _ _ (c.in_ok-out.ensures.values r)
+    (rw written
     (domain_product E G P R F.Field.field (g.F.FieldNTT.root c.args.lg) (2 ^ c.args.lg) (F.FieldNTT.roots.order c.args.lg c.requires.domain) new left right
     (omega arith) (omega (arith, c.requires.few, c.args.left.ok.0)) (omega (arith, c.requires.few, c.args.left.ok.0, c.args.right.ok.0))
-    (λ i l. E.transitive _ _ _ (values i l) (P.respects _ _ _ _ (value-zeros_after E G P R _ left low.0 low.2) (value-zeros_after E G P R _ right high.0 high.2))) r)
+    (λ i l. E.transitive _ _ _ (values i l) (P.respects _ _ _ _ (value-zeros_after E G P R _ left low.0 low.2) (value-zeros_after E G P R _ right high.0 high.2))) r))
