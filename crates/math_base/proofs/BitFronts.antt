@@ -1,13 +1,15 @@
 -- The first of some bits, and the bits after them.
-use Rattle.std.proofs.Common.{◌≡◌, ℕ, zero, suc, ◌+◌, ◌-◌, ◌*◌, ◌/◌, ◌%◌, ◌^◌, ◌<◌, ◌≤◌, List, [], ◌∷◌, ◌++◌, take, drop, length, inl, inr, sym, ap, subst, ◌∙◌, arith, pow-suc, length-append, append_assoc, append-nil, mod-eq_of_lt, lit<}
-use Rattle.std.proofs.Math.Nat.{pow-le-pow_right}
-use Rattle.std.proofs.lemmas.Nat.{pow_pos}
+use Rattle.std.proofs.Common.{◌≡◌, ℕ, zero, suc, ◌+◌, ◌-◌, ◌*◌, ◌/◌, ◌%◌, ◌^◌, ◌<◌, ◌≤◌, bit_and, List, [], ◌∷◌, ◌++◌, take, drop, length, inl, inr, sym, ap, subst, ◌∙◌, arith, pow-suc, length-append, append_assoc, append-nil, mod-eq_of_lt, add_comm, lit<}
+use Rattle.std.proofs.Math.Nat.{mod-lt, pow-le-pow_right}
+use Rattle.std.proofs.Math.Pow.{mod-mod-pow}
+use Rattle.std.proofs.lemmas.Nat.{and_mask, pow_pos, shr-shr, shr_high}
+use Rattle.std.proofs.lemmas.Nat.Bits.{ones_shr}
 use Rattle.std.proofs.lemmas.List.{take_at, drop_at, take_all, drop_all, length-take, length-take-le, take-append-drop}
 use Rattle.std.proofs.lemmas.List.Elements.{All-nil, All-cons, All-head, All-tail, All-take, All-drop}
 use Rattle.std.proofs.lemmas.Bool.{cases_lt}
 use Rattle.std.specs.List.{All}
 use Rattle.math_numbers.specs.Bits.{bits, bits-zero, number, IsBit, pieces, pieces-zero, pieces-suc, cut}
-use Rattle.math_numbers.proofs.BitLists.{length-bits, bits-add, number-bits}
+use Rattle.math_numbers.proofs.BitLists.{length-bits, bits-add, bits-append, number-bits, above_below, append_below}
 use Rattle.math_numbers.proofs.BitPieces.{cut-first}
 
 -- the first k of the bits of a number below 2 ^ l write its remainder by 2 ^ k
@@ -36,6 +38,41 @@ drop-bits k l n =
           let e : l ≡ k + (l - k) = omega arith in
           ap (λ t. drop k (bits t n)) e ∙ ap (drop k) (bits-add k (l - k) n) ∙ drop_at (bits k n) (bits (l - k) (n / 2 ^ k)) k (length-bits k n)
     ]
+
+pub length-both : (c m v x : ℕ) → length (bits c v ++ bits m x) ≡ c + m
+length-both c m v x = omega (arith, length-append (bits c v) (bits m x), length-bits c v, length-bits m x)
+
+-- The c bits of v, and above them the m bits of a word x: the first w of both, and the bits after those.
+module _ (c m w v x : ℕ) (v-below : v < 2 ^ c) (x-below : x < 2 ^ m) where
+  abbrev both : ℕ
+  both = (v + x * 2 ^ c % 2 ^ 64) % 2 ^ 64
+
+  wrapped : (a b : ℕ) → (a + b % 2 ^ 64) % 2 ^ 64 ≡ (a + b) % 2 ^ 64
+  wrapped a b = omega arith
+
+  masked : w ≤ 64 → bit_and both ((2 ^ 64 - 1) / 2 ^ (64 - w)) ≡ both % 2 ^ w
+  masked h =
+      let e : 64 - (64 - w) ≡ w = omega arith in
+      ap (bit_and both) (ones_shr 64 (64 - w) (omega arith) ∙ ap (λ t. 2 ^ t - 1) e) ∙ and_mask both w
+
+  pub first-below : w ≤ 64 → bit_and both ((2 ^ 64 - 1) / 2 ^ (64 - w)) < 2 ^ w
+  first-below h = subst (λ t. t < 2 ^ w) (sym (masked h)) (mod-lt both (pow_pos w))
+
+  pub first-number : w ≤ 64 → bit_and both ((2 ^ 64 - 1) / 2 ^ (64 - w)) ≡ number (take w (bits c v ++ bits m x))
+  first-number h =
+      let e : 64 ≡ (64 - w) + w = omega arith in
+      masked h ∙ ap (λ t. t % 2 ^ w) (wrapped v (x * 2 ^ c)) ∙ ap (λ t. (v + x * 2 ^ c) % 2 ^ t % 2 ^ w) e ∙ mod-mod-pow (v + x * 2 ^ c) (64 - w) w
+      ∙ sym (number-take-bits w (c + m) (v + x * 2 ^ c) (append_below c m v x v-below x-below)) ∙ ap (λ l. number (take w l)) (sym (bits-append c m v x v-below))
+
+  pub rest-below : c ≤ w → w ≤ c + m → x / 2 ^ (w - c) < 2 ^ (c + m - w)
+  rest-below l r = let e : m - (w - c) ≡ c + m - w = omega arith in subst (λ t. x / 2 ^ (w - c) < 2 ^ t) e (above_below x (w - c) m x-below)
+
+  pub rest-bits : c ≤ w → bits (c + m - w) (x / 2 ^ (w - c)) ≡ drop w (bits c v ++ bits m x)
+  rest-bits l =
+      let e : w ≡ c + (w - c) = omega arith in
+      let above : (v + x * 2 ^ c) / 2 ^ c ≡ x = ap (λ t. t / 2 ^ c) (add_comm v (x * 2 ^ c)) ∙ shr_high x c v v-below in
+      let high : (v + x * 2 ^ c) / 2 ^ w ≡ x / 2 ^ (w - c) = ap (λ t. (v + x * 2 ^ c) / 2 ^ t) e ∙ sym (shr-shr (v + x * 2 ^ c) c (w - c)) ∙ ap (λ t. t / 2 ^ (w - c)) above in
+      ap (bits (c + m - w)) (sym high) ∙ sym (drop-bits w (c + m) (v + x * 2 ^ c)) ∙ ap (drop w) (sym (bits-append c m v x v-below))
 
 -- The first piece of k bits, or of all where fewer wait and no more follow, and what is cut after it.
 pub cut-waiting : (k : ℕ) (waiting more : List ℕ) → 0 < k → 0 < length waiting → (length waiting < k → more ≡ [])

@@ -1,21 +1,20 @@
 -- Words packed into elements, and elements unpacked to words.
-use Rattle.std.proofs.Common.{◌≡◌, ℕ, ◌+◌, ◌*◌, ◌%◌, ◌<◌, ◌^◌, List, [], ◌∷◌, ◌++◌, take, drop, length, map, Option, None, ◌⊎◌, ⊎_elim, refl, sym, ap, ◌∙◌, arith, lit<}
-use Rattle.std.proofs.lemmas.List.{map-append, length-map}
+use Rattle.std.proofs.Common.{◌≡◌, ℕ, ◌*◌, ◌%◌, ◌<◌, ◌^◌, List, [], ◌∷◌, ◌++◌, take, drop, length, map, ◌≤◌, refl, sym, ap, ◌∙◌, arith, mod-eq_of_lt, lit<}
+use Rattle.std.proofs.Math.Nat.{pow-le-pow_right}
+use Rattle.std.proofs.lemmas.List.{map-append, length-map, drop_all}
 use Rattle.std.proofs.lemmas.List.Elements.{All-head, All-tail}
 use Rattle.std.specs.List.{All}
 use Rattle.math_numbers.specs.Bits as Bits
-use Rattle.math_numbers.specs.Bits.{bits, bits-zero, joined, pieces, piece_count, cut, repacked, zero_word_unless}
+use Rattle.math_numbers.specs.Bits.{bits, bits-zero, joined, piece_count, cut, repacked, zero_word_unless}
 use Rattle.math_numbers.specs.Goldilocks.{P}
-use Rattle.math_numbers.proofs.BitLists.{joined-append, joined-are_bits}
+use Rattle.math_numbers.proofs.BitLists.{length-bits, joined-append, joined-are_bits}
 use Rattle.math_numbers.proofs.BitPieces.{cut-nil, length-repacked, words_come_back}
 use Rattle.math_base.specs.Elements.{number, residue}
-use Rattle.math_base.specs.Repacking.{Advances}
 use Rattle.math_base.specs.Packing.{word_bits, element_bits, elements_of_bits, elements_of, words_of, waiting_bits}
 use Rattle.math_base.specs.declared.fields.goldilocks.F.{F}
 use Rattle.math_base.specs.declared.fields.goldilocks.packing.WaitingBits.{WaitingBits}
 use Rattle.math_base.proofs.ElementNumbers.{residue-number}
-use Rattle.math_base.proofs.BitFronts.{cut-waiting, pieces_below}
-use Rattle.math_base.proofs.Repacking.{Advances-ended}
+use Rattle.math_base.proofs.BitFronts.{cut-waiting, number-take-bits, pieces_below}
 
 -- numbers below 2 ^ 63 are the numbers of their residues
 pub map-number-residue : (ns : List ℕ) → All (λ n. n < 2 ^ 63) ns → map number (map residue ns) ≡ ns
@@ -52,8 +51,19 @@ words_of-elements_of words h =
 pub waiting_bits-none : (w : WaitingBits) → w.count ≡ 0 → waiting_bits w ≡ []
 waiting_bits-none w e = ap (λ n. bits n w.value) e ∙ bits-zero w.value
 
--- two refills with elements, after which fewer than 64 bits wait only where the source has ended
-pub ended_after_two : {S : Type 0} (steps : S → Option F → S → Type 0) (s t : Option S) (taken : List F) (first second third : ℕ) → Advances steps s taken t
-    → (second < 64 → (s ≡ None) ⊎ (second ≡ first + 63)) → (third < 64 → (t ≡ None) ⊎ (third ≡ second + 63)) → third < 64 → t ≡ None
-ended_after_two steps s t taken first second third advances once twice few =
-    ⊎_elim (λ e. e) (λ more. ⊎_elim (λ e. (Advances-ended steps s t taken advances e).1) (λ again. absurd (omega arith)) (once (omega arith))) (twice few)
+-- at most k bits that wait write a number below 2 ^ k
+pub waiting-below : (k : ℕ) (w : WaitingBits) → w.count ≤ k → w.value < 2 ^ k
+waiting-below k w few = let m : 2 ^ w.count ≤ 2 ^ k = pow-le-pow_right (lit< tt) few in let h : w.value < 2 ^ w.count = w.below in omega arith
+
+-- at most k bits that wait, where more follow only if there are k of them, write the first piece
+pub cut-last : (k : ℕ) (w : WaitingBits) (more : List ℕ) → 0 < k → 0 < w.count → w.count ≤ k → (w.count < k → more ≡ []) → cut k (waiting_bits w ++ more) ≡ w.value ∷ cut k more
+cut-last k w more positive some few last =
+    let long : length (waiting_bits w) ≡ w.count = length-bits w.count w.value in
+    cut-waiting k (waiting_bits w) more positive (omega (arith, long)) (λ short. last (omega (arith, long)))
+    ∙ ap (λ n. n ∷ cut k (drop k (waiting_bits w) ++ more)) (number-take-bits k w.count w.value w.below ∙ mod-eq_of_lt (waiting-below k w few))
+    ∙ ap (λ l. w.value ∷ cut k (l ++ more)) (drop_all k (waiting_bits w) (omega (arith, long)))
+
+pub elements_of_bits-last : (w : WaitingBits) (more : List ℕ) (x : F) → number x ≡ w.value → 0 < w.count → w.count ≤ 63 → (w.count < 63 → more ≡ [])
+    → elements_of_bits (waiting_bits w ++ more) ≡ x ∷ elements_of_bits more
+elements_of_bits-last w more x e some few last =
+    ap (map residue) (cut-last 63 w more (lit< tt) some few last) ∙ ap (λ n. residue n ∷ elements_of_bits more) (sym e) ∙ ap (λ y. y ∷ elements_of_bits more) (residue-number x)

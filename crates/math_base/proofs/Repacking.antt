@@ -14,6 +14,10 @@ use Rattle.math_base.specs.Repacking.{running, Advances, Refills, Repacks, Gives
 pub running-fused : {S : Type 0} (s : Fuse S) (inner : S) → fuse_source s ≡ inner → fuse_done s ≡ false → running s ≡ Some inner
 running-fused s inner e new = ap (λ b. cond b None (Some (fuse_source s))) new ∙ ap Some e
 
+-- a fused iterator that has ended
+pub running-ended : {S : Type 0} (s : Fuse S) → fuse_done s ≡ true → running s ≡ None
+running-ended s done = ap (λ b. cond b None (Some (fuse_source s))) done
+
 -- ---- calls of a source
 module _ {S A : Type 0} (steps : S → Option A → S → Type 0) where
   pub Advances-nil : (s : Option S) → Advances steps s [] s
@@ -61,6 +65,14 @@ module _ {S A : Type 0} {steps : S → Option A → S → Type 0} {bits_of : Lis
   -- a refill with one item
   pub Refills-call : {before after : List ℕ} (s t : Fuse S) (x : A) → fuse_steps steps s (Some x) t → after ≡ before ++ bits_of (x ∷ []) → Refills steps bits_of before (running s) after (running t)
   Refills-call s t x h e = record { taken = x ∷ []; advances = Advances-call steps s t (Some x) h; waiting = e }
+
+  -- no call
+  pub Refills-none : {waiting : List ℕ} (s : Option S) → bits_of [] ≡ [] → Refills steps bits_of waiting s waiting s
+  Refills-none {waiting} s nil = record { taken = []; advances = Advances-nil steps s; waiting = sym (ap (λ l. waiting ++ l) nil ∙ append-nil waiting) }
+
+  -- a call that met the end
+  pub Refills-end : {waiting : List ℕ} (s t : Fuse S) → fuse_steps steps s None t → bits_of [] ≡ [] → Refills steps bits_of waiting (running s) waiting (running t)
+  Refills-end {waiting} s t h nil = record { taken = []; advances = Advances-call steps s t None h; waiting = sym (ap (λ l. waiting ++ l) nil ∙ append-nil waiting) }
 
   module _ (bits_of-append : (xs ys : List A) → bits_of (xs ++ ys) ≡ bits_of xs ++ bits_of ys) where
     -- a refill, and then another

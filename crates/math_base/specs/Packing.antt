@@ -51,10 +51,6 @@ module _ {S : Type 0} where
   abbrev pub words_to_elements_steps : (S → Option ℕ → S → Type 0) → WordsToElements S → Option F → WordsToElements S → Type 0
   words_to_elements_steps steps s answer t = Repacks steps (words_to_elements_gives s) (running s.source) answer (words_to_elements_gives t) (running t.source)
 
-  -- one call of `refill`
-  abbrev pub RefillsWithWords : (S → Option ℕ → S → Type 0) → WordsToElements S → WordsToElements S → Type 0
-  RefillsWithWords steps s t = Refills steps word_bits (waiting_bits s.waiting) (running s.source) (waiting_bits t.waiting) (running t.source)
-
   -- how many bits are left at most, where `left` says how many words the source has left at most
   abbrev pub words_to_elements_bits : (Fuse S → Count) → WordsToElements S → Count
   words_to_elements_bits left s = count_map (λ n. s.waiting.count + 64 * n) (left s.source)

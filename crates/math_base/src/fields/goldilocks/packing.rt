@@ -4,10 +4,10 @@
 //! into pieces of 63, the last filled with zeros; a piece writes a number below 2^63, and so below P.
 //! Unpacking joins the 63 lowest bits of each element to one list, and cuts it into pieces of 64.
 //!
-//! Neither makes the list. Its first bits wait in a number, of which the lowest are the next piece. While
-//! fewer wait than a piece has, those of the next item are put above them.
+//! Neither makes the list. Its first bits wait in a word. Those of the next item are put above them; the lowest
+//! of both are the next piece, and what is left of the item waits in its turn.
 
-ghost use Rattle.std.specs.Prelude.{◌≡◌, ◌<◌, ◌≤◌, ◌+◌, ◌-◌, ◌*◌, ◌^◌, ◌%◌, ◌++◌, [], take, drop, None};
+ghost use Rattle.std.specs.Prelude.{◌≡◌, ◌<◌, ◌≤◌, ◌+◌, ◌*◌, ◌^◌, ◌%◌, ◌++◌, [], take, drop, None};
 ghost use Rattle.std.specs.Iterator.{count_map};
 ghost use Rattle.math_numbers.specs.Bits.{bits, piece_count};
 ghost use Rattle.math_base.specs.Repacking.{running, NoMoreThan};
@@ -15,13 +15,13 @@ ghost use Rattle.math_base.specs.Repacking.{running, NoMoreThan};
 use super::F;
 use std::iter::Fuse;
 
-/// Fewer than 127 bits that wait, the lowest first: the `count` lowest of `value`.
+/// Fewer than 64 bits that wait, the lowest first: the `count` lowest of `value`.
 #[derive(Clone, Copy)]
 struct WaitingBits {
-    value: u128,
+    value: u64,
     count: u32,
     ghost below: { value < 2 ^ count },
-    ghost few: { count < 127 },
+    ghost few: { count < 64 },
 }
 
 impl WaitingBits {
@@ -36,33 +36,23 @@ impl WaitingBits {
         WaitingBits { value: 0, count: 0 }
     }
 
-    /// These bits, and then the `width` lowest of a word.
-    fn followed_by(self, word: u64, width: u32) -> WaitingBits
-        requires low { word < 2 ^ width }
-        requires room { (self.count < 64) × (width ≤ 64) × (self.count + width < 127) }
-        ensures bits { waiting_bits result ≡ waiting_bits self ++ bits width word }
-        ensures count { result.count ≡ self.count + width }
-    {
-        WaitingBits {
-            value: self.value + (u128::from(word) << self.count),
-            count: self.count + width,
-        }
-    }
-
-    /// The number that the first `width` bits write, or all where fewer wait, and the bits after them.
-    fn split(self, width: u32) -> (u64, WaitingBits)
-        requires { width ≤ 64 }
-        ensures first { result.0 ≡ number (take width (waiting_bits self)) }
+    /// The number that the first `width` of these bits and of the `more` lowest of a word after them write, and
+    /// the bits after those.
+    fn cut(self, word: u64, more: u32, width: u32) -> (u64, WaitingBits)
+        requires low { word < 2 ^ more }
+        requires room { (self.count < width) × (width ≤ 64) × (width < self.count + 64) }
+        requires enough { (width ≤ self.count + more) × (self.count + more < width + 64) }
+        ensures first { result.0 ≡ number (take width (waiting_bits self ++ bits more word)) }
         ensures below { result.0 < 2 ^ width }
-        ensures rest { waiting_bits result.1 ≡ drop width (waiting_bits self) }
-        ensures count { result.1.count ≡ self.count - width }
+        ensures rest { waiting_bits result.1 ≡ drop width (waiting_bits self ++ bits more word) }
+        ensures count { result.1.count + width ≡ self.count + more }
     {
-        let first = self.value & ((1 << width) - 1);
+        let both = self.value.wrapping_add(word << self.count);
         let rest = WaitingBits {
-            value: self.value >> width,
-            count: self.count.saturating_sub(width),
+            value: word >> (width - self.count),
+            count: self.count + more - width,
         };
-        (first as u64, rest)
+        (both & (u64::MAX >> (64 - width)), rest)
     }
 }
 
@@ -72,26 +62,6 @@ impl WaitingBits {
 pub struct WordsToElements<I> {
     waiting: WaitingBits,
     source: Fuse<I>,
-}
-
-impl<I: Iterator<Item = u64> + Drop> WordsToElements<I> {
-    ghost use Rattle.math_base.specs.Packing.{RefillsWithWords, words_to_elements_bits};
-
-    /// Takes a word from the source where fewer bits wait than an element has, unless it has ended.
-    fn refill(&mut self)
-        requires { ⟦<Fuse<I> as Iterator>⟧.can_next self.old.source }
-        ensures refills { RefillsWithWords I.next_gives self.old self.new }
-        ensures enough { self.new.waiting.count < 63 → running self.new.source ≡ None }
-        ensures can { ⟦<Fuse<I> as Iterator>⟧.can_next self.new.source }
-        ensures left { NoMoreThan (words_to_elements_bits ⟦<Fuse<I> as Iterator>⟧.remaining self.new)
-            (words_to_elements_bits ⟦<Fuse<I> as Iterator>⟧.remaining self.old) }
-    {
-        if self.waiting.count < 63 {
-            if let Some(word) = self.source.next() {
-                self.waiting = self.waiting.followed_by(word, 64);
-            }
-        }
-    }
 }
 
 impl<I: Iterator<Item = u64> + Drop> Iterator for WordsToElements<I> {
@@ -106,11 +76,20 @@ impl<I: Iterator<Item = u64> + Drop> Iterator for WordsToElements<I> {
     ghost remaining = { λ s. count_map (piece_count 63) (words_to_elements_bits ⟦<Fuse<I> as Iterator>⟧.remaining s) };
 
     fn next(&mut self) -> Option<F> {
-        self.refill();
-        if self.waiting.count == 0 {
-            return None;
+        // A word has one bit more than an element, so where 63 bits wait an element needs none.
+        let waiting = self.waiting;
+        if waiting.count == 63 {
+            self.waiting = WaitingBits::none();
+            return Some(F::from_piece(waiting.value));
         }
-        let (first, rest) = self.waiting.split(63);
+        let Some(word) = self.source.next() else {
+            if waiting.count == 0 {
+                return None;
+            }
+            self.waiting = WaitingBits::none();
+            return Some(F::from_piece(waiting.value));
+        };
+        let (first, rest) = waiting.cut(word, 64, 63);
         self.waiting = rest;
         Some(F::from_piece(first))
     }
@@ -125,22 +104,23 @@ pub struct ElementsToWords<I> {
 }
 
 impl<I: Iterator<Item = F> + Drop> ElementsToWords<I> {
-    ghost use Rattle.std.specs.Prelude.{◌⊎◌};
     ghost use Rattle.math_base.specs.Packing.{RefillsWithElements, elements_to_words_bits};
 
-    /// Takes an element from the source where fewer bits wait than a word has, unless it has ended.
+    /// Takes an element from the source where no bit waits, unless it has ended.
     fn refill(&mut self)
         requires { ⟦<Fuse<I> as Iterator>⟧.can_next self.old.source }
         ensures refills { RefillsWithElements I.next_gives self.old self.new }
-        ensures enough { self.new.waiting.count < 64
-            → (running self.new.source ≡ None) ⊎ (self.new.waiting.count ≡ self.old.waiting.count + 63) }
+        ensures enough { self.new.waiting.count ≡ 0 → running self.new.source ≡ None }
         ensures can { ⟦<Fuse<I> as Iterator>⟧.can_next self.new.source }
         ensures left { NoMoreThan (elements_to_words_bits ⟦<Fuse<I> as Iterator>⟧.remaining self.new)
             (elements_to_words_bits ⟦<Fuse<I> as Iterator>⟧.remaining self.old) }
     {
-        if self.waiting.count < 64 {
+        if self.waiting.count == 0 {
             if let Some(element) = self.source.next() {
-                self.waiting = self.waiting.followed_by(element.low_bits(), 63);
+                self.waiting = WaitingBits {
+                    value: element.low_bits(),
+                    count: 63,
+                };
             }
         }
     }
@@ -158,13 +138,17 @@ impl<I: Iterator<Item = F> + Drop> Iterator for ElementsToWords<I> {
     ghost remaining = { λ s. count_map (piece_count 64) (elements_to_words_bits ⟦<Fuse<I> as Iterator>⟧.remaining s) };
 
     fn next(&mut self) -> Option<u64> {
-        // An element has one bit less than a word, so where none waits a word needs two.
+        // An element has one bit less than a word, so where no bit waits a word needs two.
         self.refill();
-        self.refill();
-        if self.waiting.count == 0 {
+        let waiting = self.waiting;
+        if waiting.count == 0 {
             return None;
         }
-        let (first, rest) = self.waiting.split(64);
+        let Some(element) = self.source.next() else {
+            self.waiting = WaitingBits::none();
+            return Some(waiting.value);
+        };
+        let (first, rest) = waiting.cut(element.low_bits(), 63, 64);
         self.waiting = rest;
         Some(first)
     }

@@ -1,8 +1,8 @@
-use Rattle.std.proofs.Common.{◌++◌, ap, ◌∙◌, sym, append-nil}
+use Rattle.std.proofs.Common.{◌++◌, [], ap, ◌∙◌, sym, append-nil, rules}
 use Rattle.math_numbers.specs.Bits.{bits}
 use Rattle.math_numbers.proofs.BitLists.{bits-mod}
 use Rattle.math_base.specs.Elements.{number}
-use Rattle.math_base.specs.Packing.{waiting_bits}
+use Rattle.math_base.proofs.Packing.{waiting_bits-none}
 use Rattle.math_base.proofs.Repacking.{Refills-call}
 use Rattle.math_base.proofs.fields.goldilocks.packing.ElementsToWords.refill.Goals as goal
 
@@ -10,4 +10,4 @@ pub returns-in-Some-clause-refills : goal.returns-in-Some-clause-refills
 returns-in-Some-clause-refills g c =
     let n = number c.in-Some.element in
     Refills-call c.args.self.now.source c.next.new.self c.in-Some.element c.in-Some.ensures.steps
-    (c.followed_by-self.ensures.bits ∙ ap (λ l. waiting_bits c.args.self.now.waiting ++ l) (ap (bits 63) c.low_bits.ensures ∙ bits-mod 63 n ∙ sym (append-nil (bits 63 n))))
+    (ap (bits 63) c.low_bits.ensures ∙ bits-mod 63 n ∙ sym (append-nil (bits 63 n)) ∙ ap (λ l. l ++ (bits 63 n ++ [])) (sym (waiting_bits-none c.args.self.now.waiting (search rules))))
