@@ -33,7 +33,7 @@ fn answers<T: Drop, L: Drop, F: Fn(&T) -> Mem<L>>(alloc: Global, items: &[T], f:
 {
     let mut out = Vec::with_capacity(alloc, items.len())?;
     for item in items {
-        out.push(f(item)?)?;
+        out.push_reserved(f(item)?);
     }
     Ok(out)
 }

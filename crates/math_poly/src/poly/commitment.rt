@@ -23,7 +23,7 @@ impl<G: CryptoGroup> Poly<G> {
         for scalar in &p.coefficients {
             let mut element = generator.clone(alloc)?;
             element.scale_assign(alloc, scalar)?;
-            coefficients.push(element)?;
+            coefficients.push_reserved(element);
         }
         Ok(Poly { coefficients })
     }
