@@ -1,0 +1,10 @@
+pub mod WordBytes
+pub mod PackedBytes
+pub mod UnpackedBytes
+pub mod OneBlock
+pub mod CellCounts
+pub mod BlockErrors
+pub mod Indices
+pub mod SameShards
+pub mod LeftOut
+pub mod MendedShards

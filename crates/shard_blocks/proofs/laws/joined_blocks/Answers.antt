@@ -1,0 +1,8 @@
+use Rattle.shard_blocks.proofs.OneBlock.{chosen_give_block, one_block}
+use Rattle.shard_blocks.proofs.laws.joined_blocks.Goals as goal
+
+pub returns-clause-once : goal.returns-clause-once
+returns-clause-once c = one_block
+
+pub returns-clause-chosen : goal.returns-clause-chosen
+returns-clause-chosen c = chosen_give_block

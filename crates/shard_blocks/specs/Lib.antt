@@ -1,0 +1,3 @@
+pub mod BlockWords
+pub mod Blocks
+pub mod Mending

@@ -1,0 +1,74 @@
+//! Bytes as words, and these as bytes.
+
+ghost use Rattle.std.specs.Prelude.{◌≡◌, ◌↔◌, ◌-◌, ◌<◌, ◌++◌, ℕ, List, All, length, replicate, IsTrue, IfOk, IfSome, IsSomeAnd};
+ghost use Rattle.std.specs.Int.{to_le_bytes, w64};
+ghost use Rattle.std.specs.List.{flat_map};
+ghost use Rattle.shard_blocks.specs.BlockWords.{IsBlockOf, words_of_bytes};
+
+use math_base::algebra::Mem;
+use std::alloc::Global;
+
+/// The number of the bytes, and then the bytes, eight a word, the lowest first, with zeros after the last.
+pub(crate) fn words_of(alloc: Global, bytes: &[u8]) -> Mem<Vec<u64>>
+    ensures { IfOk result (λ words. words.items ≡ words_of_bytes bytes.now) }
+{
+    let (whole, rest) = bytes.as_chunks::<8>();
+    let mut words = Vec::with_capacity(alloc, whole.len().saturating_add(2))?;
+    words.push(bytes.len() as u64)?;
+    for eight in whole {
+        words.push(u64::from_le_bytes(*eight))?;
+    }
+    if !rest.is_empty() {
+        words.push(u64::from_le_bytes(filled(rest)))?;
+    }
+    Ok(words)
+}
+
+/// Fewer than eight bytes, and zeros after them.
+fn filled(rest: &[u8]) -> [u8; 8]
+    requires { length rest.now < 8 }
+    ensures { result ≡ rest.now ++ replicate (8 - length rest.now) 0 }
+{
+    let mut eight = [0; 8];
+    eight[..rest.len()].copy_from_slice(rest);
+    eight
+}
+
+/// The bytes of the block whose words these are, where there is one.
+pub(crate) fn bytes_of(alloc: Global, words: &[u64]) -> Mem<Option<Vec<u8>>>
+    ensures some { IfOk result (λ answer. IfSome answer (λ bytes. IsBlockOf words.now bytes.items)) }
+    ensures found { (block : List ℕ) → IsBlockOf words.now block
+        → IfOk result (λ answer. IsSomeAnd answer (λ bytes. bytes.items ≡ block)) }
+{
+    let Some((count, packed)) = words.split_first() else {
+        return Ok(None);
+    };
+    let count = *count as usize;
+    if packed.len() != count.div_ceil(8) {
+        return Ok(None);
+    }
+    let mut bytes = unpacked(alloc, packed)?;
+    if !all_zero(&bytes[count..]) {
+        return Ok(None);
+    }
+    bytes.truncate(count);
+    Ok(Some(bytes))
+}
+
+/// Whether each byte is zero.
+fn all_zero(bytes: &[u8]) -> bool
+    ensures { IsTrue result ↔ All (λ byte. byte ≡ 0) bytes.now }
+{
+    bytes.iter().all(|byte| *byte == 0)
+}
+
+/// The eight bytes of each word, the lowest first.
+fn unpacked(alloc: Global, words: &[u64]) -> Mem<Vec<u8>>
+    ensures { IfOk result (λ bytes. bytes.items ≡ flat_map (to_le_bytes w64) words.now) }
+{
+    let mut bytes = Vec::with_capacity(alloc, words.len().saturating_mul(8))?;
+    for word in words {
+        bytes.extend_from_slice(&word.to_le_bytes())?;
+    }
+    Ok(bytes)
+}
