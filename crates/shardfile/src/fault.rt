@@ -1,0 +1,66 @@
+//! Why the work was not done.
+
+use std::alloc::{AllocError, AllocFailed};
+use std::io;
+use thiserror::Error;
+
+/// Why the work was not done. Texts name the file or the block that is meant.
+#[derive(Debug, Drop, Error)]
+pub enum Fault {
+    #[error("usage: shardfile split [--force] MIN TOTAL FILE | join [--force] FILE OUT | check FILE")]
+    Usage,
+    #[error("refused: out of memory")]
+    Memory(AllocError),
+    #[error("refused: {0}")]
+    Io(io::Error),
+    #[error("refused: {0}: {1}")]
+    File(String, io::Error),
+    #[error("refused: {0}: is there already, and only --force replaces it")]
+    Exists(String),
+    #[error("refused: {0}: not a regular file")]
+    NotRegular(String),
+    #[error("refused: {0}: changed while it was read")]
+    Changed(String),
+    #[error("refused: {0}: is a shard beyond these, so remove it first")]
+    Beyond(String),
+    #[error("refused: {0}: no shard is there")]
+    NoShard(String),
+    #[error("refused: {0}: the shards are of several splits, and no split has the most")]
+    Tie(String),
+    #[error("refused: {0}: {1} shards are there, and {2} are needed")]
+    TooFew(String, usize, u32),
+    #[error("refused: block {0}: {1}")]
+    Block(u64, shard_blocks::Error),
+    #[error("refused: {0}: not all shards are there and fit")]
+    Unsound(String),
+    #[error("refused: a shard with too many cells")]
+    Cells,
+}
+
+impl Fault {
+    /// The status that the program ends with: 2 for wrong words, 1 else.
+    pub fn status(&self) -> u8 {
+        match self {
+            Fault::Usage => 2,
+            _ => 1,
+        }
+    }
+}
+
+impl From<AllocError> for Fault {
+    fn from(e: AllocError) -> Fault {
+        Fault::Memory(e)
+    }
+}
+
+impl<T: Drop> From<AllocFailed<T>> for Fault {
+    fn from(_e: AllocFailed<T>) -> Fault {
+        Fault::Memory(AllocError)
+    }
+}
+
+impl From<io::Error> for Fault {
+    fn from(e: io::Error) -> Fault {
+        Fault::Io(e)
+    }
+}

@@ -1,0 +1,201 @@
+//! Shard files to the file, and whether they fit.
+
+ghost use Rattle.std.specs.Prelude.{◌≡◌, ◌≤◌, OnOk};
+
+use crate::fault::Fault;
+use crate::header::Header;
+use crate::names::shard_name;
+use crate::output::{Restored, owned};
+use crate::progress::Progress;
+use crate::sources::{ShardFile, block_in, gather};
+
+/// Restores the file from the shard files that are there, and names on standard error those that were left
+/// out and those with a shard that was.
+///
+/// It refuses where too few are there, and where the shards of a block give no data.
+pub fn join(rt: &HostRuntime, file: &str, out: &str, force: bool) -> Result<(), Fault> {
+    let mut files = Vec::new(rt.alloc());
+    let done = joined(rt, file, out, force, &mut files);
+    tell(rt, &files)?;
+    done
+}
+
+/// Names on standard error each file with which something is wrong.
+fn tell(rt: &HostRuntime, files: &[ShardFile]) -> Result<(), Fault> {
+    for shard in files {
+        if !shard.is_sound() {
+            let line = line_of(rt, shard)?;
+            let _told = eprintln!(rt; "{line}");
+        }
+    }
+    Ok(())
+}
+
+/// Restores the file, and notes what is wrong at the files.
+fn joined(
+    rt: &HostRuntime,
+    file: &str,
+    out: &str,
+    force: bool,
+    files: &mut Vec<ShardFile>,
+) -> Result<(), Fault> {
+    let split = gather(rt, file, files)?;
+    let there = files.iter().filter(|shard| shard.is_used()).count();
+    if there < split.min as usize {
+        return Err(Fault::TooFew(owned(rt, file)?, there, split.min));
+    }
+    let mut restored = Restored::create(rt, owned(rt, out)?, force, split.length)?;
+    match fill(rt, &split, files, &mut restored) {
+        Ok(()) => restored.finish(rt),
+        Err(fault) => {
+            restored.discard(rt);
+            Err(fault)
+        }
+    }
+}
+
+/// Writes the blocks in order.
+fn fill(
+    rt: &HostRuntime,
+    split: &Header,
+    files: &mut [ShardFile],
+    restored: &mut Restored,
+) -> Result<(), Fault>
+    requires some { 1 ≤ split.now.min }
+    requires block { 1 ≤ split.now.block }
+    ensures { OnOk result (restored.new.left ≡ 0) }
+{
+    let mut progress = Progress::new(rt, split.length);
+    let mut number = 0u64;
+    while restored.left > 0 {
+        let size = restored.left.min(u64::from(split.block)) as u32;
+        let bytes = block_in(rt.alloc(), files, split, number, size)?;
+        restored.write(rt.alloc(), &bytes)?;
+        progress.tell(rt, restored.left);
+        number = number.saturating_add(1);
+    }
+    Ok(())
+}
+
+/// What is to be said of a shard file.
+fn line_of(rt: &HostRuntime, file: &ShardFile) -> Result<String, Fault> {
+    let name = &file.name;
+    if let Some(fault) = file.fault {
+        return Ok(format!(in rt.alloc(); "{name}: {fault}")?);
+    }
+    if file.lost > 0 {
+        let (lost, first, why) = (file.lost, file.first_lost, file.why);
+        return Ok(format!(in rt.alloc();
+            "{name}: left out of {lost} blocks, first of block {first}: {why}"
+        )?);
+    }
+    Ok(format!(in rt.alloc(); "{name}: fits")?)
+}
+
+/// What was found of all blocks.
+#[derive(Drop)]
+struct Findings {
+    blocks: u64,
+    refused: u64,
+    first: Option<Fault>,
+}
+
+impl Findings {
+    /// Notes that a block is refused. Where memory ran out nothing is found.
+    fn note(&mut self, fault: Fault) -> Result<(), Fault> {
+        if matches!(fault, Fault::Memory(_)) {
+            return Err(fault);
+        }
+        self.refused = self.refused.saturating_add(1);
+        if self.first.is_none() {
+            self.first = Some(fault);
+        }
+        Ok(())
+    }
+}
+
+/// Joins each block, and notes what is wrong.
+fn tried(rt: &HostRuntime, split: &Header, files: &mut [ShardFile]) -> Result<Findings, Fault>
+    requires some { 1 ≤ split.now.min }
+    requires block { 1 ≤ split.now.block }
+{
+    let mut findings = Findings {
+        blocks: 0,
+        refused: 0,
+        first: None,
+    };
+    let mut progress = Progress::new(rt, split.length);
+    let mut left = split.length;
+    while left > 0 {
+        let size = left.min(u64::from(split.block)) as u32;
+        if let Err(fault) = block_in(rt.alloc(), files, split, findings.blocks, size) {
+            findings.note(fault)?;
+        }
+        findings.blocks = findings.blocks.saturating_add(1);
+        left -= u64::from(size);
+        progress.tell(rt, left);
+    }
+    Ok(findings)
+}
+
+/// A line for each shard of the split and each other file with a name of one, and one for what they give;
+/// and whether all shards are there and fit.
+pub fn check(rt: &HostRuntime, file: &str) -> Result<(String, bool), Fault> {
+    let mut files = Vec::new(rt.alloc());
+    let split = match gather(rt, file, &mut files) {
+        Ok(split) => split,
+        Err(fault) => {
+            tell(rt, &files)?;
+            return Err(fault);
+        }
+    };
+    let findings = tried(rt, &split, &mut files)?;
+    let mut text = String::new(rt.alloc());
+    list(rt, file, &split, &files, &mut text)?;
+    let (min, total, length) = (split.min, split.total, split.length);
+    writeln!(
+        text,
+        "any {min} of {total} give back {length} bytes in {} blocks",
+        findings.blocks
+    )?;
+    let used = files.iter().filter(|shard| shard.is_used()).count();
+    match &findings.first {
+        Some(fault) => writeln!(
+            text,
+            "{} blocks cannot be restored: {fault}",
+            findings.refused
+        )?,
+        None if used < min as usize => writeln!(text, "cannot be restored: {used} are there")?,
+        None if used == min as usize => writeln!(
+            text,
+            "can be restored, and damage may not be found"
+        )?,
+        None => writeln!(text, "can be restored")?,
+    }
+    let is_whole = used == total as usize
+        && findings.first.is_none()
+        && files.iter().all(|shard| shard.is_sound());
+    Ok((text, is_whole))
+}
+
+/// A line for each shard of the split, and for each other file with a name of one.
+fn list(
+    rt: &HostRuntime,
+    file: &str,
+    split: &Header,
+    files: &[ShardFile],
+    text: &mut String,
+) -> Result<(), Fault> {
+    let mut next = 0;
+    for shard in files {
+        for number in next..shard.number.min(split.total) {
+            writeln!(text, "{}: is not there", shard_name(rt, file, number)?)?;
+        }
+        next = shard.number.saturating_add(1);
+        writeln!(text, "{}", line_of(rt, shard)?)?;
+    }
+    for number in next..split.total {
+        writeln!(text, "{}: is not there", shard_name(rt, file, number)?)?;
+    }
+    Ok(())
+}

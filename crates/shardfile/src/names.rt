@@ -1,0 +1,59 @@
+//! The names of shard files.
+
+use crate::fault::Fault;
+use crate::header::MOST_SHARDS;
+use crate::output::owned;
+use std::fs::read_dir;
+use std::io::ErrorKind;
+
+/// The name of the shard with this number: the file's, a point, and the number.
+pub fn shard_name(rt: &HostRuntime, file: &str, number: u32) -> Result<String, Fault> {
+    Ok(format!(in rt.alloc(); "{file}.{number}")?)
+}
+
+/// The number that a name ends with after the file's own and a point, as `shard_name` writes it.
+fn number_in(rt: &HostRuntime, file: &str, name: &str) -> Result<Option<u32>, Fault> {
+    let Some(rest) = name.strip_prefix(file) else {
+        return Ok(None);
+    };
+    let Some(digits) = rest.strip_prefix('.') else {
+        return Ok(None);
+    };
+    let Ok(number) = digits.parse::<u32>() else {
+        return Ok(None);
+    };
+    let is_so_written = shard_name(rt, file, number)?.as_str() == name;
+    Ok((is_so_written && number < MOST_SHARDS).then_some(number))
+}
+
+/// The folder that a file lies in, and its name there.
+fn folder_and_name(rt: &HostRuntime, file: &str) -> Result<(String, String), Fault> {
+    match file.rsplit_once('/') {
+        Some((folder, name)) => Ok((format!(in rt.alloc(); "{folder}/")?, owned(rt, name)?)),
+        None => Ok((owned(rt, "./")?, owned(rt, file)?)),
+    }
+}
+
+/// The numbers of the shards that lie beside the file, in rising order. Other files are passed over.
+pub fn numbers_there(rt: &HostRuntime, file: &str) -> Result<Vec<u32>, Fault> {
+    let (folder, name) = folder_and_name(rt, file)?;
+    let mut numbers = Vec::new(rt.alloc());
+    let entries = match read_dir(rt, folder.as_str()) {
+        Ok(entries) => entries,
+        Err(error) => return Err(Fault::File(folder, error)),
+    };
+    for entry in entries {
+        match entry {
+            Ok(entry) => {
+                if let Some(number) = number_in(rt, name.as_str(), entry.file_name())? {
+                    numbers.push(number)?;
+                }
+            }
+            // A name that is no text is not a shard's.
+            Err(error) if error.kind() == ErrorKind::InvalidFilename => {}
+            Err(error) => return Err(Fault::File(folder, error)),
+        }
+    }
+    numbers.sort_unstable();
+    Ok(numbers)
+}

@@ -1,0 +1,136 @@
+//! A file to shard files.
+
+ghost use Rattle.std.specs.Prelude.{◌≡◌, ◌≤◌, ◌^◌, OnOk};
+
+use crate::fault::Fault;
+use crate::header::{Header, header_bytes};
+use crate::names::{numbers_there, shard_name};
+use crate::output::{ShardFiles, owned};
+use crate::progress::Progress;
+use shard_blocks::split_block;
+use std::fs;
+use std::fs::File;
+use std::io::{ErrorKind, Read};
+
+/// Writes the shard files of a file, any `min` of which give it back.
+///
+/// It refuses, beside what the system refuses, where the file is no regular one or changes meanwhile, where
+/// a shard file is there already and is not to be replaced, and where one is there with a number of `total`
+/// or more. Where it refuses, no new shard file is there.
+pub fn split(rt: &HostRuntime, min: u32, total: u32, file: &str, force: bool) -> Result<(), Fault>
+    requires some { 1 ≤ min }
+    requires within { min ≤ total }
+{
+    let (mut source, length) = opened(rt, file)?;
+    check_beyond(rt, file, total)?;
+    let block = (Header::largest_block(min, total) / 4).max(1);
+    let header = Header {
+        index: 0,
+        min,
+        total,
+        block,
+        length,
+    };
+    let mut files = ShardFiles::new(rt.alloc(), length);
+    match fill(rt, &mut source, file, &header, force, &mut files) {
+        Ok(()) => files.finish(rt),
+        Err(fault) => {
+            files.discard(rt);
+            Err(fault)
+        }
+    }
+}
+
+/// The regular file with this name, and its length.
+fn opened(rt: &HostRuntime, file: &str) -> Result<(File, u64), Fault> {
+    let metadata = match fs::metadata(rt, file) {
+        Ok(metadata) => metadata,
+        Err(error) => return Err(Fault::File(owned(rt, file)?, error)),
+    };
+    if !metadata.is_file() {
+        return Err(Fault::NotRegular(owned(rt, file)?));
+    }
+    match fs::open(rt, file) {
+        Ok(source) => Ok((source, metadata.len())),
+        Err(error) => Err(Fault::File(owned(rt, file)?, error)),
+    }
+}
+
+/// Refuses where a shard file of the file is there with a number of `total` or more, which these would not
+/// replace.
+fn check_beyond(rt: &HostRuntime, file: &str, total: u32) -> Result<(), Fault> {
+    match numbers_there(rt, file)?.last() {
+        Some(number) if *number >= total => Err(Fault::Beyond(shard_name(rt, file, *number)?)),
+        _ => Ok(()),
+    }
+}
+
+/// Begins the shard files, and writes the shards of each block.
+fn fill(
+    rt: &HostRuntime,
+    source: &mut File,
+    file: &str,
+    split: &Header,
+    force: bool,
+    files: &mut ShardFiles,
+) -> Result<(), Fault>
+    requires some { 1 ≤ split.now.min }
+    requires within { split.now.min ≤ split.now.total }
+    requires block { 1 ≤ split.now.block }
+    ensures { OnOk result (files.new.left ≡ 0) }
+{
+    begin(rt, file, split, force, files)?;
+    let mut progress = Progress::new(rt, split.length);
+    while files.left > 0 {
+        let size = files.left.min(u64::from(split.block));
+        let bytes = bytes_of(rt, source, file, size as usize)?;
+        let shards = split_block(rt.alloc(), &bytes, split.min, split.total)?;
+        files.write(rt.alloc(), &shards, size)?;
+        progress.tell(rt, files.left);
+    }
+    check_end(rt, source, file)
+}
+
+/// Begins the shard files with their headers.
+fn begin(
+    rt: &HostRuntime,
+    file: &str,
+    split: &Header,
+    force: bool,
+    files: &mut ShardFiles,
+) -> Result<(), Fault>
+    ensures { files.new.left ≡ files.old.left }
+{
+    for index in 0..split.total {
+        let header = Header { index, ..*split };
+        let bytes = header_bytes(rt.alloc(), &header)?;
+        files.add(rt, shard_name(rt, file, index)?, force, &bytes)?;
+    }
+    Ok(())
+}
+
+/// The next so many bytes of the file.
+fn bytes_of(
+    rt: &HostRuntime,
+    source: &mut File,
+    file: &str,
+    size: usize,
+) -> Result<Vec<u8>, Fault> {
+    let mut bytes = vec![in rt.alloc(); 0u8; size]?;
+    match source.read_exact(&mut bytes) {
+        Ok(()) => Ok(bytes),
+        Err(error) if error.kind() == ErrorKind::UnexpectedEof => Err(Fault::Changed(owned(
+            rt, file,
+        )?)),
+        Err(error) => Err(Fault::File(owned(rt, file)?, error)),
+    }
+}
+
+/// Refuses where the file goes on after what was read.
+fn check_end(rt: &HostRuntime, source: &mut File, file: &str) -> Result<(), Fault> {
+    match source.read(&mut [0u8; 1]) {
+        Ok(0) => Ok(()),
+        Ok(_) => Err(Fault::Changed(owned(rt, file)?)),
+        Err(error) => Err(Fault::File(owned(rt, file)?, error)),
+    }
+}
