@@ -111,7 +111,7 @@ one_block_due shards e f other d k =
     ]
 
 -- so an answer that is a block of the shards or an error that is due is each error exactly where that is due
-pub block_refuses_exactly : {X : Type 0} (items : X → List ℕ) (result : Result X Error) (shards : List Shard) (e : Error) → ¬ (IsMemory e)
-    → IfOk result (λ v. JoinToBlock (items v) shards) → IfErr result (IsBlockDue shards) → RefusesBlockExactly result shards e
-block_refuses_exactly items (Ok v) shards e other ok err = (λ q. subst (λ r. IfErr r (IsBlockDue shards)) q err, λ due. other (block_not_due (items v) shards ok e due))
-block_refuses_exactly items (Err f) shards e other ok err = (λ q. subst (λ r. IfErr r (IsBlockDue shards)) q err, λ due. one_block_due shards e f other due err)
+pub block_refuses_exactly : {X : Type 0} (e : Error) → ¬ (IsMemory e) → (items : X → List ℕ) (result : Result X Error) (shards : List Shard) → IfOk result (λ v. JoinToBlock (items v) shards)
+    → IfErr result (IsBlockDue shards) → RefusesBlockExactly result shards e
+block_refuses_exactly e other items (Ok v) shards ok err = (λ q. subst (λ r. IfErr r (IsBlockDue shards)) q err, λ due. other (block_not_due (items v) shards ok e due))
+block_refuses_exactly e other items (Err f) shards ok err = (λ q. subst (λ r. IfErr r (IsBlockDue shards)) q err, λ due. one_block_due shards e f other due err)

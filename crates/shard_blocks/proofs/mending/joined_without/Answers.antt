@@ -10,7 +10,9 @@ returns-in-Ok-clause-some c =
     let shards = c.args.shards.now in
     let i = c.args.position in
     let others = c.deref.result.now in
-    let copies = others_copied shards c.in_ok-others.others.items c.push_copies.new.copies.items c.push_copies-2.new.copies.items i c.in_ok-others.ensures.items c.in_ok-push_copies.ensures c.in_ok-push_copies-2.ensures in
+    let copies =
+    others_copied shards c.in_ok-others.others.items c.push_copies.new.copies.items c.push_copies-2.new.copies.items i c.in_ok-others.ensures.items c.in_ok-push_copies.ensures
+    c.in_ok-push_copies-2.ensures in
     let same : AllZip AreSameShards (remove shards i) others = subst (λ (l : List Shard). AllZip AreSameShards (remove shards i) l) (sym c.deref.ensures.value) copies in
     (c.requires, block_of_same c.in-Ok.bytes.items others (remove shards i) (copies_backwards (remove shards i) others same) c.in-Ok.ensures.ok)
 
@@ -19,6 +21,8 @@ returns c =
     let shards = c.args.shards.now in
     let i = c.args.position in
     let others = c.deref.result.now in
-    let copies = others_copied shards c.in_ok-others.others.items c.push_copies.new.copies.items c.push_copies-2.new.copies.items i c.in_ok-others.ensures.items c.in_ok-push_copies.ensures c.in_ok-push_copies-2.ensures in
+    let copies =
+    others_copied shards c.in_ok-others.others.items c.push_copies.new.copies.items c.push_copies-2.new.copies.items i c.in_ok-others.ensures.items c.in_ok-push_copies.ensures
+    c.in_ok-push_copies-2.ensures in
     let same : AllZip AreSameShards (remove shards i) others = subst (λ (l : List Shard). AllZip AreSameShards (remove shards i) l) (sym c.deref.ensures.value) copies in
     record { some = tt; none = λ block j. absurd (c.in_ok-raise_memory-in-Err.ensures (c.in-Err.ensures.found block (block_of_same block (remove shards i) others same j.1))) }

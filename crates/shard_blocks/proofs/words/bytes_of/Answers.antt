@@ -30,8 +30,8 @@ pub returns-clause-some : goal.returns-clause-some
 returns-clause-some c =
     let n = c.in-Some.count.now in
     let zeros = subst (All (λ x. x ≡ 0)) (take_rest c.deref.result.now n) (c.all_zero.ensures.0 c.if-not-all_zero.false) in
-    block_of_words c.args.words.now c.in-Some.packed.now c.deref.result.now c.truncate.new.self.items n (λ i. omega (arith, c.type_inv.words i)) c.in-Some.ensures.cases.0 (c.if-packed-div_ceil.false ∙ c.div_ceil.ensures)
-    (c.deref.ensures.value ∙ c.in_ok-bytes.ensures) zeros (c.truncate.ensures.items ∙ ap (take n) (sym c.deref.ensures.value))
+    block_of_words c.args.words.now c.in-Some.packed.now c.deref.result.now c.truncate.new.self.items n (λ i. omega (arith, c.type_inv.words i)) c.in-Some.ensures.cases.0
+    (c.if-packed-div_ceil.false ∙ c.div_ceil.ensures) (c.deref.ensures.value ∙ c.in_ok-bytes.ensures) zeros (c.truncate.ensures.items ∙ ap (take n) (sym c.deref.ensures.value))
 
 pub returns-clause-found : goal.returns-clause-found
 returns-clause-found c = λ block of.
