@@ -1,7 +1,7 @@
 pub mod WordElements
 pub mod WordMatrices
-pub mod WordEncodings
 pub mod WrittenWords
+pub mod ReadWords
 pub mod BlockValues
 pub mod TruthValues
 pub mod RisingIndices

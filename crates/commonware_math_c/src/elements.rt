@@ -1,12 +1,16 @@
 //! Words as elements, and elements as words.
 
-ghost use Rattle.std.specs.Prelude.{◌≡◌, ◌↔◌, ◌<◌, ◌≤◌, ◌+◌, ◌*◌, ◌++◌, IsTrue, IfOk, OnOk, length, take, drop};
+ghost use Rattle.std.specs.Prelude.{◌≡◌, ◌↔◌, ◌≤◌, ◌+◌, ◌*◌, ◌++◌, ℕ, List, IsTrue, IfOk, length, take, drop};
 ghost use Rattle.std.specs.Int.{to_be_bytes, w64};
 ghost use Rattle.std.specs.List.{flat_map};
+ghost use Rattle.math_codec.specs.Faults.{Agrees, OnMemory};
+ghost use Rattle.math_codec.specs.Lists.{scan_items};
+ghost use Rattle.math_base.specs.ElementEncoding.{scan_element};
 ghost use Rattle.math_base.specs.Elements.{number};
 ghost use Rattle.commonware_math_c.specs.WordElements.{AreElements, elements, numbers};
 
 use commonware_math::algebra::Mem;
+use commonware_math::codec::{Error, Read};
 use commonware_math::fields::goldilocks::{F, MODULUS};
 use std::alloc::Global;
 
@@ -43,6 +47,35 @@ pub fn write_numbers(words: &mut [u64], items: &[F])
     for i in 0..items.len() {
         words[i] = number_of(&items[i]);
     }
+}
+
+/// Reads the words that the bytes spell, eight bytes each, highest first, over the words.
+pub fn read_words(alloc: Global, words: &mut [u64], bytes: &[u8])
+    requires { length bytes.now ≡ 8 * length words.old }
+    ensures { (items : List ℕ) → AreElements items → bytes.now ≡ flat_map (to_be_bytes w64) items → words.new ≡ items }
+{
+    let mut rest = bytes;
+    for i in 0..words.len() {
+        let Ok(word) = u64::read_cfg(alloc, &mut rest, &()) else {
+            unreachable!()
+        };
+        words[i] = word;
+    }
+}
+
+/// Goes over so many words in front of the bytes, eight bytes each, highest first, and gives what follows them. It
+/// refuses with the first fault from left to right: a word that is P or more, or no further word.
+pub fn after_elements(alloc: Global, count: u32, bytes: &[u8]) -> Result<&[u8], Error>
+    ensures taken { IfOk result (λ rest. (words : List ℕ) × (length words ≡ count) × AreElements words
+        × (bytes.now ≡ flat_map (to_be_bytes w64) words ++ rest.now)) }
+    ensures memory { OnMemory result ⊥ }
+    ensures exact { Agrees (λ rest. rest.now) result (scan_items scan_element count bytes.now) }
+{
+    let mut rest = bytes;
+    for _ in 0..count {
+        let _element = F::read_cfg(alloc, &mut rest, &())?;
+    }
+    Ok(rest)
 }
 
 /// Writes the words over the bytes from place `from` on: eight bytes each, highest first.

@@ -1,15 +1,16 @@
 //! One polynomial by its coefficients, which are words.
 
 ghost use Rattle.std.specs.Prelude.{◌≡◌, ◌↔◌, ◌<◌, ◌^◌, ℕ, List, IsTrue, IfOk, IfSome, IfNone, OnErr, length};
-ghost use Rattle.math_codec.specs.Faults.{Agrees};
+ghost use Rattle.std.specs.Int.{to_be_bytes, w64};
+ghost use Rattle.std.specs.List.{flat_map};
+ghost use Rattle.math_codec.specs.Faults.{Agrees, OnMemory};
 ghost use Rattle.math_base.specs.Elements.{number, residue};
 ghost use Rattle.math_base.specs.Polynomials.{value_in_ring};
 ghost use Rattle.commonware_math_c.specs.WordElements.{AreElements, elements, goldilocks};
 ghost use Rattle.commonware_math_c.specs.WordEncodings.{IsCoefficientCount, IsEncodedBy, StandInFront, polynomial_spelling, scan_polynomial};
 
-use crate::elements::{write_numbers, write_words};
-use commonware_math::codec::{self, Error, LengthRange, Mem, write_len};
-use commonware_math::fields::goldilocks::F;
+use crate::elements::{after_elements, read_words, write_words};
+use commonware_math::codec::{Error, LengthRange, Mem, read_len, write_len};
 use std::alloc::Global;
 
 /// Whether a polynomial may have so many coefficients: 1 to 2^32 - 1.
@@ -44,10 +45,33 @@ pub fn encode(alloc: Global, coefficients: &[u64], out: &mut [u8]) -> Mem<Option
     Ok(Some(n))
 }
 
+/// The number of coefficients of the polynomial that the bytes encode, and these as bytes.
+///
+/// No list is made of them. It refuses as `codec::decode` does, but never for want of memory.
+#[tactic(auto, unfolding(math_codec::specs::Faults::scan_exactly, math_codec::specs::Lists::scan_list))]
+fn split_encoding(alloc: Global, bytes: &[u8]) -> Result<(usize, &[u8]), Error>
+    ensures taken { IfOk result (λ answer. (p : List ℕ) × IsEncodedBy p bytes.now × (answer.0 ≡ length p)
+        × (answer.1.now ≡ flat_map (to_be_bytes w64) p)) }
+    ensures memory { OnMemory result ⊥ }
+    ensures exact { Agrees (λ _. tt) result (scan_polynomial bytes.now) }
+{
+    let mut coefficients = bytes;
+    let count = read_len(alloc, &mut coefficients)?;
+    if !LengthRange::new(1, u32::MAX).contains(count) {
+        return Err(Error::InvalidLength(count));
+    }
+    let rest = after_elements(alloc, count, coefficients)?;
+    if !rest.is_empty() {
+        return Err(Error::ExtraData(rest.len()));
+    }
+    Ok((count as usize, coefficients))
+}
+
 /// Reads the polynomial that the bytes encode, writes its coefficients over the first words of `out`, and
 /// gives their number.
 ///
-/// `None` where there is no room for them. It refuses as `decode` does.
+/// `None` where there is no room for them. It refuses as `codec::decode` does, but never for want of memory. The
+/// bytes are gone over before a word is written, so that `out` stays as it was where it refuses.
 pub fn decode(alloc: Global, bytes: &[u8], out: &mut [u64]) -> Result<Option<usize>, Error>
     ensures some { IfOk result (λ answer. IfSome answer (λ n. (p : List ℕ) × IsEncodedBy p bytes.now × (n ≡ length p)
         × StandInFront p out.old out.new)) }
@@ -55,13 +79,13 @@ pub fn decode(alloc: Global, bytes: &[u8], out: &mut [u64]) -> Result<Option<usi
         × (length out.old < length p))) }
     ensures kept { IfOk result (λ answer. IfNone answer (out.new ≡ out.old)) }
     ensures err { OnErr result (out.new ≡ out.old) }
+    ensures memory { OnMemory result ⊥ }
     ensures exact { Agrees (λ _. tt) result (scan_polynomial bytes.now) }
 {
-    let items: Vec<F> = codec::decode(alloc, bytes, &(LengthRange::new(1, u32::MAX), ()))?;
-    let n = items.len();
+    let (n, coefficients) = split_encoding(alloc, bytes)?;
     if n > out.len() {
         return Ok(None);
     }
-    write_numbers(&mut out[..n], &items);
+    read_words(alloc, &mut out[..n], coefficients);
     Ok(Some(n))
 }
