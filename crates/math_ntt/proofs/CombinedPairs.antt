@@ -1,11 +1,16 @@
 -- Pairs of cells that are combined, one after the other.
 use Rattle.std.proofs.Common.{◌≡◌, ◌≢◌, ◌∙◌, inl, inr, ℕ, ◌+◌, ◌-◌, ◌*◌, ◌/◌, ◌<◌, ◌≤◌, Bool, true, false, eqb, not, List, length, get_or, set, ap, subst, refl, arith}
+use Rattle.std.specs.Prelude.{IsTrue}
 use Rattle.std.proofs.lemmas.Bool.{cases_lt, eq-eqb, ne_eqb}
 use Rattle.std.proofs.lemmas.List.{get_or_default, get_or-set_same, get_or-set_other}
 use Rattle.std.proofs.lemmas.Nat.{div-mul-add}
-use Rattle.math_theory.specs.Laws.{IsEquality, IsGroup, IsProduct}
+use Rattle.math_theory.specs.Laws.{IsEquality, IsGroup, IsProduct, IsRing}
 use Rattle.math_base.specs.Members.{RingOf}
 use Rattle.math_ntt.specs.CombinedCells.{IsCombined, AreCombined}
+
+-- a number that stands for a truth value and is not zero stands for true
+pub true-from_number : (n : ℕ) → n ≢ 0 → IsTrue (not (eqb n 0))
+true-from_number n h = rw (ne_eqb n 0 h) refl
 
 -- the number of the row of c places in which place p stands
 pub row-of : (i c p : ℕ) → i * c ≤ p → p < i * c + c → p / c ≡ i
@@ -14,24 +19,36 @@ row-of i c p l m =
     ap (λ q. q / c) e ∙ div-mul-add i c (p - i * c) (omega arith)
 
 module _ {A : Type 0} (R : RingOf A) where
-  -- forward, where the number that stands for it is not zero: b becomes b w, then d is the difference, and s the sum
-  pub combined-forward : (n : ℕ) → n ≢ 0 → (w a b c d s : A) → IsEquality R.same → IsGroup R.same R.zero R.sum R.negative → R.same c (R.product b w) → (e : A) → R.same e a
-      → R.same d (R.sum e (R.negative c)) → R.same s (R.sum a c) → IsCombined R (not (eqb n 0)) w a b s d
-  combined-forward n h w a b c d s E G u e k v t =
-      let q : eqb n 0 ≡ false = ne_eqb n 0 h in
-      record {
-        sum = rw q (E.transitive _ _ _ t (G.respects_sum _ _ _ _ (E.reflexive a) u));
-        difference = rw q (E.transitive _ _ _ v (G.respects_sum _ _ _ _ k (G.respects_negative _ _ u)));
-      }
+  module _ (E : IsEquality R.same) (G : IsGroup R.same R.zero R.sum R.negative) where
+    -- forward, where the number that stands for it is not zero: b becomes b w, then d is the difference, and s the sum
+    pub combined-forward : (n : ℕ) → n ≢ 0 → (w a b c d s : A) → R.same c (R.product b w) → R.same s (R.sum a c) → R.same d (R.sum a (R.negative c)) → IsCombined R (not (eqb n 0)) w a b s d
+    combined-forward n h w a b c d s u t v =
+        let q : eqb n 0 ≡ false = ne_eqb n 0 h in
+        record {
+          sum = rw q (E.transitive _ _ _ t (G.respects_sum _ _ _ _ (E.reflexive a) u));
+          difference = rw q (E.transitive _ _ _ v (G.respects_sum _ _ _ _ (E.reflexive a) (G.respects_negative _ _ u)));
+        }
 
-  pub combined-back : (n : ℕ) → n ≡ 0 → (w a b d f s : A) → IsEquality R.same → IsGroup R.same R.zero R.sum R.negative → IsProduct R.same R.product → (e : A) → R.same e a
-      → R.same d (R.sum e (R.negative b)) → R.same f (R.product d w) → R.same s (R.sum a b) → IsCombined R (not (eqb n 0)) w a b s f
-  combined-back n h w a b d f s E G P e k v u t =
-      let q : eqb n 0 ≡ true = eq-eqb n 0 h in
-      record {
-        sum = rw q t;
-        difference = rw q (E.transitive _ _ _ u (P.respects _ _ _ _ (E.transitive _ _ _ v (G.respects_sum _ _ _ _ k (E.reflexive _))) (E.reflexive w)));
-      }
+    module _ (P : IsProduct R.same R.product) where
+      -- on the way back, where that number is zero: d is the difference, and then becomes d w
+      pub combined-back : (n : ℕ) → n ≡ 0 → (w a b d f s : A) → R.same s (R.sum a b) → R.same d (R.sum a (R.negative b)) → R.same f (R.product d w) → IsCombined R (not (eqb n 0)) w a b s f
+      combined-back n h w a b d f s t v u =
+          let q : eqb n 0 ≡ true = eq-eqb n 0 h in
+          record { sum = rw q t; difference = rw q (E.transitive _ _ _ u (P.respects _ _ _ _ v (E.reflexive w))) }
+
+      -- both ways, where w is one
+      pub combined-at_one : IsRing R.same R.sum R.product R.one → (forward : Bool) (w a b d s : A) → R.same w R.one → R.same s (R.sum a b) → R.same d (R.sum a (R.negative b))
+          → IsCombined R forward w a b s d
+      combined-at_one L forward w a b d s h t v =
+          let times : (c : A) → R.same c (R.product c w) = λ c.
+              E.symmetric _ _ (E.transitive _ _ _ (P.respects c c w R.one (E.reflexive c) h) (E.transitive _ _ _ (P.commutative c R.one) (L.identity c))) in
+          elim forward as (λ f. IsCombined R f w a b s d) [
+            | true ↦ record {
+              sum = E.transitive _ _ _ t (G.respects_sum _ _ _ _ (E.reflexive a) (times b));
+              difference = E.transitive _ _ _ v (G.respects_sum _ _ _ _ (E.reflexive a) (G.respects_negative _ _ (times b)));
+            }
+            | false ↦ record { sum = t; difference = E.transitive _ _ _ v (times (R.sum a (R.negative b))) }
+          ]
 
   module _ (forward : Bool) (factor : ℕ → A) where
     pub combined-none : (first last : ℕ) (lows highs : List A) → last ≤ first → AreCombined R forward factor first last lows highs lows highs
@@ -57,6 +74,17 @@ module _ {A : Type 0} (R : RingOf A) where
       lows_after = λ p q. k.lows_after p q ∙ h.lows_after p (omega arith);
       highs_before = λ p q. k.highs_before p (omega arith) ∙ h.highs_before p q;
       highs_after = λ p q. k.highs_after p q ∙ h.highs_after p (omega arith);
+    }
+
+    -- by other factors that are the same at these places
+    pub combined-by : (other : ℕ → A) (first last : ℕ) (lows highs new_lows new_highs : List A) → ((p : ℕ) → first ≤ p → p < last → other p ≡ factor p)
+        → AreCombined R forward other first last lows highs new_lows new_highs → AreCombined R forward factor first last lows highs new_lows new_highs
+    combined-by other first last lows highs new_lows new_highs e h = record {
+      combined = λ p below above. rw (← e p below above) (h.combined p below above);
+      lows_before = h.lows_before;
+      lows_after = h.lows_after;
+      highs_before = h.highs_before;
+      highs_after = h.highs_after;
     }
 
     -- one pair

@@ -7,7 +7,7 @@ use Rattle.std.proofs.lemmas.Nat.{pow_pos}
 use Rattle.std.proofs.lemmas.Nat.Bits.{bit_at-trailing_zeros, bit_at-pow_other}
 use Rattle.std.proofs.lemmas.List.{length-take-le, get_or-take, get_or-drop}
 use Rattle.math_theory.specs.Laws.{IsEquality, IsGroup, IsProduct, IsRing}
-use Rattle.math_theory.specs.Powers.{power}
+use Rattle.math_theory.specs.Powers.{power, power-zero}
 use Rattle.math_theory.proofs.domains.RootOrders.{power_of_two-suc}
 use Rattle.math_base.specs.Members.{RingOf}
 use Rattle.math_ntt.specs.CombinedCells.{AreCombined, AreTransformed, AreTransformedBack}
@@ -73,6 +73,10 @@ module _ {A : Type 0} (R : RingOf A) (root : ℕ → A) (lg half : ℕ) (table :
   pub powers-level : (powers : List A) → powers ≡ drop half table → (i : ℕ) → i < 2 ^ (lg - 1) → R.same (get_or powers i R.zero) (power R.one R.product (root (suc (lg - 1))) i)
   powers-level powers e i b =
       rw (e, half_is, get_or-drop (2 ^ (lg - 1)) table i R.zero) (t.powers (lg - 1) i (omega arith) b)
+
+  -- of which the first is one
+  pub powers-first : (powers : List A) → powers ≡ drop half table → R.same (get_or powers 0 R.zero) R.one
+  powers-first powers e = rw (power-zero R.one R.product (root (suc (lg - 1)))) at (powers-level powers e 0 (pow_pos (lg - 1)))
 
   pub length-level : (powers : List A) → length powers + half ≡ length table → length powers ≡ 2 ^ (lg - 1)
   length-level powers e = let h = halved lg 0 positive in omega (arith, t.count, h.powers)

@@ -1,6 +1,6 @@
 //! Butterflies: the cells of two halves combined pair by pair.
 
-ghost use Rattle.std.specs.Prelude.{◌≡◌, ◌+◌, ◌*◌, ◌/◌, ◌<◌, ◌≤◌, ◌^◌, OnOk, length, slice_index_or};
+ghost use Rattle.std.specs.Prelude.{◌≡◌, ◌+◌, ◌*◌, ◌/◌, ◌<◌, ◌≤◌, ◌^◌, IsTrue, OnOk, length, slice_index_or};
 ghost use Rattle.math_ntt.specs.CombinedCells.{IsCombined, AreCombined};
 ghost use Rattle.math_ntt.specs.CountedWork.{AddsAtMost};
 
@@ -8,9 +8,22 @@ use crate::ntt::work::Work;
 use math_base::algebra::{Additive, FieldNTT, Mem, Multiplicative, Object};
 use std::alloc::Global;
 
+// Puts the sum and the difference of two cells in their places.
+fn sum_and_difference<F: Additive>(alloc: Global, low: &mut F, high: &mut F) -> Mem<()>
+    ensures sum { OnOk result (F.same low.new (F.sum low.old high.old)) }
+    ensures difference { OnOk result (F.same high.new (F.sum low.old (F.negative high.old))) }
+{
+    let mut difference = low.clone(alloc)?;
+    difference.sub_assign(alloc, high)?;
+    low.add_assign(alloc, high)?;
+    *high = difference;
+    Ok(())
+}
+
 // Combines a pair of cells by a power of the root: forward to low + high w and low - high w, and on the
-// way back to low + high and (low - high) w. Counts one butterfly.
-fn combine<F: FieldNTT, const FORWARD: bool>(
+// way back to low + high and (low - high) w. `AT_ONE` says that the power is one: then no product is
+// taken. Counts one butterfly.
+fn combine<F: FieldNTT, const FORWARD: bool, const AT_ONE: bool>(
     alloc: Global,
     low: &mut F,
     high: &mut F,
@@ -18,26 +31,28 @@ fn combine<F: FieldNTT, const FORWARD: bool>(
     work: &mut Work,
 ) -> Mem<()>
     requires room { work.old.butterflies + 1 < 2 ^ 128 }
+    requires one { IsTrue AT_ONE → F.same w.now F.one }
     ensures combined { OnOk result (IsCombined F.Ring FORWARD w.now low.old high.old low.new high.new) }
     ensures counted { work.new.butterflies ≡ work.old.butterflies + 1 }
     ensures root_products { work.new.root_products ≡ work.old.root_products }
 {
     work.add_butterfly();
+    if AT_ONE {
+        sum_and_difference(alloc, low, high)?;
+        return Ok(());
+    }
     if FORWARD {
         high.mul_assign(alloc, w)?;
+        sum_and_difference(alloc, low, high)?;
+    } else {
+        sum_and_difference(alloc, low, high)?;
+        high.mul_assign(alloc, w)?;
     }
-    let mut difference = low.clone(alloc)?;
-    difference.sub_assign(alloc, high)?;
-    low.add_assign(alloc, high)?;
-    if !FORWARD {
-        difference.mul_assign(alloc, w)?;
-    }
-    *high = difference;
     Ok(())
 }
 
 // Combines one row of each half by one power: `cols` pairs, from the place `first` on.
-fn combine_row<F: FieldNTT, const FORWARD: bool>(
+fn combine_row<F: FieldNTT, const FORWARD: bool, const AT_ONE: bool>(
     alloc: Global,
     low: &mut [F],
     high: &mut [F],
@@ -49,18 +64,19 @@ fn combine_row<F: FieldNTT, const FORWARD: bool>(
     requires low { first + cols ≤ length low.old }
     requires high { first + cols ≤ length high.old }
     requires room { work.old.butterflies + cols < 2 ^ 128 }
+    requires one { IsTrue AT_ONE → F.same w.now F.one }
     ensures combined { OnOk result (AreCombined F.Ring FORWARD (λ _. w.now) first (first + cols)
         low.old high.old low.new high.new) }
     ensures counted { OnOk result (work.new.butterflies ≡ work.old.butterflies + cols) }
     ensures bounded { AddsAtMost (2 * cols) work.old work.new }
 {
     for p in first..first + cols {
-        combine::<F, FORWARD>(alloc, &mut low[p], &mut high[p], w, work)?;
+        combine::<F, FORWARD, AT_ONE>(alloc, &mut low[p], &mut high[p], w, work)?;
     }
     Ok(())
 }
 
-// Combines the rows of two halves, row i of each by power i.
+// Combines the rows of two halves, row i of each by power i. Power 0 is one.
 fn combine_rows<F: FieldNTT, const FORWARD: bool>(
     alloc: Global,
     low: &mut [F],
@@ -72,19 +88,22 @@ fn combine_rows<F: FieldNTT, const FORWARD: bool>(
     requires low { length low.old ≡ length powers.now * cols }
     requires high { length high.old ≡ length powers.now * cols }
     requires room { work.old.butterflies + length powers.now * cols < 2 ^ 128 }
+    requires some { 0 < length powers.now }
+    requires one { F.same (slice_index_or powers.now 0 F.zero) F.one }
     ensures combined { OnOk result (AreCombined F.Ring FORWARD
         (λ p. slice_index_or powers.now (p / cols) F.zero) 0 (length powers.now * cols)
         low.old high.old low.new high.new) }
     ensures counted { OnOk result (work.new.butterflies ≡ work.old.butterflies + length powers.now * cols) }
     ensures bounded { AddsAtMost (2 * (length powers.now * cols)) work.old work.new }
 {
-    for i in 0..powers.len() {
-        combine_row::<F, FORWARD>(alloc, low, high, i * cols, cols, &powers[i], work)?;
+    combine_row::<F, FORWARD, true>(alloc, low, high, 0, cols, &powers[0], work)?;
+    for i in 1..powers.len() {
+        combine_row::<F, FORWARD, false>(alloc, low, high, i * cols, cols, &powers[i], work)?;
     }
     Ok(())
 }
 
-// Combines the cells of two halves of one column, cell i of each by power i.
+// Combines the cells of two halves of one column, cell i of each by power i. Power 0 is one.
 fn combine_column<F: FieldNTT, const FORWARD: bool>(
     alloc: Global,
     low: &mut [F],
@@ -95,19 +114,22 @@ fn combine_column<F: FieldNTT, const FORWARD: bool>(
     requires low { length low.old ≡ length powers.now }
     requires high { length high.old ≡ length powers.now }
     requires room { work.old.butterflies + length powers.now < 2 ^ 128 }
+    requires some { 0 < length powers.now }
+    requires one { F.same (slice_index_or powers.now 0 F.zero) F.one }
     ensures combined { OnOk result (AreCombined F.Ring FORWARD
         (λ p. slice_index_or powers.now p F.zero) 0 (length powers.now)
         low.old high.old low.new high.new) }
     ensures counted { OnOk result (work.new.butterflies ≡ work.old.butterflies + length powers.now) }
     ensures bounded { AddsAtMost (2 * length powers.now) work.old work.new }
 {
-    for p in 0..powers.len() {
-        combine::<F, FORWARD>(alloc, &mut low[p], &mut high[p], &powers[p], work)?;
+    combine::<F, FORWARD, true>(alloc, &mut low[0], &mut high[0], &powers[0], work)?;
+    for p in 1..powers.len() {
+        combine::<F, FORWARD, false>(alloc, &mut low[p], &mut high[p], &powers[p], work)?;
     }
     Ok(())
 }
 
-// Combines two halves, row i of each by power i. The loops count into a `Work` of their own, which is
+// Combines two halves, row i of each by power i, of which power 0 is one. The loops count into a `Work` of their own, which is
 // joined to the caller's at their end, refused or not, so that the additions can be summed.
 pub(super) fn combine_halves<F: FieldNTT, const FORWARD: bool>(
     alloc: Global,
@@ -120,6 +142,8 @@ pub(super) fn combine_halves<F: FieldNTT, const FORWARD: bool>(
     requires low { length low.old ≡ length powers.now * cols }
     requires high { length high.old ≡ length powers.now * cols }
     requires room { work.old.butterflies + length powers.now * cols < 2 ^ 128 }
+    requires some { 0 < length powers.now }
+    requires one { F.same (slice_index_or powers.now 0 F.zero) F.one }
     ensures combined { OnOk result (AreCombined F.Ring FORWARD
         (λ p. slice_index_or powers.now (p / cols) F.zero) 0 (length powers.now * cols)
         low.old high.old low.new high.new) }

@@ -1,6 +1,6 @@
-use Rattle.std.proofs.Common.{◌≡◌, ◌+◌, ◌-◌, ◌*◌, ◌^◌, ◌≤◌, ℕ, suc, length, ap, rules, arith}
+use Rattle.std.proofs.Common.{◌≡◌, ◌+◌, ◌-◌, ◌*◌, ◌^◌, ◌≤◌, ℕ, suc, length, ap, rules, pow_pos, arith}
 use Rattle.math_ntt.proofs.Members.{ring_members}
-use Rattle.math_ntt.proofs.Levels.{Halved, halved, adds-part, adds-then, powers-below, transformed_back-level}
+use Rattle.math_ntt.proofs.Levels.{Halved, halved, adds-part, adds-then, powers-below, powers-first, transformed_back-level}
 use Rattle.math_ntt.proofs.RootInverses.{inverse_square-same}
 use Rattle.math_ntt.proofs.ntt.transform.+untransform_halves.Goals as goal
 
@@ -80,6 +80,14 @@ combine_halves-requires-clause-room g t c =
     let lp : length c.split_at.result.1.now ≡ 2 ^ (c.args.lg - 1) = omega (arith, c.split_at.ensures.back_len, c.requires.table.count, h.powers, c.size_of-half.ensures) in
     let lpc : length c.split_at.result.1.now * c.args.cols ≡ 2 ^ (c.args.lg - 1) * c.args.cols = ap (λ n. n * c.args.cols) lp in
     omega (arith, h.count, c.requires.room)
+
+pub combine_halves-requires-clause-some : goal.combine_halves-requires-clause-some
+combine_halves-requires-clause-some g t c = omega (arith, c.split_at.ensures.back_len, c.requires.table.count, (halved c.args.lg c.args.cols c.if-lg-eq0.false).powers, c.size_of-half.ensures, pow_pos (c.args.lg - 1))
+
+pub combine_halves-requires-clause-one : goal.combine_halves-requires-clause-one
+combine_halves-requires-clause-one g t c =
+    let R = ring_members g.F.Multiplicative.product g.F.Debug.debug_output g.F.Object.same g.F.Object.NEVER_REFUSES g.F.Additive.zero g.F.Additive.sum g.F.Additive.negative g.F.Ring.one in
+    powers-first R (λ l. g.F.Field.inverse (g.F.FieldNTT.root l)) c.args.lg c.size_of-half.result c.args.table.now c.if-lg-eq0.false c.size_of-half.ensures c.requires.table c.split_at.result.1.now c.split_at.ensures.back
 
 pub returns-in_err-combine_halves-clause-bounded : goal.returns-in_err-combine_halves-clause-bounded
 returns-in_err-combine_halves-clause-bounded g t c =

@@ -1,23 +1,20 @@
-use Rattle.math_ntt.proofs.CombinedPairs.{combined-forward, combined-back}
-use Rattle.math_ntt.proofs.ntt.transform.butterflies.combine.Goals.{then-this-ne0+in_ok-mul_assign, else-this-ne0, then-not-this+in_ok-mul_assign-2, else-not-this}
+use Rattle.math_ntt.proofs.CombinedPairs.{combined-at_one, combined-forward, combined-back, true-from_number}
 use Rattle.math_ntt.proofs.ntt.transform.butterflies.combine.Goals as goal
 
-pub returns-clause-combined : goal.returns-clause-combined
-returns-clause-combined g c =
+pub returns-then-this-ne0-clause-combined : goal.returns-then-this-ne0-clause-combined
+returns-then-this-ne0-clause-combined g c =
     let F = g.met.F in
-    elim c.if-this-ne0.branch [
-      | then-this-ne0+in_ok-mul_assign w ↦ elim c.if-not-this.branch [
-        | then-not-this+in_ok-mul_assign-2 v ↦ absurd (w.if-this-ne0.true v.if-not-this.true)
-        | else-not-this v ↦
-            rw v.difference-is
-            (combined-forward _ _ w.if-this-ne0.true _ _ _ _ _ _ F.Object.equality F.Additive.group (rw w.high-is w.in_ok-mul_assign.ensures.ok)
-            _ c.in_ok-difference.ensures.ok c.in_ok-sub_assign.ensures.ok c.in_ok-add_assign.ensures.ok)
-      ]
-      | else-this-ne0 w ↦ elim c.if-not-this.branch [
-        | then-not-this+in_ok-mul_assign-2 v ↦
-            rw v.difference-is
-            (combined-back _ _ w.if-this-ne0.false _ _ _ _ _ _ F.Object.equality F.Additive.group F.Multiplicative.commutes
-            _ c.in_ok-difference.ensures.ok (rw w.high-is at c.in_ok-sub_assign.ensures.ok) v.in_ok-mul_assign-2.ensures.ok (rw w.high-is at c.in_ok-add_assign.ensures.ok))
-        | else-not-this v ↦ absurd (v.if-not-this.false w.if-this-ne0.false)
-      ]
-    ]
+    combined-at_one _ F.Object.equality F.Additive.group F.Multiplicative.commutes F.Ring.ring _ _ _ _ _ _ (c.requires.one (true-from_number _ c.if-this-ne0.true))
+    c.in_ok-sum_and_difference.ensures.sum c.in_ok-sum_and_difference.ensures.difference
+
+pub returns-in_ok-sum_and_difference-2-clause-combined : goal.returns-in_ok-sum_and_difference-2-clause-combined
+returns-in_ok-sum_and_difference-2-clause-combined g c =
+    let F = g.met.F in
+    combined-forward _ F.Object.equality F.Additive.group _ c.if-this-ne0-2.true _ _ _ _ _ _ c.in_ok-mul_assign.ensures.ok
+    c.in_ok-sum_and_difference-2.ensures.sum c.in_ok-sum_and_difference-2.ensures.difference
+
+pub returns-in_ok-mul_assign-2-clause-combined : goal.returns-in_ok-mul_assign-2-clause-combined
+returns-in_ok-mul_assign-2-clause-combined g c =
+    let F = g.met.F in
+    combined-back _ F.Object.equality F.Additive.group F.Multiplicative.commutes _ c.if-this-ne0-2.false _ _ _ _ _ _
+    c.in_ok-sum_and_difference-3.ensures.sum c.in_ok-sum_and_difference-3.ensures.difference c.in_ok-mul_assign-2.ensures.ok
