@@ -22,6 +22,7 @@ pub mod TransformedHalves
 pub mod Levels
 pub mod RootInverses
 pub mod ReversedRows
+pub mod SixteenRows
 pub mod DomainSteps
 pub mod DomainTransforms
 pub mod ScaledCells

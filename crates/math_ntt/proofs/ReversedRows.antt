@@ -85,7 +85,7 @@ module _ {A : Type 0} (count : ℕ) (other : ℕ → ℕ) (twice : (r : ℕ) →
   }
 
   module _ (new : ℕ → A) (above : i < other i) (within_other : other i < count) (first : new i ≡ now (other i)) (second : new (other i) ≡ now i)
-      (others : (r : ℕ) → r ≢ i → r ≢ other i → new r ≡ now r) where
+      (others : (r : ℕ) → r < count → r ≢ i → r ≢ other i → new r ≡ now r) where
     at-first : new i ≡ old (other i)
     at-first = first ∙ h.kept (other i) within_other (omega arith) (omega (arith, twice i within))
 
@@ -96,19 +96,19 @@ module _ {A : Type 0} (count : ℕ) (other : ℕ → ℕ) (twice : (r : ℕ) →
     pub reversed-exchanged : IsReversedBelow count other old new (i + 1)
     reversed-exchanged = record {
       moved = λ r m b. elim (cases_lt r i) [
-        | inl below ↦ others r (omega (arith, below)) (omega (arith, below)) ∙ h.moved r m below
+        | inl below ↦ others r m (omega (arith, below)) (omega (arith, below)) ∙ h.moved r m below
         | inr not_below ↦ let e : i ≡ r = omega (arith, not_below) in subst (λ x. new x ≡ old (other x)) e at-first
       ];
       moved_by = λ r m b. elim (cases_lt (other r) i) [
         | inl below ↦
-            others r (λ e. absurd (let f = ap other e in omega (arith, f, below))) (λ e. absurd (let f : other r ≡ i = ap other e ∙ twice i within in omega (arith, f, below)))
+            others r m (λ e. absurd (let f = ap other e in omega (arith, f, below))) (λ e. absurd (let f : other r ≡ i = ap other e ∙ twice i within in omega (arith, f, below)))
             ∙ h.moved_by r m below
         | inr not_below ↦
             let p : r ≡ other i = pair r m (let e : other r ≡ i = omega (arith, not_below) in e) in
             subst (λ x. new x ≡ old (other x)) (sym p) at-second
       ];
       kept = λ r m a b.
-          others r (λ e. absurd (omega (arith, e))) (λ e. absurd (let f : other r ≡ i = ap other e ∙ twice i within in omega (arith, f)))
+          others r m (λ e. absurd (omega (arith, e))) (λ e. absurd (let f : other r ≡ i = ap other e ∙ twice i within in omega (arith, f)))
           ∙ h.kept r m (omega arith) (omega arith);
     }
 

@@ -1,6 +1,6 @@
 //! Rows in bit-reversed order.
 
-ghost use Rattle.std.specs.Prelude.{◌≡◌, ◌≢◌, ◌+◌, ◌*◌, ◌<◌, ◌^◌, ℕ, length};
+ghost use Rattle.std.specs.Prelude.{◌≡◌, ◌≢◌, ◌+◌, ◌*◌, ◌/◌, ◌%◌, ◌<◌, ◌≤◌, ◌^◌, ℕ, length};
 ghost use Rattle.math_theory.specs.BitReversal.{bit_reversed};
 ghost use Rattle.math_ntt.specs.CombinedCells.{AreRowsReversed};
 ghost use Rattle.math_ntt.specs.DomainValues.{matrix_of};
@@ -48,9 +48,9 @@ fn swap_rows<F: Additive>(cells: &mut [F], rows: usize, cols: usize, i: usize, j
     }
 }
 
-// Puts 2^lg rows in bit-reversed order: each pair of rows whose numbers have each other's bits in the
-// opposite order is exchanged once.
-pub(super) fn reverse_rows<F: Additive>(cells: &mut [F], cols: usize, lg: u8)
+// Puts 2^lg rows in bit-reversed order, from the first to the last: each pair of rows whose numbers have
+// each other's bits in the opposite order is exchanged once.
+fn reverse_one_by_one<F: Additive>(cells: &mut [F], cols: usize, lg: u8)
     requires small { lg < 64 }
     requires size { length cells.old ≡ 2 ^ lg * cols }
     ensures { AreRowsReversed F.zero lg (matrix_of (2 ^ lg) cols cells.old) (matrix_of (2 ^ lg) cols cells.new) }
@@ -62,5 +62,63 @@ pub(super) fn reverse_rows<F: Additive>(cells: &mut [F], cols: usize, lg: u8)
             swap_rows(cells, rows, cols, i, j);
         }
         j = next_reversed(j, lg);
+    }
+}
+
+// Four bits in the opposite order.
+fn opposite_of_four(t: usize) -> usize
+    requires { t < 16 }
+    ensures { result ≡ bit_reversed 4 t }
+{
+    t % 2 * 8 + t / 2 % 2 * 4 + t / 4 % 2 * 2 + t / 8
+}
+
+// The row whose number has the bits of `middle`, before them the two higher bits of t, and after them its
+// two lower bits.
+fn row_around(quarter: usize, middle: usize, t: usize) -> usize
+    requires four { t < 16 }
+    requires middle { 4 * middle + 3 < quarter }
+    requires fits { 4 * quarter < 2 ^ 64 }
+    ensures { result ≡ t / 4 * quarter + (4 * middle + t % 4) }
+{
+    t / 4 * quarter + (4 * middle + t % 4)
+}
+
+// The same for 16 rows or more, sixteen at a time: those whose numbers have the same bits, but for the two
+// highest and the two lowest. They lie in four places by four, and so do the rows with which they are
+// exchanged, so that few pieces of memory are used at a time.
+fn reverse_by_sixteens<F: Additive>(cells: &mut [F], cols: usize, lg: u8)
+    requires many { 4 ≤ lg }
+    requires small { lg < 64 }
+    requires size { length cells.old ≡ 2 ^ lg * cols }
+    ensures { AreRowsReversed F.zero lg (matrix_of (2 ^ lg) cols cells.old) (matrix_of (2 ^ lg) cols cells.new) }
+{
+    let rows = size_of(lg);
+    let quarter = size_of(lg - 2);
+    let middles = size_of(lg - 4);
+    let mut other = 0;
+    for middle in 0..middles {
+        for t in 0..16 {
+            let u = opposite_of_four(t);
+            if 16 * middle + t < 16 * other + u {
+                let i = row_around(quarter, middle, t);
+                let j = row_around(quarter, other, u);
+                swap_rows(cells, rows, cols, i, j);
+            }
+        }
+        other = next_reversed(other, lg - 4);
+    }
+}
+
+// Puts 2^lg rows in bit-reversed order.
+pub(super) fn reverse_rows<F: Additive>(cells: &mut [F], cols: usize, lg: u8)
+    requires small { lg < 64 }
+    requires size { length cells.old ≡ 2 ^ lg * cols }
+    ensures { AreRowsReversed F.zero lg (matrix_of (2 ^ lg) cols cells.old) (matrix_of (2 ^ lg) cols cells.new) }
+{
+    if lg < 4 {
+        reverse_one_by_one(cells, cols, lg);
+    } else {
+        reverse_by_sixteens(cells, cols, lg);
     }
 }

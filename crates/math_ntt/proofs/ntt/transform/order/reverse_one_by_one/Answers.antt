@@ -2,8 +2,8 @@ use Rattle.std.proofs.Common.{◌≡◌, ◌∙◌, ◌<◌, ◌^◌, refl, sym,
 use Rattle.math_theory.specs.BitReversal.{bit_reversed}
 use Rattle.math_theory.proofs.transforms.BitOrder.{bit_reversed-below, bit_reversed-twice}
 use Rattle.math_ntt.proofs.ReversedRows.{reversed-zero, reversed-stayed, reversed-exchanged}
-use Rattle.math_ntt.proofs.ntt.transform.order.reverse_rows.Goals.{then-i-j, else-i-j}
-use Rattle.math_ntt.proofs.ntt.transform.order.reverse_rows.Goals as goal
+use Rattle.math_ntt.proofs.ntt.transform.order.reverse_one_by_one.Goals.{then-i-j, else-i-j}
+use Rattle.math_ntt.proofs.ntt.transform.order.reverse_one_by_one.Goals as goal
 
 pub loop-i-init : goal.loop-i-init
 loop-i-init g c = record {
@@ -27,7 +27,7 @@ loop-i-preserved g c =
             (reversed-exchanged _ _ twice _ _ c.loop-i.i within (h.rows k l) _
             (rw other at w.if-i-j.true) (bit_reversed-below c.args.lg c.loop-i.i)
             (rw other at (w.swap_rows.ensures.first k l)) (rw other at (w.swap_rows.ensures.second k l))
-            (λ r a b. w.swap_rows.ensures.others r k a (λ e. b (e ∙ other)) l))
+            (λ r m a b. w.swap_rows.ensures.others r k a (λ e. b (e ∙ other)) l))
         | else-i-j w ↦ rw w.cells-is (reversed-stayed _ _ twice _ _ c.loop-i.i within (h.rows k l) (rw other at w.if-i-j.false))
       ];
     }

@@ -3,7 +3,7 @@ use Rattle.math_theory.specs.BitReversal.{bit_reversed}
 use Rattle.math_ntt.specs.DomainValues.{matrix_of}
 use Rattle.math_ntt.specs.Matrices.{cell_of}
 use Rattle.math_ntt.proofs.ReversedRows.{IsReversedBelow}
-use Rattle.math_ntt.proofs.ntt.transform.order.reverse_rows.Given as goal
+use Rattle.math_ntt.proofs.ntt.transform.order.reverse_one_by_one.Given as goal
 
 -- j has the bits of i in the opposite order, and in each column the rows so far have their places
 abbrev pub invariant-loop-i : goal.invariant-loop-i
