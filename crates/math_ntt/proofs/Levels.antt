@@ -1,11 +1,12 @@
 -- One level of a transform: the sizes of its halves, what it counts, its powers, and its cells.
-use Rattle.std.proofs.Common.{◌≡◌, ◌≢◌, ◌∙◌, ℕ, suc, ◌+◌, ◌-◌, ◌*◌, ◌/◌, ◌^◌, ◌<◌, ◌≤◌, true, false, List, ◌++◌, length, take, drop, get_or, sym, ap, subst, inl, inr, w64, arith}
+use Rattle.std.proofs.Common.{◌≡◌, ◌≢◌, ◌∙◌, Bool, ℕ, suc, ◌+◌, ◌-◌, ◌*◌, ◌/◌, ◌^◌, ◌<◌, ◌≤◌, true, false, List, [], ◌∷◌, ◌++◌, length, take, drop, get_or, sym, ap, refl, subst, inl, inr, w64, length-drop, arith}
+use Rattle.std.specs.List.{AllZip}
 use Rattle.std.specs.Int.{trailing_zeros, bit_at}
 use Rattle.std.proofs.Math.Pow.{pow_mono}
 use Rattle.std.proofs.lemmas.Bool.{cases_lt}
 use Rattle.std.proofs.lemmas.Nat.{pow_pos}
 use Rattle.std.proofs.lemmas.Nat.Bits.{bit_at-trailing_zeros, bit_at-pow_other}
-use Rattle.std.proofs.lemmas.List.{length-take-le, get_or-take, get_or-drop}
+use Rattle.std.proofs.lemmas.List.{length-take-le, get_or-take, get_or-drop, take-append-drop}
 use Rattle.math_theory.specs.Laws.{IsEquality, IsGroup, IsProduct, IsRing}
 use Rattle.math_theory.specs.Powers.{power, power-zero}
 use Rattle.math_theory.proofs.domains.RootOrders.{power_of_two-suc}
@@ -13,6 +14,8 @@ use Rattle.math_base.specs.Members.{RingOf}
 use Rattle.math_ntt.specs.CombinedCells.{AreCombined, AreTransformed, AreTransformedBack}
 use Rattle.math_ntt.specs.CountedWork.{WorkOf, AddsAtMost}
 use Rattle.math_ntt.specs.DomainValues.{matrix_of, ArePowersByLevel}
+use Rattle.math_ntt.specs.Matrices.{column_of}
+use Rattle.math_ntt.proofs.CombinedPairs.{combined-by}
 use Rattle.math_ntt.proofs.TransformedHalves.{transformed-halves, transformed_back-halves}
 
 -- the lowest bit of a power of two that is set
@@ -113,3 +116,72 @@ module _ {A : Type 0} (R : RingOf A) (E : IsEquality R.same) (G : IsGroup R.same
       subst (λ m. AreTransformedBack R m (root m) (matrix_of (2 ^ m) c cells) (matrix_of (2 ^ m) c (new_low ++ new_high))) (halved lg c positive).positive
       (transformed_back-halves R E G P L (lg - 1) c (root (suc (lg - 1))) (root (lg - 1)) square powers (powers-level R root lg half table positive half_is t powers powers_is)
       cells mid_low mid_high new_low new_high up a b d (rw (lows_are, highs_are, at_half, at_level) at h) first second)
+
+each_same : {A : Type 0} (same : A → A → Type 0) → IsEquality same → (items : List A) → AllZip same items items
+each_same same E [] = _
+each_same same E (a ∷ items) = (E.reflexive a, each_same same E items)
+
+-- one column of two cells, whose power is one
+module _ {A : Type 0} (R : RingOf A) (root : ℕ → A) (lg : ℕ) (table : List A) (one : lg ≡ 1) (t : ArePowersByLevel R root lg table) (power_one : A) (at : power_one ≡ get_or table 1 R.zero) where
+  level_one : lg ≢ 0
+  level_one e = absurd (omega (arith, one, e))
+
+  half_one : 1 ≡ 2 ^ (lg - 1)
+  half_one = rw one refl
+
+  power_at : get_or (drop 1 table) 0 R.zero ≡ power_one
+  power_at = get_or-drop 1 table 0 R.zero ∙ sym at
+
+  pub pair-one : R.same power_one R.one
+  pair-one = rw power_at at (powers-first R root lg 1 table level_one half_one t (drop 1 table) refl)
+
+  factors : (p : ℕ) → 0 ≤ p → p < 1 → power_one ≡ get_or (drop 1 table) (p / 1) R.zero
+  factors p l m = let z : p / 1 ≡ 0 = omega (arith, m) in rw z (sym power_at)
+
+  count : length (drop 1 table) ≡ 1
+  count = omega (arith, t.count, ap (λ n. 2 ^ n) one, length-drop 1 table)
+
+  module _ (E : IsEquality R.same) (G : IsGroup R.same R.zero R.sum R.negative) (P : IsProduct R.same R.product) (L : IsRing R.same R.sum R.product R.one)
+      (square : R.same (R.product (root 1) (root 1)) (root 0)) (cells new : List A) (size : length cells ≡ 2) (new_size : length new ≡ 2) where
+    below_square : R.same (R.product (root (suc (lg - 1))) (root (suc (lg - 1)))) (root (lg - 1))
+    below_square = rw one square
+
+    rows : 1 ≡ 2 ^ (lg - 1) * 1
+    rows = rw one refl
+
+    first_half : (items : List A) → length items ≡ 2 → length (take 1 items) ≡ 2 ^ (lg - 1) * 1
+    first_half items e = length-take-le 1 items (omega (arith, e)) ∙ rows
+
+    second_half : (items : List A) → length items ≡ 2 → length (drop 1 items) ≡ 2 ^ (lg - 1) * 1
+    second_half items e = let l : length (drop 1 items) ≡ 1 = omega (arith, length-drop 1 items, e) in l ∙ rows
+
+    combined_all : (forward : Bool) → AreCombined R forward (λ _. power_one) 0 1 (take 1 cells) (drop 1 cells) (take 1 new) (drop 1 new)
+        → AreCombined R forward (λ p. get_or (drop 1 table) (p / 1) R.zero) 0 (length (drop 1 table) * 1) (take 1 cells) (drop 1 cells) (take 1 new) (drop 1 new)
+    combined_all forward h =
+        let all : length (drop 1 table) * 1 ≡ 1 = omega (arith, count) in
+        rw all (combined-by R forward _ _ 0 1 _ _ _ _ factors h)
+
+    whole : take 1 new ++ drop 1 new ≡ new
+    whole = take-append-drop 1 new
+
+    as_is : (items : List A) → AreTransformed R (lg - 1) (root (lg - 1)) (matrix_of (2 ^ (lg - 1)) 1 items) (matrix_of (2 ^ (lg - 1)) 1 items)
+    as_is items = rw one (λ k l. each_same R.same E (column_of R.zero (matrix_of 1 1 items) k))
+
+    as_is_back : (items : List A) → AreTransformedBack R (lg - 1) (root (lg - 1)) (matrix_of (2 ^ (lg - 1)) 1 items) (matrix_of (2 ^ (lg - 1)) 1 items)
+    as_is_back items = rw one (λ k l. each_same R.same E (column_of R.zero (matrix_of 1 1 items) k))
+
+    pub pair-transformed : AreCombined R true (λ _. power_one) 0 1 (take 1 cells) (drop 1 cells) (take 1 new) (drop 1 new)
+        → AreTransformed R lg (root lg) (matrix_of (2 ^ lg) 1 cells) (matrix_of (2 ^ lg) 1 new)
+    pair-transformed h =
+        rw whole at
+        (transformed-level R E G P L root lg 1 1 table (drop 1 table) cells level_one half_one below_square t refl (omega (arith, count, t.count, ap (λ n. 2 ^ n) one))
+        (take 1 cells) (drop 1 cells) refl refl (take 1 cells) (drop 1 cells) (take 1 new) (drop 1 new)
+        (first_half cells size) (second_half cells size) (first_half new new_size) (second_half new new_size) (as_is (take 1 cells)) (as_is (drop 1 cells)) (combined_all true h))
+
+    pub pair-transformed_back : AreCombined R false (λ _. power_one) 0 1 (take 1 cells) (drop 1 cells) (take 1 new) (drop 1 new)
+        → AreTransformedBack R lg (root lg) (matrix_of (2 ^ lg) 1 cells) (matrix_of (2 ^ lg) 1 new)
+    pair-transformed_back h =
+        rw whole at
+        (transformed_back-level R E G P L root lg 1 1 table (drop 1 table) cells level_one half_one below_square t refl (omega (arith, count, t.count, ap (λ n. 2 ^ n) one))
+        (take 1 cells) (drop 1 cells) refl refl (take 1 new) (drop 1 new) (take 1 new) (drop 1 new) (size ∙ ap (λ n. 2 ^ n * 1) (sym one))
+        (first_half new new_size) (second_half new new_size) (first_half new new_size) (combined_all false h) (as_is_back (take 1 new)) (as_is_back (drop 1 new)))

@@ -26,7 +26,7 @@ mod order;
 mod table;
 
 use super::work::Work;
-use butterflies::combine_halves;
+use butterflies::{combine_halves, combine_pair};
 use math_base::algebra::{Field, FieldNTT, Mem, Multiplicative, Object, Ring};
 use order::reverse_rows;
 use std::alloc::Global;
@@ -153,6 +153,10 @@ fn transform_halves<F: FieldNTT>(
     if lg == 0 {
         return Ok(());
     }
+    if lg == 1 && cols == 1 {
+        combine_pair::<F, true>(alloc, cells, &table[1], work)?;
+        return Ok(());
+    }
     let half = size_of(lg - 1);
     let (low, high) = cells.split_at_mut(half * cols);
     let (below, powers) = table.split_at(half);
@@ -183,6 +187,10 @@ fn untransform_halves<F: FieldNTT>(
     ensures bounded { AddsAtMost (cols * 2 ^ lg * lg) work.old work.new }
 {
     if lg == 0 {
+        return Ok(());
+    }
+    if lg == 1 && cols == 1 {
+        combine_pair::<F, false>(alloc, cells, &table[1], work)?;
         return Ok(());
     }
     let half = size_of(lg - 1);

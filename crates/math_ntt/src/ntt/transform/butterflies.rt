@@ -1,6 +1,6 @@
 //! Butterflies: the cells of two halves combined pair by pair.
 
-ghost use Rattle.std.specs.Prelude.{◌≡◌, ◌+◌, ◌*◌, ◌/◌, ◌<◌, ◌≤◌, ◌^◌, IsTrue, OnOk, length, slice_index_or};
+ghost use Rattle.std.specs.Prelude.{◌≡◌, ◌+◌, ◌*◌, ◌/◌, ◌<◌, ◌≤◌, ◌^◌, IsTrue, OnOk, length, take, drop, slice_index_or};
 ghost use Rattle.math_ntt.specs.CombinedCells.{IsCombined, AreCombined};
 ghost use Rattle.math_ntt.specs.CountedWork.{AddsAtMost};
 
@@ -126,6 +126,26 @@ fn combine_column<F: FieldNTT, const FORWARD: bool>(
     for p in 1..powers.len() {
         combine::<F, FORWARD, false>(alloc, &mut low[p], &mut high[p], &powers[p], work)?;
     }
+    Ok(())
+}
+
+// Combines the two cells of one column of two rows, whose power is one.
+pub(super) fn combine_pair<F: FieldNTT, const FORWARD: bool>(
+    alloc: Global,
+    cells: &mut [F],
+    one: &F,
+    work: &mut Work,
+) -> Mem<()>
+    requires size { length cells.old ≡ 2 }
+    requires one { F.same one.now F.one }
+    requires room { work.old.butterflies + 1 < 2 ^ 128 }
+    ensures combined { OnOk result (AreCombined F.Ring FORWARD (λ _. one.now) 0 1
+        (take 1 cells.old) (drop 1 cells.old) (take 1 cells.new) (drop 1 cells.new)) }
+    ensures counted { work.new.butterflies ≡ work.old.butterflies + 1 }
+    ensures root_products { work.new.root_products ≡ work.old.root_products }
+{
+    let (low, high) = cells.split_at_mut(1);
+    combine::<F, FORWARD, true>(alloc, &mut low[0], &mut high[0], one, work)?;
     Ok(())
 }
 

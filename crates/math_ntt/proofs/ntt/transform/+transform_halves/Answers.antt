@@ -1,7 +1,40 @@
-use Rattle.std.proofs.Common.{◌≡◌, ◌+◌, ◌-◌, ◌*◌, ◌^◌, length, ap, rules, pow_pos, arith}
+use Rattle.std.proofs.Common.{◌≡◌, ◌∙◌, ◌+◌, ◌-◌, ◌*◌, ◌^◌, length, ap, ap₂, rules, pow_pos, arith}
+use Rattle.std.proofs.lemmas.List.{get_or_default}
 use Rattle.math_ntt.proofs.Members.{ring_members}
-use Rattle.math_ntt.proofs.Levels.{Halved, halved, adds-part, adds-then, powers-below, powers-first, transformed-level}
+use Rattle.math_ntt.proofs.Levels.{Halved, halved, adds-part, adds-then, powers-below, powers-first, pair-one, pair-transformed, transformed-level}
 use Rattle.math_ntt.proofs.ntt.transform.+transform_halves.Goals as goal
+
+pub combine_pair-requires-clause-one : goal.combine_pair-requires-clause-one
+combine_pair-requires-clause-one g t c =
+    let R = ring_members g.F.Multiplicative.product g.F.Debug.debug_output g.F.Object.same g.F.Object.NEVER_REFUSES g.F.Additive.zero g.F.Additive.sum g.F.Additive.negative g.F.Ring.one in
+    pair-one R g.F.FieldNTT.root c.args.lg c.args.table.now c.if-lg-eq1.true c.requires.table c.index-table-1.result
+    (c.index-table-1.is ∙ get_or_default c.args.table.now 1 c.index-table-1.result g.F.Additive.zero (omega (arith, c.requires.table.count, ap (λ n. 2 ^ n) c.if-lg-eq1.true)))
+
+pub returns-then-cols-eq1-clause-values : goal.returns-then-cols-eq1-clause-values
+returns-then-cols-eq1-clause-values g t c =
+    let R = ring_members g.F.Multiplicative.product g.F.Debug.debug_output g.F.Object.same g.F.Object.NEVER_REFUSES g.F.Additive.zero g.F.Additive.sum g.F.Additive.negative g.F.Ring.one in
+    let F = g.met.F in
+    let size : length c.args.cells.now ≡ 2 = c.requires.size ∙ ap₂ (λ n m. 2 ^ n * m) c.if-lg-eq1.true c.if-cols-eq1.true in
+    rw c.if-cols-eq1.true
+    (pair-transformed R g.F.FieldNTT.root c.args.lg c.args.table.now c.if-lg-eq1.true c.requires.table c.index-table-1.result
+    (c.index-table-1.is ∙ get_or_default c.args.table.now 1 c.index-table-1.result g.F.Additive.zero (omega (arith, c.requires.table.count, ap (λ n. 2 ^ n) c.if-lg-eq1.true)))
+    F.Object.equality F.Additive.group F.Multiplicative.commutes F.Ring.ring (F.FieldNTT.roots.square 0 (omega arith))
+    c.args.cells.now c.combine_pair.new.cells size (omega (arith, c.combine_pair.auto.cells, size)) c.in_ok-combine_pair.ensures.combined)
+
+pub overflow_mul-half : goal.overflow_mul-half
+overflow_mul-half g t c =
+    let h : Halved c.args.lg c.args.cols = halved c.args.lg c.args.cols c.if-lg-eq0.false in
+    let hc : c.size_of-half.result * c.args.cols ≡ 2 ^ (c.args.lg - 1) * c.args.cols = ap (λ n. n * c.args.cols) c.size_of-half.ensures in
+    search rules
+
+pub split_at_mut-low-requires : goal.split_at_mut-low-requires
+split_at_mut-low-requires g t c =
+    let h : Halved c.args.lg c.args.cols = halved c.args.lg c.args.cols c.if-lg-eq0.false in
+    let hc : c.size_of-half.result * c.args.cols ≡ 2 ^ (c.args.lg - 1) * c.args.cols = ap (λ n. n * c.args.cols) c.size_of-half.ensures in
+    omega (arith, hc, h.cells, c.requires.size)
+
+pub split_at-requires : goal.split_at-requires
+split_at-requires g t c = omega (arith, c.size_of-half.ensures, (halved c.args.lg c.args.cols c.if-lg-eq0.false).powers, c.requires.table.count)
 
 pub transform_halves-requires : goal.transform_halves-requires
 transform_halves-requires g t c κs within =

@@ -1,8 +1,45 @@
-use Rattle.std.proofs.Common.{◌≡◌, ◌+◌, ◌-◌, ◌*◌, ◌^◌, ◌≤◌, ℕ, suc, length, ap, rules, pow_pos, arith}
+use Rattle.std.proofs.Common.{◌≡◌, ◌∙◌, ◌+◌, ◌-◌, ◌*◌, ◌^◌, ◌≤◌, ℕ, suc, length, ap, ap₂, rules, pow_pos, arith}
+use Rattle.std.proofs.lemmas.List.{get_or_default}
 use Rattle.math_ntt.proofs.Members.{ring_members}
-use Rattle.math_ntt.proofs.Levels.{Halved, halved, adds-part, adds-then, powers-below, powers-first, transformed_back-level}
+use Rattle.math_ntt.proofs.Levels.{Halved, halved, adds-part, adds-then, powers-below, powers-first, pair-one, pair-transformed_back, transformed_back-level}
 use Rattle.math_ntt.proofs.RootInverses.{inverse_square-same}
 use Rattle.math_ntt.proofs.ntt.transform.+untransform_halves.Goals as goal
+
+pub combine_pair-requires-clause-one : goal.combine_pair-requires-clause-one
+combine_pair-requires-clause-one g t c =
+    let R = ring_members g.F.Multiplicative.product g.F.Debug.debug_output g.F.Object.same g.F.Object.NEVER_REFUSES g.F.Additive.zero g.F.Additive.sum g.F.Additive.negative g.F.Ring.one in
+    pair-one R (λ l. g.F.Field.inverse (g.F.FieldNTT.root l)) c.args.lg c.args.table.now c.if-lg-eq1.true c.requires.table c.index-table-1.result
+    (c.index-table-1.is ∙ get_or_default c.args.table.now 1 c.index-table-1.result g.F.Additive.zero (omega (arith, c.requires.table.count, ap (λ n. 2 ^ n) c.if-lg-eq1.true)))
+
+pub returns-then-cols-eq1-clause-values : goal.returns-then-cols-eq1-clause-values
+returns-then-cols-eq1-clause-values g t c =
+    let R = ring_members g.F.Multiplicative.product g.F.Debug.debug_output g.F.Object.same g.F.Object.NEVER_REFUSES g.F.Additive.zero g.F.Additive.sum g.F.Additive.negative g.F.Ring.one in
+    let F = g.met.F in
+    let root : ℕ → g.row.F.Denot = (λ l. g.F.Field.inverse (g.F.FieldNTT.root l)) in
+    let up : 1 ≤ g.F.FieldNTT.MAX_LG_ROOT_ORDER = omega arith in
+    let square = inverse_square-same F.Object.equality F.Additive.group F.Multiplicative.commutes F.Ring.ring F.Field.field _ _ _ _
+    (F.FieldNTT.roots.order 1 up) (F.FieldNTT.roots.order 0 (omega (arith, up))) (F.FieldNTT.roots.square 0 (omega (arith, up))) in
+    let size : length c.args.cells.now ≡ 2 = c.requires.size ∙ ap₂ (λ n m. 2 ^ n * m) c.if-lg-eq1.true c.if-cols-eq1.true in
+    rw c.if-cols-eq1.true
+    (pair-transformed_back R root c.args.lg c.args.table.now c.if-lg-eq1.true c.requires.table c.index-table-1.result
+    (c.index-table-1.is ∙ get_or_default c.args.table.now 1 c.index-table-1.result g.F.Additive.zero (omega (arith, c.requires.table.count, ap (λ n. 2 ^ n) c.if-lg-eq1.true)))
+    F.Object.equality F.Additive.group F.Multiplicative.commutes F.Ring.ring square
+    c.args.cells.now c.combine_pair.new.cells size (omega (arith, c.combine_pair.auto.cells, size)) c.in_ok-combine_pair.ensures.combined)
+
+pub overflow_mul-half : goal.overflow_mul-half
+overflow_mul-half g t c =
+    let h : Halved c.args.lg c.args.cols = halved c.args.lg c.args.cols c.if-lg-eq0.false in
+    let hc : c.size_of-half.result * c.args.cols ≡ 2 ^ (c.args.lg - 1) * c.args.cols = ap (λ n. n * c.args.cols) c.size_of-half.ensures in
+    search rules
+
+pub split_at_mut-low-requires : goal.split_at_mut-low-requires
+split_at_mut-low-requires g t c =
+    let h : Halved c.args.lg c.args.cols = halved c.args.lg c.args.cols c.if-lg-eq0.false in
+    let hc : c.size_of-half.result * c.args.cols ≡ 2 ^ (c.args.lg - 1) * c.args.cols = ap (λ n. n * c.args.cols) c.size_of-half.ensures in
+    omega (arith, hc, h.cells, c.requires.size)
+
+pub split_at-requires : goal.split_at-requires
+split_at-requires g t c = omega (arith, c.size_of-half.ensures, (halved c.args.lg c.args.cols c.if-lg-eq0.false).powers, c.requires.table.count)
 
 pub untransform_halves-requires : goal.untransform_halves-requires
 untransform_halves-requires g t c κs within =
