@@ -41,7 +41,7 @@ module _ {A : Type 0} (R : RingOf A) where
           → IsCombined R forward w a b s d
       combined-at_one L forward w a b d s h t v =
           let times : (c : A) → R.same c (R.product c w) = λ c.
-              E.symmetric _ _ (E.transitive _ _ _ (P.respects c c w R.one (E.reflexive c) h) (E.transitive _ _ _ (P.commutative c R.one) (L.identity c))) in
+          E.symmetric _ _ (E.transitive _ _ _ (P.respects c c w R.one (E.reflexive c) h) (E.transitive _ _ _ (P.commutative c R.one) (L.identity c))) in
           elim forward as (λ f. IsCombined R f w a b s d) [
             | true ↦ record {
               sum = E.transitive _ _ _ t (G.respects_sum _ _ _ _ (E.reflexive a) (times b));

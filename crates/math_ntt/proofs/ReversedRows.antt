@@ -147,3 +147,15 @@ module _ {A : Type 0} (d : A) (c i j : ℕ) (old : List A) where
     ];
     kept = λ p a b. others p (a n (omega arith)) (b n (omega arith)) ∙ h.kept p (λ q m. a q (omega (arith, m))) (λ q m. b q (omega (arith, m)));
   }
+
+  -- once all cells of both are exchanged, the rows are, and no other row is changed
+  pub exchanged-rows : (new : List A) → i ≢ j → AreExchangedBelow d c i j old new c → record {
+    first : (k : ℕ) → k < c → get_or new (i * c + k) d ≡ get_or old (j * c + k) d;
+    second : (k : ℕ) → k < c → get_or new (j * c + k) d ≡ get_or old (i * c + k) d;
+    others : (r k : ℕ) → r ≢ i → r ≢ j → k < c → get_or new (r * c + k) d ≡ get_or old (r * c + k) d;
+  }
+  exchanged-rows new apart h = record {
+    first = h.first;
+    second = h.second;
+    others = λ r k a b l. h.kept (r * c + k) (λ q m. places-apart r i c k q l m a) (λ q m. places-apart r j c k q l m b);
+  }

@@ -205,8 +205,20 @@ module _ (lg middle other t u quarter : ℕ) (many : 4 ≤ lg) (quarter_is : qua
         reversed-exchanged _ _ (partner-twice (lg - 4)) _ _ visit visit-below h (λ n. new (row_at (lg - 4) n)) (omega (arith, l, partner-is)) (partner-below (lg - 4) visit)
         (rw (here-is, there-is) first) (rw (here-is, there-is) second)
         (λ n m a b.
-            others (row_at (lg - 4) n) (λ e. a (same_turn n visit m visit-below (e ∙ sym here-is)))
-            (λ e. b (same_turn n (partner (lg - 4) visit) m (partner-below (lg - 4) visit) (e ∙ sym there-is))))
+        others (row_at (lg - 4) n) (λ e. a (same_turn n visit m visit-below (e ∙ sym here-is)))
+        (λ e. b (same_turn n (partner (lg - 4) visit) m (partner-below (lg - 4) visit) (e ∙ sym there-is))))
+
+-- no row around the middle has to move where the other middle came before it
+pub turns-stayed : {A : Type 0} (lg middle other : ℕ) → 4 ≤ lg → middle < 2 ^ (lg - 4) → other ≡ bit_reversed (lg - 4) middle → other < middle → (old now : ℕ → A)
+    → IsReversedBelow (16 * 2 ^ (lg - 4)) (partner (lg - 4)) (λ n. old (row_at (lg - 4) n)) (λ n. now (row_at (lg - 4) n)) (16 * middle)
+    → (m : ℕ) → m ≤ 16 → IsReversedBelow (16 * 2 ^ (lg - 4)) (partner (lg - 4)) (λ n. old (row_at (lg - 4) n)) (λ n. now (row_at (lg - 4) n)) (16 * middle + m)
+turns-stayed lg middle other many within other_is before old now h zero l = let e : 16 * middle + 0 ≡ 16 * middle = omega arith in rw e h
+turns-stayed lg middle other many within other_is before old now h (suc m) l =
+    let next : 16 * middle + suc m ≡ 16 * middle + m + 1 = omega arith in
+    let few : bit_reversed 4 m < 16 = bit_reversed-below 4 m in
+    rw next
+    (turn-stayed lg middle other m (bit_reversed 4 m) (2 ^ (lg - 2)) many refl within (omega (arith, l)) other_is refl old now
+    (turns-stayed lg middle other many within other_is before old now h m (omega (arith, l))) (omega (arith, before, few)))
 
 -- once all turns are over, each row has its place
 pub turns-over : {A : Type 0} (lg : ℕ) → 4 ≤ lg → (old new : ℕ → A)

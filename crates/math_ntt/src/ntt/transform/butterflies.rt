@@ -1,4 +1,7 @@
 //! Butterflies: the cells of two halves combined pair by pair.
+//!
+//! Power 0 of each root is one, so the first pair of two halves takes no product: in all levels together
+//! these are N - 1 of the N lg / 2 pairs of a column.
 
 ghost use Rattle.std.specs.Prelude.{◌≡◌, ◌+◌, ◌*◌, ◌/◌, ◌<◌, ◌≤◌, ◌^◌, IsTrue, OnOk, length, take, drop, slice_index_or};
 ghost use Rattle.math_ntt.specs.CombinedCells.{IsCombined, AreCombined};
@@ -149,8 +152,9 @@ pub(super) fn combine_pair<F: FieldNTT, const FORWARD: bool>(
     Ok(())
 }
 
-// Combines two halves, row i of each by power i, of which power 0 is one. The loops count into a `Work` of their own, which is
-// joined to the caller's at their end, refused or not, so that the additions can be summed.
+// Combines two halves, row i of each by power i, of which power 0 is one. The loops count into a `Work` of
+// their own, which is joined to the caller's at their end, refused or not, so that the additions can be
+// summed.
 pub(super) fn combine_halves<F: FieldNTT, const FORWARD: bool>(
     alloc: Global,
     low: &mut [F],

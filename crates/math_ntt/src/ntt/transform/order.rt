@@ -43,6 +43,10 @@ fn swap_rows<F: Additive>(cells: &mut [F], rows: usize, cols: usize, i: usize, j
     ensures others { (r k : ℕ) → r ≢ i → r ≢ j → k < cols
         → cell_of F.zero (matrix_of rows cols cells.new) r k ≡ cell_of F.zero (matrix_of rows cols cells.old) r k }
 {
+    if cols == 1 {
+        cells.swap(i, j);
+        return;
+    }
     for k in 0..cols {
         cells.swap(i * cols + k, j * cols + k);
     }
@@ -98,12 +102,14 @@ fn reverse_by_sixteens<F: Additive>(cells: &mut [F], cols: usize, lg: u8)
     let middles = size_of(lg - 4);
     let mut other = 0;
     for middle in 0..middles {
-        for t in 0..16 {
-            let u = opposite_of_four(t);
-            if 16 * middle + t < 16 * other + u {
-                let i = row_around(quarter, middle, t);
-                let j = row_around(quarter, other, u);
-                swap_rows(cells, rows, cols, i, j);
+        if middle <= other {
+            for t in 0..16 {
+                let u = opposite_of_four(t);
+                if 16 * middle + t < 16 * other + u {
+                    let i = row_around(quarter, middle, t);
+                    let j = row_around(quarter, other, u);
+                    swap_rows(cells, rows, cols, i, j);
+                }
             }
         }
         other = next_reversed(other, lg - 4);

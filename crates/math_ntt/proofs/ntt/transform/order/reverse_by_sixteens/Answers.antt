@@ -1,11 +1,11 @@
-use Rattle.std.proofs.Common.{◌≡◌, ◌+◌, ◌-◌, ◌*◌, ◌<◌, ◌≤◌, ◌^◌, refl, sym, ap, pow_mono, pow_pos, arith}
+use Rattle.std.proofs.Common.{◌≡◌, ◌+◌, ◌-◌, ◌*◌, ◌<◌, ◌≤◌, ◌^◌, refl, sym, pow_mono, pow_pos, arith}
 use Rattle.math_theory.specs.BitReversal.{bit_reversed}
 use Rattle.math_theory.proofs.transforms.BitOrder.{bit_reversed-below}
 use Rattle.math_ntt.specs.DomainValues.{matrix_of}
 use Rattle.math_ntt.specs.Matrices.{cell_of}
 use Rattle.math_ntt.proofs.ReversedRows.{reversed-zero}
-use Rattle.math_ntt.proofs.SixteenRows.{sixteens, opposite-few, here-below, there-below, here-apart, turn-stayed, turn-exchanged, turns-over}
-use Rattle.math_ntt.proofs.ntt.transform.order.reverse_by_sixteens.Goals.{then-middle-t, else-middle-t}
+use Rattle.math_ntt.proofs.SixteenRows.{sixteens, here-below, there-below, here-apart, turn-stayed, turn-exchanged, turns-stayed, turns-over}
+use Rattle.math_ntt.proofs.ntt.transform.order.reverse_by_sixteens.Goals.{then-middle-t, else-middle-t, then-middle-other+else-loop-t-test, else-middle-other}
 use Rattle.math_ntt.proofs.ntt.transform.order.reverse_by_sixteens.Goals as goal
 
 pub loop-middle-init : goal.loop-middle-init
@@ -57,16 +57,24 @@ row_around-j-requires-clause-fits g c =
 pub swap_rows-requires-clause-first : goal.swap_rows-requires-clause-first
 swap_rows-requires-clause-first g c =
     let within : c.loop-middle.middle < 2 ^ (c.args.lg - 4) = omega (arith, c.size_of-middles.ensures) in
-    omega (arith, c.size_of-rows.ensures, c.row_around-i.ensures,
-    here-below c.args.lg c.loop-middle.middle c.loop-middle.other c.loop-t.t c.opposite_of_four-u.result c.size_of-quarter.result c.requires.many c.size_of-quarter.ensures within
-    c.loop-t-test.true (c.loop-middle.invariant.reversed within) c.opposite_of_four-u.ensures)
+    omega (
+      arith,
+      c.size_of-rows.ensures,
+      c.row_around-i.ensures,
+      here-below c.args.lg c.loop-middle.middle c.loop-middle.other c.loop-t.t c.opposite_of_four-u.result c.size_of-quarter.result c.requires.many c.size_of-quarter.ensures within
+          c.loop-t-test.true (c.loop-middle.invariant.reversed within) c.opposite_of_four-u.ensures,
+    )
 
 pub swap_rows-requires-clause-second : goal.swap_rows-requires-clause-second
 swap_rows-requires-clause-second g c =
     let within : c.loop-middle.middle < 2 ^ (c.args.lg - 4) = omega (arith, c.size_of-middles.ensures) in
-    omega (arith, c.size_of-rows.ensures, c.row_around-j.ensures,
-    there-below c.args.lg c.loop-middle.middle c.loop-middle.other c.loop-t.t c.opposite_of_four-u.result c.size_of-quarter.result c.requires.many c.size_of-quarter.ensures within
-    c.loop-t-test.true (c.loop-middle.invariant.reversed within) c.opposite_of_four-u.ensures)
+    omega (
+      arith,
+      c.size_of-rows.ensures,
+      c.row_around-j.ensures,
+      there-below c.args.lg c.loop-middle.middle c.loop-middle.other c.loop-t.t c.opposite_of_four-u.result c.size_of-quarter.result c.requires.many c.size_of-quarter.ensures within
+          c.loop-t-test.true (c.loop-middle.invariant.reversed within) c.opposite_of_four-u.ensures,
+    )
 
 pub swap_rows-requires-clause-apart : goal.swap_rows-requires-clause-apart
 swap_rows-requires-clause-apart g c =
@@ -102,11 +110,23 @@ loop-t-preserved g c = λ k l.
 pub loop-middle-preserved : goal.loop-middle-preserved
 loop-middle-preserved g c =
     let within : c.loop-middle.middle < 2 ^ (c.args.lg - 4) = omega (arith, c.size_of-middles.ensures) in
-    let whole : 16 * c.loop-middle.middle + c.loop-t.t ≡ 16 * (c.loop-middle.middle + 1) = omega arith in
+    let other = c.loop-middle.invariant.reversed within in
+    let d = g.F.Additive.zero in
+    let next : 16 * c.loop-middle.middle + 16 ≡ 16 * (c.loop-middle.middle + 1) = omega arith in
     record {
       within = c.next_reversed-other.ensures.below;
-      reversed = λ l. c.next_reversed-other.ensures.next c.loop-middle.middle l (c.loop-middle.invariant.reversed within);
-      rows = λ k l. rw whole at (c.loop-t.invariant k l);
+      reversed = λ l. c.next_reversed-other.ensures.next c.loop-middle.middle l other;
+      rows = λ k l. elim c.if-middle-other.branch [
+        | then-middle-other+else-loop-t-test w ↦
+            let whole : 16 * c.loop-middle.middle + w.loop-t.t ≡ 16 * (c.loop-middle.middle + 1) = omega arith in
+            rw w.cells-is (rw whole at (w.loop-t.invariant k l))
+        | else-middle-other w ↦
+            rw w.cells-is
+            (rw next at
+            (turns-stayed c.args.lg c.loop-middle.middle c.loop-middle.other c.requires.many within other (omega (arith, w.if-middle-other.false))
+            (λ r. cell_of d (matrix_of (2 ^ c.args.lg) c.args.cols c.args.cells.now) r k) (λ r. cell_of d (matrix_of (2 ^ c.args.lg) c.args.cols c.loop-middle.cells) r k)
+            (c.loop-middle.invariant.rows k l) 16 (omega arith)))
+      ];
     }
 
 pub returns : goal.returns

@@ -15,7 +15,7 @@ invariant-loop-middle g l =
       reversed : l.middle < 2 ^ (l.lg - 4) → l.other ≡ bit_reversed (l.lg - 4) l.middle;
       rows : (k : ℕ) → k < l.cols
           → IsReversedBelow (16 * 2 ^ (l.lg - 4)) (partner (l.lg - 4)) (λ n. cell_of d (matrix_of (2 ^ l.lg) l.cols l.fn.cells) (row_at (l.lg - 4) n) k)
-              (λ n. cell_of d (matrix_of (2 ^ l.lg) l.cols l.cells) (row_at (l.lg - 4) n) k) (16 * l.middle);
+          (λ n. cell_of d (matrix_of (2 ^ l.lg) l.cols l.cells) (row_at (l.lg - 4) n) k) (16 * l.middle);
     }
 
 -- and so have those before row t of this middle
@@ -24,4 +24,4 @@ invariant-loop-t g l =
     let d = g.F.Additive.zero in
     (k : ℕ) → k < l.cols
     → IsReversedBelow (16 * 2 ^ (l.lg - 4)) (partner (l.lg - 4)) (λ n. cell_of d (matrix_of (2 ^ l.lg) l.cols l.fn.cells) (row_at (l.lg - 4) n) k)
-        (λ n. cell_of d (matrix_of (2 ^ l.lg) l.cols l.cells) (row_at (l.lg - 4) n) k) (16 * l.middle + l.t)
+    (λ n. cell_of d (matrix_of (2 ^ l.lg) l.cols l.cells) (row_at (l.lg - 4) n) k) (16 * l.middle + l.t)
