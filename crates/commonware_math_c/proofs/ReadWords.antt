@@ -1,12 +1,15 @@
 -- Words read from bytes, one after the other.
-use Rattle.std.proofs.Common.{◌≡◌, ◌∙◌, ℕ, ◌+◌, ◌<◌, ◌^◌, List, [], ◌∷◌, ◌++◌, length, take, drop, get_or, refl, sym, ap, ap₂, arith}
+use Rattle.std.proofs.Common.{◌≡◌, ◌∙◌, ℕ, suc, Ok, append_assoc, ◌+◌, ◌<◌, ◌^◌, List, [], ◌∷◌, ◌++◌, length, take, drop, get_or, refl, sym, ap, ap₂, arith}
 use Rattle.std.proofs.Math.ListN.{set}
 use Rattle.std.specs.Int.{to_be_bytes, w64}
 use Rattle.std.proofs.lemmas.List.{drop_more, take_more, take_more_set}
 use Rattle.std.proofs.lemmas.List.Concat.{flat_map-cons}
-use Rattle.std.proofs.lemmas.List.Elements.{All-append}
+use Rattle.std.proofs.lemmas.List.Elements.{All-append, All-head, All-tail}
 use Rattle.math_numbers.specs.Goldilocks.{P}
+use Rattle.math_codec.specs.Lists.{scan_items}
 use Rattle.math_codec.specs.WordLaws.{word_apart}
+use Rattle.math_base.specs.ElementEncoding.{scan_element}
+use Rattle.math_base.specs.ElementEncodingLaws.{element_again}
 use Rattle.commonware_math_c.specs.WordElements.{AreElements}
 use Rattle.commonware_math_c.proofs.WrittenWords.{bytes_of}
 
@@ -34,3 +37,11 @@ one_read i word items words rest after below small l e taken h =
 -- one word below P more
 pub elements_pushed : (words : List ℕ) (word : ℕ) → AreElements words → word < P → AreElements (words ++ word ∷ [])
 elements_pushed words word h l = All-append (λ w. w < P) words (word ∷ []) h (λ k d m. let first : k ≡ 0 = omega arith in rw first l)
+
+-- words below P are read as elements, and what follows them is left
+pub words_scanned : (words rest : List ℕ) → AreElements words → scan_items scan_element (length words) (bytes_of words ++ rest) ≡ Ok rest
+unfolding scan_items
+words_scanned [] rest h = refl
+words_scanned (word ∷ words) rest h =
+    ap (scan_items scan_element (suc (length words))) (ap (λ bytes. bytes ++ rest) (flat_map-cons (to_be_bytes w64) word words) ∙ append_assoc (to_be_bytes w64 word) (bytes_of words) rest)
+    ∙ rw (element_again word (bytes_of words ++ rest) (All-head (λ w. w < P) word words h)) (words_scanned words rest (All-tail (λ w. w < P) word words h))

@@ -1,6 +1,6 @@
 //! Words as elements, and elements as words.
 
-ghost use Rattle.std.specs.Prelude.{◌≡◌, ◌↔◌, ◌≤◌, ◌+◌, ◌*◌, ◌++◌, ℕ, List, IsTrue, IfOk, length, take, drop};
+ghost use Rattle.std.specs.Prelude.{◌≡◌, ◌↔◌, ◌≤◌, ◌+◌, ◌*◌, ◌++◌, ℕ, List, IsTrue, IfOk, IfSome, length, take, drop};
 ghost use Rattle.std.specs.Int.{to_be_bytes, w64};
 ghost use Rattle.std.specs.List.{flat_map};
 ghost use Rattle.math_codec.specs.Faults.{Agrees, OnMemory};
@@ -63,6 +63,30 @@ pub fn read_words(alloc: Global, words: &mut [u64], bytes: &[u8])
     }
 }
 
+/// What follows so many words in front of the bytes, eight bytes each, highest first, where they are there and
+/// each is below P.
+///
+/// All words are looked at before it answers, so that none waits for the one before it.
+fn after_words_below(alloc: Global, count: u32, bytes: &[u8]) -> Option<&[u8]>
+    ensures { IfSome result (λ rest. (words : List ℕ) × (length words ≡ count) × AreElements words
+        × (bytes.now ≡ flat_map (to_be_bytes w64) words ++ rest.now)) }
+{
+    if bytes.len() < 8 * count as usize {
+        return None;
+    }
+    let mut rest = bytes;
+    let mut below = true;
+    for _ in 0..count {
+        let Ok(word) = u64::read_cfg(alloc, &mut rest, &()) else {
+            unreachable!()
+        };
+        if word >= MODULUS {
+            below = false;
+        }
+    }
+    if below { Some(rest) } else { None }
+}
+
 /// Goes over so many words in front of the bytes, eight bytes each, highest first, and gives what follows them. It
 /// refuses with the first fault from left to right: a word that is P or more, or no further word.
 pub fn after_elements(alloc: Global, count: u32, bytes: &[u8]) -> Result<&[u8], Error>
@@ -71,6 +95,9 @@ pub fn after_elements(alloc: Global, count: u32, bytes: &[u8]) -> Result<&[u8], 
     ensures memory { OnMemory result ⊥ }
     ensures exact { Agrees (λ rest. rest.now) result (scan_items scan_element count bytes.now) }
 {
+    if let Some(rest) = after_words_below(alloc, count, bytes) {
+        return Ok(rest);
+    }
     let mut rest = bytes;
     for _ in 0..count {
         let _element = F::read_cfg(alloc, &mut rest, &())?;

@@ -1,11 +1,17 @@
-use Rattle.std.proofs.Common.{[], ◌∷◌, ◌++◌, length-append, arith}
+use Rattle.std.proofs.Common.{◌∙◌, [], ◌∷◌, ◌++◌, length-append, sym, ap₂, arith}
 use Rattle.std.specs.Int.{to_be_bytes, w64}
 use Rattle.std.proofs.lemmas.Result.{err_from_is_err_and}
+use Rattle.math_codec.specs.Lists.{scan_items}
 use Rattle.math_codec.proofs.ItemScan.{item_read, item_fails, items_done, item_taken}
 use Rattle.math_base.specs.Elements.{number}
 use Rattle.math_base.specs.ElementEncoding.{scan_element}
-use Rattle.commonware_math_c.proofs.ReadWords.{elements_pushed}
+use Rattle.commonware_math_c.proofs.ReadWords.{elements_pushed, words_scanned}
 use Rattle.commonware_math_c.proofs.elements.after_elements.Goals as goal
+
+pub returns-in-Some-clause-exact : goal.returns-in-Some-clause-exact
+returns-in-Some-clause-exact c =
+    let read = c.in-Some.ensures in
+    ap₂ (λ n bytes. scan_items scan_element n bytes) (sym read.1) read.3 ∙ words_scanned read.0 c.in-Some.rest.now read.2
 
 pub returns-in_err-_element-clause-exact : goal.returns-in_err-_element-clause-exact
 returns-in_err-_element-clause-exact c =
