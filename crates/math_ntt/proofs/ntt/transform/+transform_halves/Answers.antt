@@ -110,7 +110,9 @@ combine_halves-requires-clause-room g t c =
     omega (arith, h.count, c.requires.room, c.in_ok-transform_halves.ensures.counted, c.in_ok-transform_halves-2.ensures.counted)
 
 pub combine_halves-requires-clause-some : goal.combine_halves-requires-clause-some
-combine_halves-requires-clause-some g t c = omega (arith, c.split_at.ensures.back_len, c.requires.table.count, (halved c.args.lg c.args.cols c.if-lg-eq0.false).powers, c.size_of-half.ensures, pow_pos (c.args.lg - 1))
+combine_halves-requires-clause-some g t c =
+    let h : Halved c.args.lg c.args.cols = halved c.args.lg c.args.cols c.if-lg-eq0.false in
+    omega (arith, c.split_at.ensures.back_len, c.requires.table.count, h.powers, c.size_of-half.ensures, pow_pos (c.args.lg - 1))
 
 pub combine_halves-requires-clause-one : goal.combine_halves-requires-clause-one
 combine_halves-requires-clause-one g t c =

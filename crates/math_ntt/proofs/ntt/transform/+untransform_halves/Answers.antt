@@ -119,12 +119,15 @@ combine_halves-requires-clause-room g t c =
     omega (arith, h.count, c.requires.room)
 
 pub combine_halves-requires-clause-some : goal.combine_halves-requires-clause-some
-combine_halves-requires-clause-some g t c = omega (arith, c.split_at.ensures.back_len, c.requires.table.count, (halved c.args.lg c.args.cols c.if-lg-eq0.false).powers, c.size_of-half.ensures, pow_pos (c.args.lg - 1))
+combine_halves-requires-clause-some g t c =
+    let h : Halved c.args.lg c.args.cols = halved c.args.lg c.args.cols c.if-lg-eq0.false in
+    omega (arith, c.split_at.ensures.back_len, c.requires.table.count, h.powers, c.size_of-half.ensures, pow_pos (c.args.lg - 1))
 
 pub combine_halves-requires-clause-one : goal.combine_halves-requires-clause-one
 combine_halves-requires-clause-one g t c =
     let R = ring_members g.F.Multiplicative.product g.F.Debug.debug_output g.F.Object.same g.F.Object.NEVER_REFUSES g.F.Additive.zero g.F.Additive.sum g.F.Additive.negative g.F.Ring.one in
-    powers-first R (λ l. g.F.Field.inverse (g.F.FieldNTT.root l)) c.args.lg c.size_of-half.result c.args.table.now c.if-lg-eq0.false c.size_of-half.ensures c.requires.table c.split_at.result.1.now c.split_at.ensures.back
+    powers-first R (λ l. g.F.Field.inverse (g.F.FieldNTT.root l)) c.args.lg c.size_of-half.result c.args.table.now
+    c.if-lg-eq0.false c.size_of-half.ensures c.requires.table c.split_at.result.1.now c.split_at.ensures.back
 
 pub returns-in_err-combine_halves-clause-bounded : goal.returns-in_err-combine_halves-clause-bounded
 returns-in_err-combine_halves-clause-bounded g t c =

@@ -23,4 +23,6 @@ returns-then-cols-eq1 g c =
     (rw (← one, place c.args.i, place c.args.j) (at.0 d)) (rw (← one, place c.args.i, place c.args.j) (at.1 d)) (λ p. rw (← one, place c.args.i, place c.args.j) (at.2 p d))))
 
 pub returns : goal.returns
-returns g c = exchanged-rows g.F.Additive.zero c.args.cols c.args.i c.args.j c.args.cells.now c.loop-k.cells c.requires.apart (let e : c.loop-k.k ≡ c.args.cols = omega arith in rw e at c.loop-k.invariant)
+returns g c =
+    let e : c.loop-k.k ≡ c.args.cols = omega arith in
+    exchanged-rows g.F.Additive.zero c.args.cols c.args.i c.args.j c.args.cells.now c.loop-k.cells c.requires.apart (rw e at c.loop-k.invariant)
