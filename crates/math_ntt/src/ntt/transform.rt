@@ -153,6 +153,7 @@ fn transform_halves<F: FieldNTT>(
     if lg == 0 {
         return Ok(());
     }
+    // Without this, most calls would be for the single cells of such a column.
     if lg == 1 && cols == 1 {
         combine_pair::<F, true>(alloc, cells, &table[1], work)?;
         return Ok(());
@@ -189,6 +190,7 @@ fn untransform_halves<F: FieldNTT>(
     if lg == 0 {
         return Ok(());
     }
+    // Without this, most calls would be for the single cells of such a column.
     if lg == 1 && cols == 1 {
         combine_pair::<F, false>(alloc, cells, &table[1], work)?;
         return Ok(());
