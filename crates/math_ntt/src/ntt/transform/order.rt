@@ -88,8 +88,8 @@ fn row_around(quarter: usize, middle: usize, t: usize) -> usize
     t / 4 * quarter + (4 * middle + t % 4)
 }
 
-// The same for 16 rows or more, sixteen at a time: those whose numbers have the same bits, but for the two
-// highest and the two lowest. They lie in four places by four, and so do the rows with which they are
+// Puts 16 rows or more in bit-reversed order, sixteen at a time: those whose numbers have the same bits, but
+// for the two highest and the two lowest. They lie in four places by four, and so do the rows with which they are
 // exchanged, so that few pieces of memory are used at a time.
 fn reverse_by_sixteens<F: Additive>(cells: &mut [F], cols: usize, lg: u8)
     requires many { 4 ≤ lg }
