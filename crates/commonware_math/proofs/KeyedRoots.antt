@@ -28,7 +28,7 @@ use Rattle.math_theory.proofs.interpolation.Rearranged.{has, has-head, has-tail,
 use Rattle.math_theory.proofs.lists.ListMaps.{map-map}
 use Rattle.math_codec.specs.OrderedMaps.{is_equal, value_at, first_pair}
 use Rattle.math_codec.proofs.MapParts.{zip_of_parts}
-use Rattle.math_ntt.specs.RootWeights.{AreIndicesBelow}
+use Rattle.math_transforms.specs.RootWeights.{AreIndicesBelow}
 use Rattle.commonware_math.specs.Interpolators.{AreWeightsOfPoints, InterpolatesAt}
 use Rattle.commonware_math.specs.RootInterpolators.{pairs_below, pairs_at_powers, weighted_pairs, weight_at}
 

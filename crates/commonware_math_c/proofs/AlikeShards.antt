@@ -7,7 +7,7 @@ use Rattle.std.proofs.lemmas.List.{length-map}
 use Rattle.std.proofs.lemmas.List.Sums.{sum_by-cons}
 use Rattle.std.proofs.lemmas.List.Elements.{All-cons, All-head, All-tail}
 use Rattle.math_base.specs.Elements.{number, residue, same}
-use Rattle.math_ntt.specs.Matrices.{column_of}
+use Rattle.math_transforms.specs.Matrices.{column_of}
 use Rattle.math_shards.specs.declared.shards.Shard.{Shard}
 use Rattle.math_shards.specs.Shards.{IsShardOf, JoinTo, has_index, rows_for, value_at}
 use Rattle.math_shards.specs.declared.shards.Error.{Error}

@@ -2,7 +2,7 @@
 use Rattle.std.proofs.Common.{◌≡◌, ℕ, zero, suc, ◌<◌, List, [], ◌∷◌, ◌⊎◌, get_or, refl, sym, ap₂, inl, inr, arith}
 use Rattle.std.specs.List.{Contains, AllPairs}
 use Rattle.std.proofs.lemmas.List.Kept.{AllPairs-from_increasing}
-use Rattle.math_ntt.specs.RootWeights.{AreIndicesBelow}
+use Rattle.math_transforms.specs.RootWeights.{AreIndicesBelow}
 use Rattle.commonware_math_c.specs.WordWeights.{AreRising}
 
 -- each item is below all later ones

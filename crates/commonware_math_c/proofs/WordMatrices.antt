@@ -5,8 +5,8 @@ use Rattle.std.proofs.lemmas.Bool.{cases_lt}
 use Rattle.std.proofs.lemmas.List.{get_or-replicate, length-map}
 use Rattle.math_base.specs.declared.fields.goldilocks.F.{F}
 use Rattle.math_base.specs.Elements.{number, residue, root_of}
-use Rattle.math_ntt.specs.Matrices.{MatrixOf, IsOfSize}
-use Rattle.math_ntt.specs.DomainValues.{matrix_of, AreValuesOnDomain}
+use Rattle.math_transforms.specs.Matrices.{MatrixOf, IsOfSize}
+use Rattle.math_transforms.specs.DomainValues.{matrix_of, AreValuesOnDomain}
 use Rattle.math_ntt.specs.Evaluations.{EvaluationsOf}
 use Rattle.math_ntt.specs.RecoveredRows.{AreRecovered, AreOnlyRecovered}
 use Rattle.math_ntt.proofs.MatrixPlaces.{columns_are_full, columns_hold_cells}

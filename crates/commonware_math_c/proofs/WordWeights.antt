@@ -7,7 +7,7 @@ use Rattle.math_theory.specs.Interpolation.{AreApart, SomeAreSame, IsFirstPlace,
 use Rattle.math_base.specs.declared.fields.goldilocks.F.{F}
 use Rattle.math_base.specs.Elements.{number, residue, same, root_of}
 use Rattle.math_base.specs.Polynomials.{AreWeightsAt}
-use Rattle.math_ntt.specs.RootWeights.{AreRootWeightsAt, powers_at}
+use Rattle.math_transforms.specs.RootWeights.{AreRootWeightsAt, powers_at}
 use Rattle.commonware_math_c.specs.WordElements.{AreElements, elements, numbers, goldilocks}
 use Rattle.commonware_math_c.specs.WordWeights.{AreRising, AreWordWeights, AreWordWeightsAtRoots}
 use Rattle.commonware_math_c.proofs.WordElements.{elements_of_numbers, numbers_below}

@@ -3,9 +3,9 @@ use Rattle.std.specs.Prelude.{◌≡◌, ℕ, ◌+◌, ◌*◌, ◌<◌, ◌≤�
 use Rattle.math_numbers.specs.Goldilocks.{P}
 use Rattle.math_base.specs.declared.fields.goldilocks.F.{F}
 use Rattle.math_base.specs.Elements.{root_of}
-use Rattle.math_ntt.specs.DomainValues.{matrix_of, AreValuesAtPowers}
+use Rattle.math_transforms.specs.DomainValues.{matrix_of, AreValuesAtPowers}
 use Rattle.math_ntt.specs.Evaluations.{EvaluationsOf}
-use Rattle.math_ntt.specs.Matrices.{MatrixOf}
+use Rattle.math_transforms.specs.Matrices.{MatrixOf}
 use Rattle.math_ntt.specs.RecoveredRows.{AreRecovered, AreOnlyRecovered}
 use Rattle.commonware_math_c.specs.WordElements.{AreElements, elements, goldilocks}
 

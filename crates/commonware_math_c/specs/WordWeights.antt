@@ -6,7 +6,7 @@ use Rattle.math_numbers.specs.Goldilocks.{P}
 use Rattle.math_theory.specs.Interpolation.{AreApart, SomeAreSame, IsFirstPlace, IsOneAt}
 use Rattle.math_base.specs.Elements.{residue, same, root_of}
 use Rattle.math_base.specs.Polynomials.{AreWeightsAt}
-use Rattle.math_ntt.specs.RootWeights.{powers_at}
+use Rattle.math_transforms.specs.RootWeights.{powers_at}
 use Rattle.commonware_math_c.specs.WordElements.{AreElements, elements, goldilocks}
 
 -- the weights for the value at x over the points; one at the first point that is x, and zeros elsewhere; and else zeros where a point is there twice

@@ -5,7 +5,7 @@ use Rattle.std.proofs.lemmas.Bool.{cases_lt, cases_Bool}
 use Rattle.std.proofs.lemmas.List.{length-set}
 use Rattle.math_base.specs.declared.fields.goldilocks.F.{F}
 use Rattle.math_base.specs.Elements.{residue, same}
-use Rattle.math_ntt.specs.Matrices.{MatrixOf, row_of, cell_of}
+use Rattle.math_transforms.specs.Matrices.{MatrixOf, row_of, cell_of}
 use Rattle.math_ntt.specs.Evaluations.{EvaluationsOf, IsFilledAt}
 use Rattle.math_ntt.specs.MatrixPlaces.{IsFull}
 use Rattle.math_ntt.proofs.MatrixPlaces.{rows_hold_cells, rows_are_filled_alone}

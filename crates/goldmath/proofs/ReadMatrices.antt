@@ -13,7 +13,7 @@ use Rattle.math_base.specs.declared.fields.goldilocks.F.{F}
 use Rattle.math_base.specs.Elements.{number, residue, same}
 use Rattle.math_base.specs.ElementEncoding.{scan_element}
 use Rattle.math_base.specs.ElementEncodingLaws.{element_again, element_apart}
-use Rattle.math_ntt.specs.Matrices.{MatrixOf, AreSame}
+use Rattle.math_transforms.specs.Matrices.{MatrixOf, AreSame}
 use Rattle.math_ntt.specs.MatrixEncoding.{AdmitsMatrix, scan_count, scan_matrix}
 use Rattle.math_ntt.specs.MatrixEncodingLaws.{count_again, matrix_again, matrix_apart}
 use Rattle.goldmath.specs.Recoveries.{most_cells, spelling_of, IsEncodedMatrix, HasSize, IsRecovered, EncodesRecovered, scan_size, scan_rows}

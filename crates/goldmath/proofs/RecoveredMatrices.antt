@@ -7,7 +7,7 @@ use Rattle.std.specs.List.{AllZip}
 use Rattle.math_theory.specs.Recovery.{Fits}
 use Rattle.math_base.specs.declared.fields.goldilocks.F.{F}
 use Rattle.math_base.specs.Elements.{residue, same, sum, product, root_of}
-use Rattle.math_ntt.specs.Matrices.{MatrixOf, IsOfSize, AreSame, cell_of, column_of}
+use Rattle.math_transforms.specs.Matrices.{MatrixOf, IsOfSize, AreSame, cell_of, column_of}
 use Rattle.math_ntt.specs.Evaluations.{EvaluationsOf}
 use Rattle.math_ntt.proofs.MatrixPlaces.{columns_are_full, columns_hold_cells}
 use Rattle.goldmath.specs.Recoveries.{HoldsRows, IsRecovered, EncodesRecovered, spelling_of, value_at}

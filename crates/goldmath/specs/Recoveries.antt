@@ -9,7 +9,7 @@ use Rattle.math_codec.specs.Faults.{Fault, Invalid, scan_exactly, ◌>>=◌}
 use Rattle.math_base.specs.declared.fields.goldilocks.F.{F}
 use Rattle.math_base.specs.Elements.{number, residue, same, sum, product, root_of}
 use Rattle.math_base.specs.ElementEncoding.{scan_element}
-use Rattle.math_ntt.specs.Matrices.{MatrixOf, IsOfSize, AreSame, cell_of, column_of}
+use Rattle.math_transforms.specs.Matrices.{MatrixOf, IsOfSize, AreSame, cell_of, column_of}
 use Rattle.math_ntt.specs.Evaluations.{EvaluationsOf}
 use Rattle.math_ntt.specs.MatrixEncoding.{matrix_spelling, scan_count, scan_matrix}
 use Rattle.goldmath.specs.Numerals.{WritesNumber, WritesRow}

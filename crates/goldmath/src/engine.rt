@@ -21,7 +21,7 @@ ghost use Rattle.goldmath.specs.Recoveries.{
   IsEncodedMatrix,
   scan_rows,
 };
-ghost use Rattle.math_ntt.specs.Matrices.{MatrixOf};
+ghost use Rattle.math_transforms.specs.Matrices.{MatrixOf};
 ghost use Rattle.math_codec.specs.declared.codec.error.Error.TheVariants.{Memory};
 ghost use Rattle.goldmath.specs.declared.engine.ToolError.TheVariants.{Refused};
 

@@ -3,7 +3,7 @@
 ghost use Rattle.std.specs.Prelude.{◌≡◌, ◌≢◌, ◌↔◌, ◌<◌, ◌≤◌, ◌*◌, ◌^◌, ℕ, List, Some, IsTrue, IfOk, IfSome, MatchResult, length, map, string_bytes, All, AllPairs, IsSome};
 ghost use Rattle.std.specs.List.{AllZip};
 ghost use Rattle.math_codec.specs.Faults.{Agrees, IsMemory};
-ghost use Rattle.math_ntt.specs.Matrices.{MatrixOf};
+ghost use Rattle.math_transforms.specs.Matrices.{MatrixOf};
 ghost use Rattle.goldmath.specs.Numerals.{WritesNumber, WritesRow};
 ghost use Rattle.goldmath.specs.Recoveries.{
   most_cells,

@@ -2,8 +2,8 @@
 use Rattle.std.proofs.Common.{◌≡◌, ◌∙◌, inl, inr, ℕ, zero, suc, ◌+◌, ◌*◌, ◌≤◌, List, ◌∷◌, length, take, drop, min, ap, ap₂, refl, sym, arith}
 use Rattle.std.proofs.lemmas.Bool.{cases_lt}
 use Rattle.std.proofs.lemmas.List.{take-take, drop-take, take_all}
-use Rattle.math_ntt.specs.Matrices.{pieces}
-use Rattle.math_ntt.proofs.MatrixRows.{length-pieces}
+use Rattle.math_transforms.specs.Matrices.{pieces}
+use Rattle.math_transforms.proofs.MatrixRows.{length-pieces}
 
 module _ {A : Type 0} where
   -- the first items are cut into the first pieces

@@ -4,10 +4,10 @@ use Rattle.std.proofs.lemmas.Bool.{cases_lt}
 use Rattle.std.proofs.lemmas.List.{get_or-drop, get_or-take, get_or_append_left, get_or-append_right, get_or-set_same, get_or-set_other, length-set, length-append, length-take-le, length-drop}
 use Rattle.std.proofs.lemmas.List.Elements.{AllZip-get_or, length_all_zip}
 use Rattle.std.proofs.lemmas.Nat.{mul-add-lt, div-mul-add}
-use Rattle.math_ntt.specs.Matrices.{MatrixOf}
+use Rattle.math_transforms.specs.Matrices.{MatrixOf}
 use Rattle.math_ntt.specs.MatrixPlaces.{IsFull, DiffersInRow, RowsAreListed, RowsAreFull, RowsHoldCells, ColumnsAreFull, ColumnsHoldCells, CellsAreWrittenAlone, RowsAreWrittenAlone, RowsAreFilledAlone}
-use Rattle.math_ntt.proofs.MatrixRows.{piece-at, length-column, column-at}
-use Rattle.math_ntt.proofs.WrittenCells.{row-within, cells-between}
+use Rattle.math_transforms.proofs.MatrixRows.{piece-at, length-column, column-at}
+use Rattle.math_transforms.proofs.WrittenCells.{row-within, cells-between}
 
 -- a place below the number of cells
 place-within : (i k r c : ℕ) → i < r → k < c → i * c + k < r * c

@@ -4,8 +4,8 @@ use Rattle.std.proofs.lemmas.List.{drop_more}
 use Rattle.math_theory.specs.Laws.{IsEquality, IsGroup, IsProduct}
 use Rattle.math_theory.specs.Sums.{weighted_sum}
 use Rattle.math_base.proofs.WeightedSums.{weighted_sum-start, weighted_sum-step}
-use Rattle.math_ntt.specs.Matrices.{MatrixOf, row_of, column_of}
-use Rattle.math_ntt.proofs.MatrixRows.{length-column, column-at}
+use Rattle.math_transforms.specs.Matrices.{MatrixOf, row_of, column_of}
+use Rattle.math_transforms.proofs.MatrixRows.{length-column, column-at}
 
 module _ {A : Type 0} {same : A → A → Type 0} {zero_of : A} {sum : A → A → A} {negative : A → A} {product : A → A → A}
     (E : IsEquality same) (G : IsGroup same zero_of sum negative) (P : IsProduct same product) where

@@ -9,16 +9,16 @@ use Rattle.math_theory.proofs.domains.CarriedDomains.{HasCoset-of_order-same}
 use Rattle.math_theory.proofs.polynomials.CarriedRoots.{agreement-same}
 use Rattle.math_base.specs.Members.{RingOf}
 use Rattle.math_base.specs.Polynomials.{value_in_ring}
-use Rattle.math_ntt.specs.DomainValues.{one_column, AreValuesOnDomain, HasOnePolynomial, HasOneValues}
-use Rattle.math_ntt.specs.Matrices.{column_of}
-use Rattle.math_ntt.proofs.MatrixRows.{length-column}
-use Rattle.math_ntt.proofs.PaddedPolynomials.{column-cell}
+use Rattle.math_transforms.specs.DomainValues.{one_column, AreValuesOnDomain, HasOnePolynomial, HasOneValues}
+use Rattle.math_transforms.specs.Matrices.{column_of}
+use Rattle.math_transforms.proofs.MatrixRows.{length-column}
+use Rattle.math_transforms.proofs.MatrixRows.{cell-of_column}
 
 module _ {A : Type 0} (R : RingOf A) (E : IsEquality R.same) where
   only_column : (xs : List A) → column_of R.zero (one_column xs) 0 ≡ xs
   only_column xs =
       ext_get_or R.zero (column_of R.zero (one_column xs) 0) xs (length-column R.zero (one_column xs) 0)
-      (λ i l. column-cell E R.zero (one_column xs) 0 i (omega arith) (omega arith) ∙ ap (λ p. get_or xs p R.zero) (let e : i * 1 + 0 ≡ i = omega arith in e))
+      (λ i l. cell-of_column R.zero (one_column xs) 0 i (omega arith) (omega arith) ∙ ap (λ p. get_or xs p R.zero) (let e : i * 1 + 0 ≡ i = omega arith in e))
 
   -- value j is at power j of the root
   value-at : (root : ℕ → A) (lg : ℕ) (a v : List A) → length a ≡ 2 ^ lg → AreValuesOnDomain R root (one_column a) (one_column v)

@@ -1,16 +1,15 @@
 -- The columns of a matrix that is filled up with rows of zeros.
-use Rattle.std.proofs.Common.{◌≡◌, ◌∙◌, inl, inr, ℕ, suc, ◌+◌, ◌-◌, ◌*◌, ◌/◌, ◌^◌, ◌<◌, ◌≤◌, List, length, drop, get_or, max, ap, refl, sym, arith, pow_mono, pow_pos}
+use Rattle.std.proofs.Common.{◌≡◌, ◌∙◌, inl, inr, ℕ, suc, ◌+◌, ◌-◌, ◌*◌, ◌/◌, ◌^◌, ◌<◌, ◌≤◌, List, length, get_or, max, ap, refl, sym, arith, pow_mono, pow_pos}
 use Rattle.std.specs.Int.{IsNextPowerOfTwo}
 use Rattle.std.specs.List.{AllZip}
 use Rattle.std.proofs.lemmas.Bool.{cases_lt}
-use Rattle.std.proofs.lemmas.List.{get_or-take, get_or-drop, get_or_past, get_or_append_left, get_or-append-add}
+use Rattle.std.proofs.lemmas.List.{get_or_past, get_or_append_left, get_or-append-add}
 use Rattle.std.proofs.lemmas.List.Elements.{AllZip-get_or, length_all_zip}
-use Rattle.std.proofs.lemmas.Nat.{mul-le}
 use Rattle.math_theory.proofs.domains.RootOrders.{power_of_two-suc}
 use Rattle.math_theory.specs.Laws.{IsEquality}
-use Rattle.math_ntt.specs.Matrices.{MatrixOf, column_of, cell_of, AreFilledUp}
+use Rattle.math_transforms.specs.Matrices.{MatrixOf, AreFilledUp}
 use Rattle.math_ntt.specs.PolynomialRows.{FitsPadded, HaveSamePolynomials}
-use Rattle.math_ntt.proofs.MatrixRows.{length-column, column-at}
+use Rattle.math_transforms.proofs.MatrixRows.{cell-of_column}
 
 -- where the least power of two that is n or more fits a word, n is at most 2^63
 pub padded-below : {A : Type 0} (m : MatrixOf A) (n : ℕ) → n < 2 ^ 64 → FitsPadded m n → n ≤ 2 ^ 63
@@ -36,20 +35,6 @@ next_power_of_two-once n p q h k =
     h.0.1 ∙ ap (λ e. 2 ^ e) (let e : h.0.0 ≡ k.0.0 = omega (arith, i, j) in e) ∙ sym k.0.1
 
 module _ {A : Type 0} {same : A → A → Type 0} (E : IsEquality same) (zero_of : A) where
-  -- coefficient i of column k is the cell in row i, also past the last row, where there is none
-  pub column-cell : (m : MatrixOf A) (k i : ℕ) → k < m.cols → length m.cells ≡ m.rows * m.cols → get_or (column_of zero_of m k) i zero_of ≡ cell_of zero_of m i k
-  column-cell m k i l e =
-      elim (cases_lt i m.rows) [
-        | inl within ↦
-            column-at zero_of m k i zero_of within
-            ∙ get_or-take m.cols (drop (i * m.cols) m.cells) k zero_of l
-            ∙ get_or-drop (i * m.cols) m.cells k zero_of
-        | inr past ↦
-            let cells : m.rows * m.cols ≤ i * m.cols = mul-le m.rows m.cols i m.cols (omega (arith, past)) (omega arith) in
-            get_or_past (column_of zero_of m k) i zero_of (rw (length-column zero_of m k) (omega (arith, past)))
-            ∙ sym (get_or_past m.cells (i * m.cols + k) zero_of (rw e (omega (arith, cells))))
-      ]
-
   -- each place holds the same cell, or zero where there is none
   padded-at : (items copies cells : List A) (p : ℕ) → AllZip same copies items → AreFilledUp same zero_of copies cells → same (get_or cells p zero_of) (get_or items p zero_of)
   padded-at items copies cells p h f =
@@ -69,4 +54,4 @@ module _ {A : Type 0} {same : A → A → Type 0} (E : IsEquality same) (zero_of
   pub same_polynomials : (m : MatrixOf A) (n : ℕ) (copies cells : List A) → length m.cells ≡ m.rows * m.cols → length cells ≡ n * m.cols
       → AllZip same copies m.cells → AreFilledUp same zero_of copies cells → HaveSamePolynomials same zero_of (record { rows = n; cols = m.cols; cells = cells }) m
   same_polynomials m n copies cells e f h k j l i =
-      rw (column-cell (record { rows = n; cols = m.cols; cells = cells }) j i l f, column-cell m j i l e) (padded-at m.cells copies cells (i * m.cols + j) h k)
+      rw (cell-of_column zero_of (record { rows = n; cols = m.cols; cells = cells }) j i l f, cell-of_column zero_of m j i l e) (padded-at m.cells copies cells (i * m.cols + j) h k)

@@ -7,11 +7,11 @@ use Rattle.math_theory.specs.RootLaws.{HasRootsOfUnity}
 use Rattle.math_theory.proofs.domains.CarriedDomains.{HasCoset-of_order-same}
 use Rattle.math_theory.proofs.recovery.CarriedRecovery.{fits_once-same}
 use Rattle.math_base.specs.Members.{RingOf}
-use Rattle.math_ntt.specs.Matrices.{column_of}
+use Rattle.math_transforms.specs.Matrices.{column_of}
 use Rattle.math_ntt.specs.RecoveredValues.{RecoversFromSome, RecoversFromAll}
-use Rattle.math_ntt.proofs.DomainSteps.{column-cell}
-use Rattle.math_ntt.proofs.MatrixRows.{length-column}
-use Rattle.math_ntt.proofs.MissingPlaces.{count_true-all}
+use Rattle.math_transforms.proofs.DomainSteps.{column-cell}
+use Rattle.math_transforms.proofs.MatrixRows.{length-column}
+use Rattle.math_transforms.proofs.MissingPlaces.{count_true-all}
 
 module _ {A : Type 0} (R : RingOf A) {inverse half : A → A} (E : IsEquality R.same) (G : IsGroup R.same R.zero R.sum R.negative) (P : IsProduct R.same R.product)
     (L : IsRing R.same R.sum R.product R.one)

@@ -5,15 +5,14 @@ use Rattle.math_theory.specs.Laws.{IsEquality, IsGroup, IsProduct, IsRing, IsFie
 use Rattle.math_theory.proofs.domains.CarriedDomains.{HasCoset-of_order-same}
 use Rattle.math_theory.proofs.recovery.CarriedRecovery.{fits_once-same}
 use Rattle.math_base.specs.Members.{RingOf}
-use Rattle.math_ntt.specs.CountedWork.{WorkOf}
-use Rattle.math_ntt.specs.DomainValues.{matrix_of}
+use Rattle.math_transforms.specs.CountedWork.{WorkOf, AddsWithin}
+use Rattle.math_transforms.specs.DomainValues.{matrix_of}
 use Rattle.math_ntt.specs.Evaluations.{EvaluationsOf}
-use Rattle.math_ntt.specs.Matrices.{column_of}
+use Rattle.math_transforms.specs.Matrices.{column_of}
 use Rattle.math_ntt.specs.RecoveredRows.{AreRecovered, AreOnlyRecovered, IsExactWork}
-use Rattle.math_ntt.specs.RecoveryWork.{AddsWithin}
-use Rattle.math_ntt.proofs.DomainSteps.{column-cell}
-use Rattle.math_ntt.proofs.MatrixRows.{length-column}
-use Rattle.math_ntt.proofs.PowersOfTwo.{power_of_two-same}
+use Rattle.math_transforms.proofs.DomainSteps.{column-cell}
+use Rattle.math_transforms.proofs.MatrixRows.{length-column}
+use Rattle.math_transforms.proofs.PowersOfTwo.{power_of_two-same}
 
 pub most-at_any : (rows cols lg : ℕ) (v w : WorkOf) → rows ≡ 2 ^ lg → AddsWithin (2 ^ lg * lg * (3 * lg + 3 * cols + 2)) (128 * 2 ^ lg) v w
     → (m : ℕ) → rows ≡ 2 ^ m → AddsWithin (rows * m * (3 * m + 3 * cols + 2)) (128 * rows) v w

@@ -4,7 +4,7 @@ use Rattle.std.specs.Iterator.{Yields}
 use Rattle.std.specs.Iterator.Adapters.{take_steps, take_source, take_count}
 use Rattle.std.specs.declared.iter.Take.{Take}
 use Rattle.math_base.proofs.TakenItems.{take-yields}
-use Rattle.math_ntt.specs.Matrices.{GivesAtMost}
+use Rattle.math_transforms.specs.Matrices.{GivesAtMost}
 
 module _ {S A : Type 0} (steps : S → Option A → S → Type 0) where
   -- where `take` has come to its end, the source has given as many items as were asked for, or has ended

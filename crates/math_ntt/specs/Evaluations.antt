@@ -1,7 +1,7 @@
 -- Values at the points of a domain, a row a point, some of which are filled.
 use Rattle.std.specs.Prelude.{◌≡◌, ℕ, ◌+◌, ◌*◌, List, Bool, ◌++◌, length, take, drop, slice_set, true}
 use Rattle.std.specs.List.{AllZip}
-use Rattle.math_ntt.specs.Matrices.{MatrixOf, AreSame}
+use Rattle.math_transforms.specs.Matrices.{MatrixOf, AreSame}
 
 -- a matrix, and for each of its rows whether it is filled
 pub record EvaluationsOf (A : Type 0) : Type 0 where

@@ -1,19 +1,9 @@
 pub use Rattle.math_base.specs.Samples as Samples
-pub mod Matrices
 pub mod MatrixLends
 pub mod MatrixEncoding
 pub mod MatrixEncodingLaws
-pub mod Bitmaps
 pub mod PolynomialRows
 pub mod Evaluations
 pub mod MatrixPlaces
-pub mod CountedWork
-pub mod DomainValues
-pub mod RowProducts
-pub mod MissingPoints
-pub mod RecoveryWork
-pub mod CombinedCells
-pub mod LevelTables
 pub mod RecoveredRows
 pub mod RecoveredValues
-pub mod RootWeights

@@ -5,7 +5,7 @@ use Rattle.math_codec.specs.declared.codec.range.LengthRange.{LengthRange}
 use Rattle.math_codec.specs.Faults.{Fault, InvalidLength, Invalid, ◌>>=◌}
 use Rattle.math_codec.specs.Lengths.{length_spelling, length_at, length_in_front}
 use Rattle.math_codec.specs.Lists.{list_spelling, scan_list, AdmitsList, ListGrows}
-use Rattle.math_ntt.specs.Matrices.{MatrixOf}
+use Rattle.math_transforms.specs.Matrices.{MatrixOf}
 
 -- a matrix is spelled by its number of rows, its number of columns, and the list of its cells, row by row
 abbrev pub matrix_spelling : {A : Type 0} → (A → List ℕ) → MatrixOf A → List ℕ

@@ -8,7 +8,7 @@ use Rattle.math_codec.specs.Lengths.{length_spelling, length_in_front}
 use Rattle.math_codec.specs.LengthLaws.{length_again, lengths_apart}
 use Rattle.math_codec.specs.Lists.{list_spelling}
 use Rattle.math_codec.specs.ListLaws.{list_again, list_apart}
-use Rattle.math_ntt.specs.Matrices.{MatrixOf, AreSame}
+use Rattle.math_transforms.specs.Matrices.{MatrixOf, AreSame}
 use Rattle.math_ntt.specs.MatrixEncoding.{matrix_spelling, at_most, AdmitsMatrix, scan_count, scan_matrix}
 
 pub count_again : (most n : ℕ) (rest : List ℕ) → n < 2 ^ 32 → n ≤ most → scan_count most (length_spelling n ++ rest) ≡ Ok (n, rest)

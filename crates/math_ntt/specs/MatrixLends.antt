@@ -1,7 +1,7 @@
 -- What a matrix is once a `&mut` into it has ended.
 use Rattle.std.specs.Prelude.{ℕ, ◌*◌, ◌+◌, List, ◌++◌, take, drop, slice_set, length}
 use Rattle.std.specs.Borrow.{Lends, Fml, RattleType, MutBor, Array}
-use Rattle.math_ntt.specs.Matrices.{MatrixOf}
+use Rattle.math_transforms.specs.Matrices.{MatrixOf}
 use Rattle.math_ntt.specs.contracts.ntt.matrix.Matrix.{the_row}
 
 -- the matrix with a at place k of its cells

@@ -1,6 +1,6 @@
 -- What the laws say of the places of a matrix: rows, columns and cells name the same items, and a write changes its own cells alone.
 use Rattle.std.specs.Prelude.{◌≡◌, ℕ, ◌+◌, ◌*◌, ◌<◌, ◌≤◌, List, length, get_or}
-use Rattle.math_ntt.specs.Matrices.{MatrixOf, rows_of, row_of, column_of, cell_of, IsOfSize}
+use Rattle.math_transforms.specs.Matrices.{MatrixOf, rows_of, row_of, column_of, cell_of, IsOfSize}
 use Rattle.math_ntt.specs.MatrixLends.{with_cell, with_row}
 use Rattle.math_ntt.specs.Evaluations.{EvaluationsOf, IsFilledAt}
 

@@ -2,7 +2,7 @@
 use Rattle.std.specs.Prelude.{ℕ, ◌*◌, ◌<◌, ◌≤◌, ◌^◌}
 use Rattle.std.specs.Int.{IsNextPowerOfTwo}
 use Rattle.math_theory.specs.Coefficients.{HaveSameCoefficients}
-use Rattle.math_ntt.specs.Matrices.{MatrixOf, column_of}
+use Rattle.math_transforms.specs.Matrices.{MatrixOf, column_of}
 
 -- n coefficients are asked for, at least one, and as many as m has rows or more
 abbrev pub AreEnough : {A : Type 0} → MatrixOf A → ℕ → Type 0

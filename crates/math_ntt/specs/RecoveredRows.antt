@@ -4,10 +4,10 @@ use Rattle.math_theory.specs.Powers.{power}
 use Rattle.math_theory.specs.Recovery.{Fits, count_true}
 use Rattle.math_base.specs.Members.{RingOf}
 use Rattle.math_base.specs.Polynomials.{value_in_ring}
-use Rattle.math_ntt.specs.CountedWork.{WorkOf}
+use Rattle.math_transforms.specs.CountedWork.{WorkOf}
 use Rattle.math_ntt.specs.Evaluations.{EvaluationsOf}
-use Rattle.math_ntt.specs.Matrices.{MatrixOf, column_of, cell_of}
-use Rattle.math_ntt.specs.MissingPoints.{count_false}
+use Rattle.math_transforms.specs.Matrices.{MatrixOf, column_of, cell_of}
+use Rattle.math_transforms.specs.MissingPoints.{count_false}
 
 -- where there are 2^lg rows, column k of v fits column k of the cells and the filled rows, at the powers of root lg
 abbrev pub AreRecovered : {A : Type 0} → RingOf A → (ℕ → A) → EvaluationsOf A → MatrixOf A → Type 0

@@ -6,7 +6,7 @@ use Rattle.math_theory.specs.Recovery.{count_true}
 use Rattle.math_base.specs.Members.{RingOf}
 use Rattle.math_base.specs.Polynomials.{value_in_ring}
 use Rattle.math_ntt.specs.Evaluations.{EvaluationsOf}
-use Rattle.math_ntt.specs.Matrices.{MatrixOf, column_of, cell_of}
+use Rattle.math_transforms.specs.Matrices.{MatrixOf, column_of, cell_of}
 use Rattle.math_ntt.specs.PolynomialRows.{HaveSamePolynomials}
 use Rattle.math_ntt.specs.RecoveredRows.{AreRecovered}
 

@@ -10,7 +10,7 @@ use Rattle.math_theory.specs.Recovery.{count_true}
 use Rattle.math_base.specs.declared.fields.goldilocks.F.{F}
 use Rattle.math_base.specs.Elements.{same}
 use Rattle.math_ntt.specs.Evaluations.{EvaluationsOf}
-use Rattle.math_ntt.specs.Matrices.{row_of}
+use Rattle.math_transforms.specs.Matrices.{row_of}
 use Rattle.math_shards.specs.declared.shards.Shard.{Shard}
 use Rattle.math_shards.specs.Joining.{AreSound, HaveConflict, HoldsShards, IsSound}
 use Rattle.math_shards.specs.Shards.{distinct_indices, has_index}

@@ -8,7 +8,7 @@ use Rattle.std.proofs.lemmas.List.Elements.{AllZip-get_or, length_all_zip}
 use Rattle.std.proofs.lemmas.List.Folds.{list_any_more, list_any_at, Any-from_list_any}
 use Rattle.math_base.specs.declared.fields.goldilocks.F.{F}
 use Rattle.math_base.specs.Elements.{same}
-use Rattle.math_ntt.specs.Matrices.{IsOfSize, row_of, cell_of}
+use Rattle.math_transforms.specs.Matrices.{IsOfSize, row_of, cell_of}
 use Rattle.math_ntt.specs.Evaluations.{EvaluationsOf, IsFilledAt}
 use Rattle.math_ntt.specs.MatrixPlaces.{IsFull}
 use Rattle.math_ntt.proofs.MatrixPlaces.{rows_are_full, rows_hold_cells, rows_are_filled_alone}

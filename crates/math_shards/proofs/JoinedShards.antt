@@ -5,8 +5,8 @@ use Rattle.std.specs.List.{All, AllZip, Contains}
 use Rattle.std.proofs.lemmas.List.Elements.{All-contains, All-head, All-weaker}
 use Rattle.std.specs.Int.Count.{count_leading_zeros}
 use Rattle.math_base.specs.Elements.{number, residue, same}
-use Rattle.math_ntt.specs.Matrices.{column_of}
-use Rattle.math_ntt.proofs.PresentIndices.{lg-of_total, lg-only}
+use Rattle.math_transforms.specs.Matrices.{column_of}
+use Rattle.math_transforms.proofs.PresentIndices.{lg-of_total, lg-only}
 use Rattle.math_shards.specs.declared.shards.Shard.{Shard}
 use Rattle.math_shards.specs.Joining.{HaveConflict, IsSound}
 use Rattle.math_shards.specs.Shards.{ChosenShardsJoin, IsShardOf, JoinTo, rows_for, value_at, width_for}

@@ -16,7 +16,7 @@ use Rattle.math_numbers.proofs.BitPieces.{piece_count-enough}
 use Rattle.math_base.specs.Elements.{residue, same}
 use Rattle.math_base.specs.declared.fields.goldilocks.F.{F}
 use Rattle.math_base.proofs.ElementNumbers.{same_number}
-use Rattle.math_ntt.specs.Matrices.{MatrixOf, IsOfSize, AreSame, GivesAtMost, AreFilledUp}
+use Rattle.math_transforms.specs.Matrices.{MatrixOf, IsOfSize, AreSame, GivesAtMost, AreFilledUp}
 use Rattle.math_shards.specs.Shards.{elements_for, width_for, with_zeros, rows_for}
 
 -- a vector of no more than n items gives them all where at most n are asked for

@@ -12,7 +12,7 @@ use Rattle.math_base.specs.declared.fields.goldilocks.F.{F}
 use Rattle.math_base.specs.Elements.{number, same}
 use Rattle.math_base.specs.Packing.{words_of}
 use Rattle.math_ntt.specs.MatrixPlaces.{IsFull}
-use Rattle.math_ntt.specs.Matrices.{column_of}
+use Rattle.math_transforms.specs.Matrices.{column_of}
 use Rattle.math_ntt.specs.PolynomialRows.{HaveSamePolynomials}
 use Rattle.math_ntt.proofs.MatrixPlaces.{columns_are_full}
 use Rattle.math_shards.specs.declared.shards.Error.{Error}

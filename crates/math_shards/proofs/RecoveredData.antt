@@ -6,7 +6,7 @@ use Rattle.math_theory.specs.Recovery.{count_true}
 use Rattle.math_base.specs.declared.fields.goldilocks.F.{F}
 use Rattle.math_base.specs.Packing.{words_of}
 use Rattle.math_ntt.specs.Evaluations.{EvaluationsOf}
-use Rattle.math_ntt.specs.Matrices.{IsOfSize, MatrixOf}
+use Rattle.math_transforms.specs.Matrices.{IsOfSize, MatrixOf}
 use Rattle.math_shards.specs.declared.shards.Error.TheVariants.{Inconsistent}
 use Rattle.math_shards.specs.declared.shards.Shard.{Shard}
 use Rattle.math_shards.specs.Joining.{ArePolynomialsOf, HoldsShards, IsDueBeside, IsSound}

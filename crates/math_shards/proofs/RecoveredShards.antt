@@ -15,9 +15,9 @@ use Rattle.math_base.specs.ElementRootLaws.{field, roots}
 use Rattle.math_base.specs.Elements.{number, residue, same, sum, product, root_of}
 use Rattle.math_ntt.specs.Evaluations.{EvaluationsOf}
 use Rattle.math_ntt.specs.MatrixPlaces.{IsFull}
-use Rattle.math_ntt.specs.Matrices.{IsOfSize, MatrixOf, column_of, row_of}
+use Rattle.math_transforms.specs.Matrices.{IsOfSize, MatrixOf, column_of, row_of}
 use Rattle.math_ntt.proofs.MatrixPlaces.{columns_are_full, columns_hold_cells, rows_are_full, rows_hold_cells}
-use Rattle.math_ntt.proofs.PresentIndices.{lg-only}
+use Rattle.math_transforms.proofs.PresentIndices.{lg-only}
 use Rattle.math_shards.specs.declared.shards.Shard.{Shard}
 use Rattle.math_shards.specs.Joining.{ArePolynomialsOf, HoldsShards, IsSound}
 use Rattle.math_shards.specs.Shards.{IsShardOf, has_index, rows_for, value_at, width_for}

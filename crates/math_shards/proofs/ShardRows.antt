@@ -13,9 +13,9 @@ use Rattle.math_base.specs.declared.fields.goldilocks.F.{F}
 use Rattle.math_base.specs.ElementLaws.{equality, group, commutes, ring}
 use Rattle.math_base.specs.Elements.{number, residue, same, sum, product}
 use Rattle.math_ntt.specs.MatrixPlaces.{IsFull}
-use Rattle.math_ntt.specs.Matrices.{AreSame, IsOfSize, MatrixOf, column_of}
+use Rattle.math_transforms.specs.Matrices.{AreSame, IsOfSize, MatrixOf, column_of}
 use Rattle.math_ntt.specs.PolynomialRows.{HaveSamePolynomials}
-use Rattle.math_ntt.proofs.PaddedPolynomials.{column-cell}
+use Rattle.math_transforms.proofs.MatrixRows.{cell-of_column}
 use Rattle.math_shards.specs.Joining.{ArePolynomialsOf}
 use Rattle.math_shards.specs.Shards.{elements_for, rows_for, width_for}
 use Rattle.math_shards.proofs.SameCells.{nought, same_are_equal, same_by_items}
@@ -45,9 +45,9 @@ same_cells_at rows q m h k e columns (suc c) f n l =
     let j = n % suc c in
     let within : j < m.cols = omega (arith, f) in
     ap (λ p. number (get_or q.cells p nought)) (sym (place n q (e ∙ f)))
-    ∙ sym (ap number (column-cell equality nought q j i (omega (arith, within, e)) h))
+    ∙ sym (ap number (cell-of_column nought q j i (omega (arith, within, e)) h))
     ∙ columns j within i
-    ∙ ap number (column-cell equality nought m j i within k)
+    ∙ ap number (cell-of_column nought m j i within k)
     ∙ ap (λ p. number (get_or m.cells p nought)) (place n m f)
   where
     place : (n : ℕ) (m : MatrixOf F) → m.cols ≡ suc c → (n / suc c) * m.cols + n % suc c ≡ n

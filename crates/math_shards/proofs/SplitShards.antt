@@ -5,7 +5,7 @@ use Rattle.std.specs.List.{range_with_len}
 use Rattle.std.proofs.lemmas.List.{map-append}
 use Rattle.math_base.specs.declared.fields.goldilocks.F.{F}
 use Rattle.math_base.specs.Elements.{number, same}
-use Rattle.math_ntt.specs.Matrices.{IsOfSize, MatrixOf, cell_of, column_of, row_of}
+use Rattle.math_transforms.specs.Matrices.{IsOfSize, MatrixOf, cell_of, column_of, row_of}
 use Rattle.math_ntt.specs.PolynomialRows.{HaveSamePolynomials}
 use Rattle.math_ntt.proofs.MatrixPlaces.{rows_are_full, rows_hold_cells}
 use Rattle.math_ntt.proofs.PaddedPolynomials.{next_power_of_two-once}

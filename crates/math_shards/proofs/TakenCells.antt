@@ -2,7 +2,7 @@
 use Rattle.std.proofs.Common.{◌≡◌, ◌∙◌, ℕ, zero, suc, ◌+◌, ◌*◌, ◌≤◌, List, [], ◌++◌, take, drop, refl, sym, ap, arith}
 use Rattle.std.proofs.Math.Seq.{take-add}
 use Rattle.std.specs.List.{flat_map}
-use Rattle.math_ntt.specs.Matrices.{pieces}
+use Rattle.math_transforms.specs.Matrices.{pieces}
 
 -- the first n of r rows, joined, are the first n * c cells
 joined_rows : {A : Type 0} (n r c : ℕ) (cells : List A) → n ≤ r → flat_map (λ row. row) (take n (pieces r c cells)) ≡ take (n * c) cells

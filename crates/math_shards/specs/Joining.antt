@@ -4,7 +4,7 @@ use Rattle.std.specs.List.{AllZip}
 use Rattle.math_base.specs.Elements.{residue, same}
 use Rattle.math_base.specs.declared.fields.goldilocks.F.{F}
 use Rattle.math_ntt.specs.Evaluations.{EvaluationsOf}
-use Rattle.math_ntt.specs.Matrices.{MatrixOf, IsOfSize, row_of}
+use Rattle.math_transforms.specs.Matrices.{MatrixOf, IsOfSize, row_of}
 use Rattle.math_ntt.specs.PolynomialRows.{HaveSamePolynomials}
 use Rattle.math_shards.specs.declared.shards.Shard.{Shard}
 use Rattle.math_shards.specs.declared.shards.Error.{Error}

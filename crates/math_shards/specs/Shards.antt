@@ -8,7 +8,7 @@ use Rattle.math_theory.specs.Values.{value}
 use Rattle.math_base.specs.declared.fields.goldilocks.F.{F}
 use Rattle.math_base.specs.Elements.{residue, same, sum, product, root_of}
 use Rattle.math_base.specs.Packing.{elements_of}
-use Rattle.math_ntt.specs.Matrices.{MatrixOf, column_of}
+use Rattle.math_transforms.specs.Matrices.{MatrixOf, column_of}
 use Rattle.math_shards.specs.declared.shards.Shard.{Shard}
 
 -- what is packed: how many words there are, and then these

@@ -13,6 +13,4 @@ mod memory;
 #[cfg(test)]
 mod packing;
 #[cfg(test)]
-mod shares;
-#[cfg(test)]
 mod texts;

@@ -1,7 +1,7 @@
 //! Values of polynomials at the points of domains, and polynomials that vanish at some.
 
 ghost use Rattle.std.specs.Prelude.{◌≤◌, length, IsTrue};
-ghost use Rattle.math_ntt.specs.DomainValues.{HasDomain};
+ghost use Rattle.math_transforms.specs.DomainValues.{HasDomain};
 
 use math_base::algebra::{Field, Mem, Multiplicative, Object};
 use math_ntt::ntt::{EvaluationColumn, EvaluationVector, PolynomialColumn, VanishingPoints, Work};

@@ -12,7 +12,7 @@ use crate::error::CombineError;
 use crate::shares::{Share, point};
 use commonware_math::algebra::{Field, Mem, Object, Space};
 use commonware_math::poly::Interpolator;
-use math_ntt::weights::first_place;
+use math_transforms::weights::first_place;
 use std::alloc::Global;
 
 /// Combines the shares, in any order, to the secret: the sum of their values, each times the weight of its

@@ -2,14 +2,14 @@
 
 ghost use Rattle.std.specs.Prelude.{◌≡◌, ◌*◌, length};
 
-use crate::table::Calls;
-use crate::values::{matrix, polynomial};
 use commonware_math::algebra::Mem;
 use commonware_math::codec::{Error, LengthRange, Read, Write};
 use commonware_math::fields::goldilocks::F;
 use commonware_math::ntt::Matrix;
 use commonware_math::poly::Poly;
 use std::alloc::{AllocError, Global};
+use sweeps_base::table::Calls;
+use sweeps_base::values::{matrix, polynomial};
 
 /// What is swept.
 pub const NAMES: [&str; 4] = [

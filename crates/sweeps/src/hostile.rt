@@ -8,9 +8,7 @@
 ghost use Rattle.std.specs.Prelude.{◌<◌, IfOk};
 
 use crate::encodings::{MATRIX, POLYNOMIAL, write_matrix};
-use crate::refusals::{refuse, took_more_than};
 use crate::shards::{SHARD, write_shard};
-use crate::table::Table;
 use commonware_math::algebra::Mem;
 use commonware_math::codec::{Error, LengthRange, Read, Write};
 use commonware_math::fields::goldilocks::F;
@@ -18,6 +16,8 @@ use commonware_math::ntt::Matrix;
 use commonware_math::poly::Poly;
 use commonware_math::shards::Shard;
 use std::alloc::{AllocError, Global};
+use sweeps_base::refusals::{refuse, took_more_than};
+use sweeps_base::table::Table;
 
 /// The words 1 and 256 as a list.
 const WORDS: [u8; 17] = [2, 0, 0, 0, 0, 0, 0, 0, 1, 0, 0, 0, 0, 0, 0, 1, 0];

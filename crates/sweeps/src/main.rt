@@ -4,18 +4,10 @@
 //! it. Of the sweeps those are run whose names contain NAME.
 #![tactic(auto)]
 
-mod combinations;
-mod commitments;
 mod encodings;
-mod handed;
 mod hostile;
-mod interpolation;
-mod polynomials;
-mod refusals;
 mod shards;
-mod table;
 mod transforms;
-mod values;
 
 use commonware_math::algebra::Mem;
 use commonware_math::fields::goldilocks::F;
@@ -25,7 +17,9 @@ use math_samples::quotients::Quotient;
 use std::alloc::Global;
 use std::process::ExitCode;
 use std::{env, io};
-use table::{Table, Texts};
+use sweeps_base::refusals;
+use sweeps_base::table::{Table, Texts};
+use sweeps_poly::{combinations, commitments, interpolation, polynomials};
 
 /// The sweeps at any field with the domain of four points.
 fn at_any<R: Element>(alloc: Global, table: &mut Table<'_>) -> Mem<()> {

@@ -1,11 +1,11 @@
 //! Sweeps of shards.
 
 use crate::encodings::memory_alone;
-use crate::table::Calls;
 use commonware_math::algebra::Mem;
 use commonware_math::codec::{Read, Write};
 use commonware_math::shards::{Error, Shard, join, split};
 use std::alloc::{AllocError, Global};
+use sweeps_base::table::Calls;
 
 /// What is swept.
 pub const NAMES: [&str; 4] = ["split", "join", "Shard::write", "Shard::read_cfg"];

@@ -1,9 +1,5 @@
 //! Sweeps of calls on matrices, vectors and columns.
 
-use crate::handed::Handed;
-use crate::refusals::{has_come, refuse};
-use crate::table::{Calls, Table};
-use crate::values::{Values, elements, evaluated, has_domain, matrix, polynomials};
 use commonware_math::algebra::Mem;
 use commonware_math::fields::goldilocks::F;
 use commonware_math::ntt::{
@@ -13,6 +9,10 @@ use commonware_math::ntt::{
 use math_samples::boxed::Boxed;
 use math_samples::elements::Element;
 use std::alloc::{AllocError, Global};
+use sweeps_base::handed::Handed;
+use sweeps_base::refusals::{has_come, refuse};
+use sweeps_base::table::{Calls, Table};
+use sweeps_base::values::{Values, elements, evaluated, has_domain, matrix, polynomials};
 
 /// What is swept.
 pub const NAMES: [&str; 11] = [

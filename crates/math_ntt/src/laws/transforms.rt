@@ -1,6 +1,6 @@
 //! Evaluation and interpolation over a domain undo each other.
 
-ghost use Rattle.math_ntt.specs.DomainValues.{HasOnePolynomial, HasOneValues};
+ghost use Rattle.math_transforms.specs.DomainValues.{HasOnePolynomial, HasOneValues};
 
 use math_base::algebra::FieldNTT;
 

@@ -4,12 +4,13 @@ ghost use Rattle.std.specs.Prelude.{◌≡◌, ◌↔◌, ◌*◌, ◌<◌, ◌�
 ghost use Rattle.std.specs.Int.{IsPowerOfTwo};
 ghost use Rattle.std.specs.List.{All};
 ghost use Rattle.math_theory.specs.Recovery.{count_true};
-ghost use Rattle.math_ntt.specs.Matrices.{row_of, IsOfSize};
+ghost use Rattle.math_transforms.specs.Matrices.{row_of, IsOfSize};
 ghost use Rattle.math_ntt.specs.Evaluations.{IsFilledAt, AreSameEvaluations};
 
-use super::matrix::{Matrix, copies, filled_up};
-use super::vanishing_points::VanishingPoints;
+use super::matrix::Matrix;
 use math_base::algebra::{Additive, Mem, Object};
+use math_transforms::cells::{copies, filled_up};
+use math_transforms::vanishing_points::VanishingPoints;
 use std::alloc::Global;
 use std::marker::Model;
 

@@ -4,13 +4,14 @@ ghost use Rattle.std.specs.Prelude.{◌≡◌, ◌↔◌, ◌+◌, ◌*◌, ◌<
 ghost use Rattle.std.specs.List.{AllZip};
 ghost use Rattle.std.specs.Iterator.{YieldsFirstRef, item_count};
 ghost use Rattle.math_codec.specs.Iterables.{ItemsMeet};
-ghost use Rattle.math_ntt.specs.Matrices.{rows_of, row_of, IsOfSize, AreSame, IsIterable, GivesAtMost, AreFilledUp, IsProductOf};
+ghost use Rattle.math_transforms.specs.Matrices.{rows_of, row_of, IsOfSize, AreSame, IsIterable, GivesAtMost, AreFilledUp, IsProductOf};
 
 mod encoding;
 mod product;
 mod sampling;
 
 use math_base::algebra::{Additive, Mem, Object, Ring};
+use math_transforms::cells::{copies, filled_up};
 use std::alloc::Global;
 use std::fmt;
 use std::marker::Model;
@@ -28,7 +29,7 @@ pub struct Matrix<F: Drop> {
 impl<F: Drop> Model for Matrix<F> {
     ghost use Rattle.std.specs.Prelude.{◌≡◌, ◌*◌, length};
     ghost use Rattle.math_codec.specs.Iterables.{ItemsMeet};
-    ghost use Rattle.math_ntt.specs.Matrices.{MatrixOf};
+    ghost use Rattle.math_transforms.specs.Matrices.{MatrixOf};
 
     ghost Value = { MatrixOf F };
 
@@ -90,19 +91,6 @@ impl<F: Additive> Matrix<F> {
             cells,
         })
     }
-}
-
-/// The cells, and after them as many zeros as make their number `count`.
-pub(super) fn filled_up<F: Additive>(alloc: Global, cells: Vec<F>, count: usize) -> Mem<Vec<F>>
-    requires { length cells.items ≤ count }
-    ensures count { IfOk result (λ v. length v.items ≡ count) }
-    ensures cells { IfOk result (λ v. AreFilledUp F.same F.zero cells.items v.items) }
-{
-    let mut out = cells;
-    for _done in out.len()..count {
-        out.push(F::zero(alloc)?)?;
-    }
-    Ok(out)
 }
 
 impl<F: Drop> Matrix<F> {
@@ -231,17 +219,6 @@ impl<F: Object> Matrix<F> {
     }
 }
 
-/// Copies of the cells, in their order.
-pub(super) fn copies<F: Object>(alloc: Global, cells: &[F]) -> Mem<Vec<F>>
-    ensures { IfOk result (λ v. AllZip F.same v.items cells.now) }
-{
-    let mut out = Vec::new(alloc);
-    for cell in cells {
-        out.push(cell.clone(alloc)?)?;
-    }
-    Ok(out)
-}
-
 /// Whether the cells of two slices of one length are the same, place by place.
 fn all_same<F: Object>(alloc: Global, a: &[F], b: &[F]) -> Mem<bool>
     requires { length a.now ≡ length b.now }
@@ -281,7 +258,7 @@ pub struct Rows<'a, F: Drop> {
 impl<'a, F: Drop> Model for Rows<'a, F> {
     ghost use Rattle.std.specs.Prelude.{◌≡◌, ◌*◌, List, length};
     ghost use Rattle.math_codec.specs.Iterables.{ItemsMeet};
-    ghost use Rattle.math_ntt.specs.Matrices.{pieces};
+    ghost use Rattle.math_transforms.specs.Matrices.{pieces};
 
     ghost Value = { List (List F) };
 

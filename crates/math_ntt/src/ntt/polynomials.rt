@@ -3,17 +3,18 @@
 ghost use Rattle.std.specs.Prelude.{◌≡◌, ◌↔◌, ◌+◌, ◌*◌, ◌<◌, ◌≤◌, ◌^◌, ℕ, true, IsTrue, IsOk, IsSome, IfOk, IfSome, OnOk, length, min, replicate, take};
 ghost use Rattle.std.specs.Int.{IsNextPowerOfTwo, IsPowerOfTwo};
 ghost use Rattle.std.specs.Iterator.{YieldsFirstRef, item_count};
-ghost use Rattle.math_ntt.specs.CountedWork.{AddsAtMost};
-ghost use Rattle.math_ntt.specs.DomainValues.{HasDomain, AreValuesOnDomain};
-ghost use Rattle.math_ntt.specs.Matrices.{rows_of, IsOfSize, AreSame};
+ghost use Rattle.math_transforms.specs.CountedWork.{AddsAtMost};
+ghost use Rattle.math_transforms.specs.DomainValues.{HasDomain, AreValuesOnDomain};
+ghost use Rattle.math_transforms.specs.Matrices.{rows_of, IsOfSize, AreSame};
 ghost use Rattle.math_ntt.specs.PolynomialRows.{AreEnough, FitsPadded, HaveSamePolynomials};
 
 use super::evaluations::EvaluationVector;
-use super::matrix::{Matrix, Rows, copies, filled_up};
-use super::transform::{evaluate_rows, evaluation_table, lg_of};
-use super::vanishing_points::VanishingPoints;
-use super::work::Work;
+use super::matrix::{Matrix, Rows};
 use math_base::algebra::{Additive, FieldNTT, Mem, Object};
+use math_transforms::cells::{copies, filled_up};
+use math_transforms::transform::{evaluate_rows, evaluation_table, lg_of};
+use math_transforms::vanishing_points::VanishingPoints;
+use math_transforms::work::Work;
 use std::alloc::Global;
 use std::marker::Model;
 
@@ -27,7 +28,7 @@ pub struct PolynomialVector<F: Drop> {
 /// A vector of polynomials is the matrix of the coefficients.
 impl<F: Drop> Model for PolynomialVector<F> {
     ghost use Rattle.std.specs.Int.{IsPowerOfTwo};
-    ghost use Rattle.math_ntt.specs.Matrices.{MatrixOf};
+    ghost use Rattle.math_transforms.specs.Matrices.{MatrixOf};
 
     ghost Value = { MatrixOf F };
 

@@ -16,25 +16,24 @@
 ghost use Rattle.std.specs.Prelude.{◌≡◌, ◌+◌, ◌*◌, ◌<◌, ◌≤◌, ◌^◌, ℕ, IfOk, OnOk, length};
 ghost use Rattle.std.specs.List.{All};
 ghost use Rattle.math_theory.specs.Recovery.{count_true};
-ghost use Rattle.math_ntt.specs.CountedWork.{AddsAtMost};
-ghost use Rattle.math_ntt.specs.DomainValues.{matrix_of, AreValuesAtPowers, ArePowersByLevel, HasDomain};
-ghost use Rattle.math_ntt.specs.Matrices.{IsOfSize};
-ghost use Rattle.math_ntt.specs.MissingPoints.{count_false};
+ghost use Rattle.math_transforms.specs.CountedWork.{AddsAtMost, AddsWithin};
+ghost use Rattle.math_transforms.specs.DomainValues.{matrix_of, AreValuesAtPowers, ArePowersByLevel, HasDomain};
+ghost use Rattle.math_transforms.specs.Matrices.{IsOfSize};
+ghost use Rattle.math_transforms.specs.MissingPoints.{count_false};
 ghost use Rattle.math_ntt.specs.RecoveredRows.{AreProductsOnDomain, AreQuotientsOnCoset, HaveSameValuesOnDomain, IsNonzeroOnCoset, AreRecovered, AreOnlyRecovered, IsExactWork};
-ghost use Rattle.math_ntt.specs.RecoveryWork.{AddsWithin};
 
 use super::evaluations::EvaluationVector;
 use super::matrix::Matrix;
 use super::polynomials::PolynomialVector;
-use super::row_products::{dilate_rows, multiply_rows};
-use super::transform::{
+use math_base::algebra::{Additive, FieldNTT, Mem};
+use math_transforms::row_products::{dilate_rows, multiply_rows};
+use math_transforms::transform::{
     evaluate_rows, evaluation_table, interpolate_rows, interpolation_table, lg_of, size_of,
 };
-use super::vanishing::vanishing_coefficients;
-use super::vanishing_points::VanishingPoints;
-use super::work::Work;
-use crate::weights::quotients;
-use math_base::algebra::{Additive, FieldNTT, Mem};
+use math_transforms::vanishing::vanishing_coefficients;
+use math_transforms::vanishing_points::VanishingPoints;
+use math_transforms::weights::quotients;
+use math_transforms::work::Work;
 use std::alloc::Global;
 
 impl<F: FieldNTT> EvaluationVector<F> {

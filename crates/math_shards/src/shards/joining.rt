@@ -6,7 +6,7 @@ ghost use Rattle.std.specs.List.{AllZip};
 ghost use Rattle.math_base.specs.Elements.{same};
 ghost use Rattle.math_base.specs.Packing.{words_of};
 ghost use Rattle.math_ntt.specs.Evaluations.{IsFilledAt};
-ghost use Rattle.math_ntt.specs.Matrices.{IsOfSize};
+ghost use Rattle.math_transforms.specs.Matrices.{IsOfSize};
 ghost use Rattle.math_shards.specs.Shards.{counted, JoinTo};
 ghost use Rattle.math_shards.specs.Joining.{ArePolynomialsOf, HoldsIfFilled, HoldsOthers, HoldsShards, IsDue, IsDueBeside, IsMemory, IsSound, Matches, RefusesExactly};
 ghost use Rattle.math_shards.specs.declared.shards.Error.TheVariants.{TooFew, Mismatch, Index, Conflict, Inconsistent};

@@ -3,7 +3,7 @@
 ghost use Rattle.std.specs.Prelude.{◌≡◌, ◌≤◌, IfOk};
 ghost use Rattle.std.specs.Int.{IsNextPowerOfTwo};
 ghost use Rattle.math_base.specs.Elements.{residue, same};
-ghost use Rattle.math_ntt.specs.Matrices.{AreSame, IsOfSize};
+ghost use Rattle.math_transforms.specs.Matrices.{AreSame, IsOfSize};
 ghost use Rattle.math_ntt.specs.PolynomialRows.{HaveSamePolynomials};
 ghost use Rattle.math_shards.specs.Shards.{elements_for, rows_for};
 

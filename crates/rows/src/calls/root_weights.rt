@@ -1,7 +1,7 @@
 //! Weights at roots of unity.
 
 ghost use Rattle.std.specs.Prelude.{IfOk};
-ghost use Rattle.math_ntt.specs.RootWeights.{HasDomainOf};
+ghost use Rattle.math_transforms.specs.RootWeights.{HasDomainOf};
 
 use super::interpolation::put_weights;
 use commonware_math::algebra::{Mem, Object, powers};

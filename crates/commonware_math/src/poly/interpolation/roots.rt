@@ -4,7 +4,7 @@ ghost use Rattle.std.specs.Prelude.{◌≡◌, ◌^◌, ℕ, List, length, IfOk}
 ghost use Rattle.std.specs.Int.{IsNextPowerOfTwo};
 ghost use Rattle.std.specs.Map.{keys_of, values_of};
 ghost use Rattle.std.specs.List.{AllZip, zip};
-ghost use Rattle.math_ntt.specs.RootWeights.{HasDomainOf};
+ghost use Rattle.math_transforms.specs.RootWeights.{HasDomainOf};
 ghost use Rattle.commonware_math.specs.Interpolators.{InterpolatesAt};
 ghost use Rattle.commonware_math.specs.RootInterpolators.{pairs_below, pairs_at_powers, weighted_pairs, weight_at};
 

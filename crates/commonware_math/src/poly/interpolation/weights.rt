@@ -7,7 +7,7 @@ ghost use Rattle.math_theory.specs.RootProducts.{root_product};
 ghost use Rattle.math_base.specs.Polynomials.{AreWeightsAt};
 
 use math_base::algebra::{Field, Mem, Ring};
-use math_ntt::weights::{first_place, one_at, quotients};
+use math_transforms::weights::{first_place, one_at, quotients};
 use std::alloc::Global;
 
 /// The weights by which the values at the points give the value at x, for polynomials of at most as many

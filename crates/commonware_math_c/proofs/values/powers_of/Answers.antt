@@ -3,7 +3,7 @@ use Rattle.math_numbers.specs.Goldilocks.{P}
 use Rattle.math_theory.specs.Powers.{power-zero, power-suc}
 use Rattle.math_base.specs.Elements.{number, residue, product}
 use Rattle.math_base.proofs.ElementNumbers.{same_number}
-use Rattle.math_ntt.proofs.RootWeightSteps.{items-push}
+use Rattle.math_transforms.proofs.RootWeightSteps.{items-push}
 use Rattle.commonware_math_c.proofs.values.powers_of.Goals as goal
 
 pub loop-done-init : goal.loop-done-init

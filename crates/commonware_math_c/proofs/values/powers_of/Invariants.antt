@@ -1,7 +1,7 @@
 use Rattle.std.proofs.Common.{◌≡◌}
 use Rattle.math_theory.specs.Powers.{power}
 use Rattle.math_base.specs.Elements.{residue, product}
-use Rattle.math_ntt.proofs.RootWeightSteps.{ItemsSoFar}
+use Rattle.math_transforms.proofs.RootWeightSteps.{ItemsSoFar}
 use Rattle.commonware_math_c.proofs.values.powers_of.Given as goal
 
 -- the powers so far, and the next one

@@ -6,8 +6,8 @@ use Rattle.std.proofs.lemmas.List.{length-map}
 use Rattle.math_codec.proofs.ItemsSoFar.{vec_items}
 use Rattle.math_base.specs.Elements.{residue}
 use Rattle.math_base.proofs.ElementNumbers.{same_number}
-use Rattle.math_ntt.specs.RootWeights.{AreIndicesBelow}
-use Rattle.math_ntt.proofs.PresentIndices.{lg-only, lg-of_total}
+use Rattle.math_transforms.specs.RootWeights.{AreIndicesBelow}
+use Rattle.math_transforms.proofs.PresentIndices.{lg-only, lg-of_total}
 use Rattle.commonware_math_c.specs.WordElements.{numbers}
 use Rattle.commonware_math_c.proofs.RisingIndices.{indices-given}
 use Rattle.commonware_math_c.proofs.WordWeights.{root_weight_words}

@@ -7,7 +7,7 @@
 ghost use Rattle.std.specs.Prelude.{◌≡◌, ◌++◌, ◌≤◌, length, take, IfOk, OnOk, OnErr};
 ghost use Rattle.math_codec.specs.Faults.{Agrees, OnMemory};
 ghost use Rattle.math_codec.specs.Lengths.{length_spelling};
-ghost use Rattle.math_ntt.specs.Matrices.{AreSame};
+ghost use Rattle.math_transforms.specs.Matrices.{AreSame};
 ghost use Rattle.math_ntt.specs.MatrixEncoding.{matrix_spelling, AdmitsMatrix, FitsMatrix, scan_count, scan_matrix, MatrixGrows};
 ghost use Rattle.math_ntt.specs.MatrixEncodingLaws.{matrix_again, matrix_apart};
 

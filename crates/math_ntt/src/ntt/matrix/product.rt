@@ -2,10 +2,11 @@
 
 ghost use Rattle.std.specs.Prelude.{◌≡◌, ◌<◌, ℕ, IfOk, OnOk, length, get_or};
 ghost use Rattle.math_theory.specs.Sums.{weighted_sum};
-ghost use Rattle.math_ntt.specs.Matrices.{column_of};
+ghost use Rattle.math_transforms.specs.Matrices.{column_of};
 
-use super::{Matrix, filled_up};
+use super::Matrix;
 use math_base::algebra::{Mem, Ring};
+use math_transforms::cells::filled_up;
 use std::alloc::Global;
 
 /// A row times a matrix: the sum of the rows of the matrix, row j scaled by cell j of the row.

@@ -3,7 +3,7 @@
 ghost use Rattle.std.specs.Prelude.{◌≡◌, ◌*◌, ◌<◌, ◌^◌, IfOk, IfErr, Some, None};
 ghost use Rattle.math_base.specs.Samples.{samples};
 ghost use Rattle.math_base.specs.declared.algebra.RandomError.TheVariants.{TooManyWords};
-ghost use Rattle.math_ntt.specs.Matrices.{IsOfSize};
+ghost use Rattle.math_transforms.specs.Matrices.{IsOfSize};
 
 use super::Matrix;
 use math_base::algebra::{Random, RandomError};

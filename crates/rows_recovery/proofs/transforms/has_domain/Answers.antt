@@ -1,7 +1,7 @@
 use Rattle.std.proofs.Common.{◌≡◌, w64, arith}
 use Rattle.std.specs.Int.{trailing_zeros}
 use Rattle.std.proofs.lemmas.Grind.{common_steps}
-use Rattle.math_ntt.proofs.Levels.{lg-of_power}
+use Rattle.math_transforms.proofs.Levels.{lg-of_power}
 use Rattle.rows_recovery.proofs.transforms.has_domain.Goals as goal
 
 pub returns : goal.returns

@@ -1,5 +1,5 @@
 use Rattle.std.proofs.Common.{◌≤◌, length, arith}
-use Rattle.math_ntt.proofs.Members.{ring_members}
+use Rattle.math_transforms.proofs.Members.{ring_members}
 use Rattle.shared_secret.proofs.CombinedShares.{combinable, combined}
 use Rattle.shared_secret.proofs.DealtShares.{combined-constant}
 use Rattle.shared_secret.proofs.combining.combine.Goals as goal

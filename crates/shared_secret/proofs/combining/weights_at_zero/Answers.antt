@@ -1,6 +1,6 @@
 use Rattle.std.proofs.Common.{◌≡◌, ◌∙◌}
 use Rattle.math_codec.proofs.ItemsSoFar.{vec_items}
-use Rattle.math_ntt.proofs.Members.{ring_members}
+use Rattle.math_transforms.proofs.Members.{ring_members}
 use Rattle.shared_secret.proofs.PairsByPlace.{place-weights}
 use Rattle.shared_secret.proofs.combining.weights_at_zero.Goals as goal
 

@@ -1,7 +1,7 @@
 use Rattle.std.proofs.Common.{◌≡◌, ◌∙◌, ◌^◌, ◌<◌, length, arith}
 use Rattle.std.proofs.lemmas.List.{get_or_default}
-use Rattle.math_ntt.proofs.Members.{ring_members}
-use Rattle.math_ntt.proofs.DomainSteps.{coset-values, coset-values_one, quotients-on_coset}
+use Rattle.math_transforms.proofs.Members.{ring_members}
+use Rattle.math_ntt.proofs.RecoverySteps.{coset-values, coset-values_one, quotients-on_coset}
 use Rattle.math_ntt.proofs.ntt.recovery.divided.Goals as goal
 
 pub returns-clause-quotients : goal.returns-clause-quotients

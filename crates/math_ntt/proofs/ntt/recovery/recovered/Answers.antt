@@ -4,12 +4,13 @@ use Rattle.math_theory.proofs.domains.BuiltVanishing.{VanishesAt-respects}
 use Rattle.math_theory.proofs.domains.CarriedDomains.{HasCoset-of_order-same}
 use Rattle.math_theory.proofs.recovery.RecoveredColumns.{domain_agreement, coset_nonzero, recovered-fits}
 use Rattle.math_base.proofs.WholeWrites.{take-written}
-use Rattle.math_ntt.specs.DomainValues.{matrix_of}
-use Rattle.math_ntt.specs.Matrices.{column_of}
-use Rattle.math_ntt.proofs.DomainSteps.{column-cell}
-use Rattle.math_ntt.proofs.MatrixRows.{length-column}
-use Rattle.math_ntt.proofs.PowersOfTwo.{power_of_two-same}
-use Rattle.math_ntt.proofs.RecoveryCounts.{within-part, within-transforms, whole-bound, whole-room}
+use Rattle.math_transforms.specs.DomainValues.{matrix_of}
+use Rattle.math_transforms.specs.Matrices.{column_of}
+use Rattle.math_transforms.proofs.DomainSteps.{column-cell}
+use Rattle.math_transforms.proofs.MatrixRows.{length-column}
+use Rattle.math_transforms.proofs.PowersOfTwo.{power_of_two-same}
+use Rattle.math_transforms.proofs.TreeCounts.{within-part, within-transforms}
+use Rattle.math_ntt.proofs.RecoveryCounts.{whole-bound, whole-room}
 use Rattle.math_ntt.proofs.ntt.recovery.recovered.Goals as goal
 
 pub times_vanishing-requires-clause-room : goal.times_vanishing-requires-clause-room

@@ -2,12 +2,12 @@ use Rattle.std.proofs.Common.{◌≡◌, ◌∙◌, inl, inr, ◌+◌, ◌*◌, 
 use Rattle.std.proofs.lemmas.List.{get_or-replicate}
 use Rattle.std.proofs.lemmas.Nat.{mul-add-lt}
 use Rattle.math_theory.proofs.recovery.RecoveredColumns.{fits-none, fits-all}
-use Rattle.math_ntt.specs.DomainValues.{matrix_of}
-use Rattle.math_ntt.specs.Matrices.{column_of}
-use Rattle.math_ntt.proofs.DomainSteps.{column-cell}
-use Rattle.math_ntt.proofs.MatrixRows.{length-column}
-use Rattle.math_ntt.proofs.MissingPlaces.{count_both, all_missing}
-use Rattle.math_ntt.proofs.PowersOfTwo.{power_of_two-same}
+use Rattle.math_transforms.specs.DomainValues.{matrix_of}
+use Rattle.math_transforms.specs.Matrices.{column_of}
+use Rattle.math_transforms.proofs.DomainSteps.{column-cell}
+use Rattle.math_transforms.proofs.MatrixRows.{length-column}
+use Rattle.math_transforms.proofs.MissingPlaces.{count_both, all_missing}
+use Rattle.math_transforms.proofs.PowersOfTwo.{power_of_two-same}
 use Rattle.math_ntt.proofs.ntt.recovery.recovered_cells.Goals as goal
 
 pub returns-clause-exact : goal.returns-clause-exact

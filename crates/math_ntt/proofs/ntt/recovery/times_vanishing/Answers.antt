@@ -1,6 +1,6 @@
 use Rattle.std.proofs.Common.{◌≡◌, ◌^◌, length, arith}
-use Rattle.math_ntt.proofs.Members.{ring_members}
-use Rattle.math_ntt.proofs.DomainSteps.{products-on_domain, values-again}
+use Rattle.math_transforms.proofs.Members.{ring_members}
+use Rattle.math_ntt.proofs.RecoverySteps.{products-on_domain, values-again}
 use Rattle.math_ntt.proofs.ntt.recovery.times_vanishing.Goals as goal
 
 pub returns-clause-products : goal.returns-clause-products

@@ -1,6 +1,6 @@
 use Rattle.std.proofs.Common.{◌<◌, length, arith}
 use Rattle.std.proofs.lemmas.List.{get_or_default}
-use Rattle.math_ntt.proofs.WrittenRows.{written-done}
+use Rattle.math_transforms.proofs.WrittenRows.{written-done}
 use Rattle.math_ntt.proofs.ntt.recovery.zeros.Goals as goal
 
 pub loop-cell-init : goal.loop-cell-init

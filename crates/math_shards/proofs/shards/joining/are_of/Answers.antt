@@ -1,6 +1,6 @@
 use Rattle.std.proofs.Common.{◌≡◌, ◌*◌, length, sym, ◌∙◌, ap₂, arith}
 use Rattle.math_base.specs.Elements.{same}
-use Rattle.math_ntt.specs.Matrices.{IsOfSize}
+use Rattle.math_transforms.specs.Matrices.{IsOfSize}
 use Rattle.math_ntt.specs.PolynomialRows.{HaveSamePolynomials}
 use Rattle.math_ntt.proofs.PaddedPolynomials.{next_power_of_two-once}
 use Rattle.math_shards.specs.Shards.{rows_for}

@@ -2,7 +2,7 @@ use Rattle.std.proofs.Common.{◌≡◌, ◌<◌, ◌^◌, length, sym, ◌∙�
 use Rattle.std.specs.List.{All}
 use Rattle.std.proofs.lemmas.Bool.{false≢true}
 use Rattle.std.proofs.lemmas.Result.{err_from_is_err_and}
-use Rattle.math_ntt.proofs.PowersOfTwo.{power_of_two-same}
+use Rattle.math_transforms.proofs.PowersOfTwo.{power_of_two-same}
 use Rattle.math_shards.specs.declared.shards.Error.TheVariants.{TooFew, Inconsistent}
 use Rattle.math_shards.specs.Joining.{ArePolynomialsOf}
 use Rattle.math_shards.proofs.DueErrors.{due_beside}

@@ -1,7 +1,7 @@
 use Rattle.std.proofs.Common.{◌≡◌, ◌∙◌, ◌^◌, ◌<◌, ◌≤◌, inl, inr, w64, sym, ap, pow_mono, arith}
 use Rattle.std.specs.Int.{trailing_zeros}
 use Rattle.std.proofs.lemmas.Bool.{cases_lt}
-use Rattle.math_ntt.proofs.Levels.{lg-of_power}
+use Rattle.math_transforms.proofs.Levels.{lg-of_power}
 use Rattle.math_shards.proofs.shards.joining.lg_of.Goals as goal
 
 pub returns : goal.returns

@@ -10,7 +10,7 @@ use Rattle.math_codec.specs.OrderedMaps.{first_pair}
 use Rattle.math_codec.proofs.ItemsSoFar.{vec_items}
 use Rattle.math_codec.proofs.MapParts.{zip_of_parts}
 use Rattle.math_base.specs.Members.{RingOf}
-use Rattle.math_ntt.specs.RootWeights.{AreIndicesBelow}
+use Rattle.math_transforms.specs.RootWeights.{AreIndicesBelow}
 use Rattle.commonware_math.specs.RootInterpolators.{pairs_below, weighted_pairs, weight_at}
 use Rattle.commonware_math.proofs.KeyedRoots.{keyed-roots, weighted-kept, rise-kept, Differ-distinct, AllZip-places}
 use Rattle.commonware_math.proofs.poly.interpolation.Interpolator.roots_of_unity_at.Goals as goal

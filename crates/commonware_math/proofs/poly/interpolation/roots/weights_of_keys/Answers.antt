@@ -4,7 +4,7 @@ use Rattle.std.specs.List.{AllZip}
 use Rattle.std.specs.Map.{keys_of, values_of}
 use Rattle.std.specs.Ordering.{nat_cmp}
 use Rattle.math_codec.specs.OrderedMaps.{value_at}
-use Rattle.math_ntt.proofs.PresentIndices.{parts-all}
+use Rattle.math_transforms.proofs.PresentIndices.{parts-all}
 use Rattle.commonware_math.specs.RootInterpolators.{weighted_pairs, weight_at}
 use Rattle.commonware_math.proofs.KeyedRoots.{weighted_keys-next, weighted_values-next, pairs-all}
 use Rattle.commonware_math.proofs.poly.interpolation.roots.weights_of_keys.Goals as goal

@@ -1,6 +1,6 @@
 use Rattle.std.proofs.Common.{◌≡◌, ◌∙◌, ◌*◌, ◌+◌, ◌≤◌, ◌<◌, length, ap, arith}
 use Rattle.std.proofs.lemmas.List.Elements.{length_all_zip}
-use Rattle.math_ntt.proofs.WrittenCells.{row-within, cells-between}
+use Rattle.math_transforms.proofs.WrittenCells.{row-within, cells-between}
 use Rattle.math_ntt.proofs.ntt.evaluations.EvaluationVector.fill_row.Goals as goal
 
 pub returns-clause-ok : goal.returns-clause-ok

@@ -1,11 +1,11 @@
 use Rattle.std.proofs.Common.{◌≡◌, ◌∙◌, ℕ, ◌+◌, ◌*◌, ◌^◌, ◌++◌, length, take, drop, ap, sym, subst}
 use Rattle.math_base.proofs.WholeWrites.{take-written}
-use Rattle.math_ntt.specs.Matrices.{MatrixOf}
+use Rattle.math_transforms.specs.Matrices.{MatrixOf}
 use Rattle.math_ntt.specs.Evaluations.{EvaluationsOf}
-use Rattle.math_ntt.specs.DomainValues.{matrix_of}
+use Rattle.math_transforms.specs.DomainValues.{matrix_of}
 use Rattle.math_ntt.specs.RecoveredRows.{AreOnlyRecovered, IsExactWork}
-use Rattle.math_ntt.specs.RecoveryWork.{AddsWithin}
-use Rattle.math_ntt.proofs.Members.{ring_members}
+use Rattle.math_transforms.specs.CountedWork.{AddsWithin}
+use Rattle.math_transforms.proofs.Members.{ring_members}
 use Rattle.math_ntt.proofs.RecoveredWholes.{evaluations, most-at_any, exact-at_any, only-recovered}
 use Rattle.math_ntt.proofs.ntt.evaluations.EvaluationVector.recover_counted.Goals as goal
 

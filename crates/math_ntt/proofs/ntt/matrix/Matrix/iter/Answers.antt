@@ -1,5 +1,5 @@
 use Rattle.std.proofs.Common.{◌∙◌, rules}
-use Rattle.math_ntt.proofs.MatrixRows.{length-pieces}
+use Rattle.math_transforms.proofs.MatrixRows.{length-pieces}
 use Rattle.math_ntt.proofs.ntt.matrix.Matrix.iter.Goals as goal
 
 pub returns-clause-count : goal.returns-clause-count

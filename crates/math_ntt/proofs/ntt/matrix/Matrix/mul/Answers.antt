@@ -1,8 +1,8 @@
 use Rattle.std.proofs.Common.{◌≡◌, ◌++◌, arith}
 use Rattle.std.proofs.lemmas.List.{length-append}
 use Rattle.math_theory.specs.Sums.{weighted_sum}
-use Rattle.math_ntt.specs.Matrices.{row_of, column_of}
-use Rattle.math_ntt.proofs.MatrixRows.{each-cell-next}
+use Rattle.math_transforms.specs.Matrices.{row_of, column_of}
+use Rattle.math_transforms.proofs.MatrixRows.{each-cell-next}
 use Rattle.math_ntt.proofs.ntt.matrix.Matrix.mul.Goals as goal
 
 pub loop-i-preserved : goal.loop-i-preserved

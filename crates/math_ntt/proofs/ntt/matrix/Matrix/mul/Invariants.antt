@@ -1,6 +1,6 @@
 use Rattle.std.proofs.Common.{◌≡◌, ℕ, ◌+◌, ◌*◌, ◌<◌, length, get_or}
 use Rattle.math_theory.specs.Sums.{weighted_sum}
-use Rattle.math_ntt.specs.Matrices.{row_of, column_of}
+use Rattle.math_transforms.specs.Matrices.{row_of, column_of}
 use Rattle.math_ntt.proofs.ntt.matrix.Matrix.mul.Given as goal
 
 -- the cells of the rows so far

@@ -1,5 +1,5 @@
 use Rattle.std.proofs.Common.{◌≡◌, ◌∙◌, ◌++◌, length, take, drop, ap}
-use Rattle.math_ntt.proofs.FilledCells.{filled-zero}
+use Rattle.math_transforms.proofs.FilledCells.{filled-zero}
 use Rattle.math_ntt.proofs.MatrixProducts.{makes-none, makes-more}
 use Rattle.math_base.proofs.WholeWrites.{take-written}
 use Rattle.math_ntt.proofs.ntt.matrix.product.of_row.Goals as goal

@@ -1,6 +1,6 @@
 use Rattle.std.proofs.Common.{◌∙◌, ◌*◌, take, min, ap, arith}
 use Rattle.math_ntt.proofs.FirstRows.{first_rows}
-use Rattle.math_ntt.proofs.MatrixRows.{length-pieces}
+use Rattle.math_transforms.proofs.MatrixRows.{length-pieces}
 use Rattle.math_ntt.proofs.ntt.polynomials.PolynomialVector.coefficients_up_to.Goals as goal
 
 pub returns-clause-rows : goal.returns-clause-rows

@@ -1,10 +1,10 @@
 use Rattle.std.proofs.Common.{◌≡◌, ◌∙◌, ◌+◌, ◌*◌, ◌^◌, ◌++◌, ℕ, length, take, drop, refl, ap, subst}
-use Rattle.math_ntt.proofs.Members.{ring_members}
-use Rattle.math_ntt.specs.CountedWork.{AddsAtMost}
-use Rattle.math_ntt.specs.DomainValues.{matrix_of, AreValuesOnDomain}
-use Rattle.math_ntt.specs.Matrices.{MatrixOf}
+use Rattle.math_transforms.proofs.Members.{ring_members}
+use Rattle.math_transforms.specs.CountedWork.{AddsAtMost}
+use Rattle.math_transforms.specs.DomainValues.{matrix_of, AreValuesOnDomain}
+use Rattle.math_transforms.specs.Matrices.{MatrixOf}
 use Rattle.math_base.proofs.WholeWrites.{take-written}
-use Rattle.math_ntt.proofs.OnDomain.{count-on_domain, values-on_domain}
+use Rattle.math_transforms.proofs.OnDomain.{count-on_domain, values-on_domain}
 use Rattle.math_ntt.proofs.ntt.polynomials.PolynomialVector.evaluate_counted.Goals as goal
 
 pub returns-in_err-evaluate_rows-clause-bounded : goal.returns-in_err-evaluate_rows-clause-bounded

@@ -1,4 +1,0 @@
-use Rattle.math_ntt.proofs.ntt.transform.order.+next_reversed.Given as goal
-
-abbrev pub decreases-next_reversed : goal.decreases-next_reversed
-decreases-next_reversed l = l.lg

@@ -1,7 +1,0 @@
-use Rattle.std.proofs.Common.{◌≡◌}
-use Rattle.math_ntt.specs.MissingPoints.{count_false, every}
-use Rattle.math_ntt.proofs.ntt.vanishing.count_missing.Given as goal
-
--- the missing ones of the points so far
-abbrev pub invariant-loop-j : goal.invariant-loop-j
-invariant-loop-j l = record { counted : l.missing ≡ count_false (every l.start l.stride l.j l.points) }

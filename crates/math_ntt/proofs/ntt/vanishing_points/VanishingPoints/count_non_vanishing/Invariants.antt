@@ -1,7 +1,0 @@
-use Rattle.std.proofs.Common.{◌≡◌, ◌<◌, ◌^◌, take}
-use Rattle.std.specs.Int.RustNames.{count_ones}
-use Rattle.std.specs.List.{sum_by}
-use Rattle.math_ntt.proofs.ntt.vanishing_points.VanishingPoints.count_non_vanishing.Given as goal
-
-abbrev pub invariant-loop-word : goal.invariant-loop-word
-invariant-loop-word l = (l.count ≡ sum_by count_ones (take l.word-index l.word-items)) × (sum_by count_ones l.word-items < 2 ^ 64)

@@ -1,0 +1,9 @@
+pub mod Matrices
+pub mod Bitmaps
+pub mod CountedWork
+pub mod DomainValues
+pub mod RowProducts
+pub mod MissingPoints
+pub mod CombinedCells
+pub mod LevelTables
+pub mod RootWeights

@@ -1,0 +1,32 @@
+//! Lists of cells.
+
+ghost use Rattle.std.specs.Prelude.{◌≡◌, ◌≤◌, IfOk, length};
+ghost use Rattle.std.specs.List.{AllZip};
+ghost use Rattle.math_transforms.specs.Matrices.{AreFilledUp};
+
+use math_base::algebra::{Additive, Mem, Object};
+use std::alloc::Global;
+
+/// Copies of the cells, in their order.
+pub fn copies<F: Object>(alloc: Global, cells: &[F]) -> Mem<Vec<F>>
+    ensures { IfOk result (λ v. AllZip F.same v.items cells.now) }
+{
+    let mut out = Vec::new(alloc);
+    for cell in cells {
+        out.push(cell.clone(alloc)?)?;
+    }
+    Ok(out)
+}
+
+/// The cells, and after them as many zeros as make their number `count`.
+pub fn filled_up<F: Additive>(alloc: Global, cells: Vec<F>, count: usize) -> Mem<Vec<F>>
+    requires { length cells.items ≤ count }
+    ensures count { IfOk result (λ v. length v.items ≡ count) }
+    ensures cells { IfOk result (λ v. AreFilledUp F.same F.zero cells.items v.items) }
+{
+    let mut out = cells;
+    for _done in out.len()..count {
+        out.push(F::zero(alloc)?)?;
+    }
+    Ok(out)
+}

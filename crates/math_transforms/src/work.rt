@@ -1,0 +1,82 @@
+//! The work of counted calls.
+
+ghost use Rattle.std.specs.Prelude.{◌≡◌, ◌+◌, ◌<◌, ◌^◌};
+
+use std::marker::Model;
+
+/// How much counted calls did: butterflies, each of which combines a pair of cells, and root products.
+/// A root product is one coefficient times one root, when small vanishing polynomials are built.
+///
+/// A counted call adds to it whatever its outcome.
+#[derive(Debug, Drop)]
+pub struct Work {
+    butterflies: u128,
+    root_products: u128,
+}
+
+/// Work is its two numbers.
+impl Model for Work {
+    ghost use Rattle.math_transforms.specs.CountedWork.{WorkOf};
+
+    ghost Value = { WorkOf };
+
+    ghost view = { λ w. record { butterflies = w.butterflies; root_products = w.root_products } };
+}
+
+impl Work {
+    /// No work.
+    pub fn new() -> Self
+        ensures butterflies { result.butterflies ≡ 0 }
+        ensures root_products { result.root_products ≡ 0 }
+    {
+        Work {
+            butterflies: 0,
+            root_products: 0,
+        }
+    }
+
+    /// How many pairs of cells were combined.
+    pub fn butterflies(&self) -> u128
+        ensures { result ≡ self.now.butterflies }
+    {
+        self.butterflies
+    }
+
+    /// How many times a coefficient was multiplied by a root.
+    pub fn root_products(&self) -> u128
+        ensures { result ≡ self.now.root_products }
+    {
+        self.root_products
+    }
+
+    /// One butterfly more.
+    pub(super) fn add_butterfly(&mut self)
+        requires { self.old.butterflies + 1 < 2 ^ 128 }
+        ensures butterflies { self.new.butterflies ≡ self.old.butterflies + 1 }
+        ensures root_products { self.new.root_products ≡ self.old.root_products }
+    {
+        self.butterflies += 1;
+    }
+
+    /// One root product more.
+    pub(super) fn add_root_product(&mut self)
+        requires { self.old.root_products + 1 < 2 ^ 128 }
+        ensures butterflies { self.new.butterflies ≡ self.old.butterflies }
+        ensures root_products { self.new.root_products ≡ self.old.root_products + 1 }
+    {
+        self.root_products += 1;
+    }
+
+    /// The work of both: a loop counts into a `Work` of its own, which is joined to its caller's at the
+    /// end.
+    pub(super) fn join(&mut self, other: Work)
+        requires butterflies { self.old.butterflies < 2 ^ 128 → self.old.butterflies + other.butterflies < 2 ^ 128 }
+        requires root_products { self.old.root_products < 2 ^ 128
+            → self.old.root_products + other.root_products < 2 ^ 128 }
+        ensures butterflies { self.new.butterflies ≡ self.old.butterflies + other.butterflies }
+        ensures root_products { self.new.root_products ≡ self.old.root_products + other.root_products }
+    {
+        self.butterflies += other.butterflies;
+        self.root_products += other.root_products;
+    }
+}
