@@ -1,5 +1,5 @@
 -- Pairs of cells that are combined, one after the other.
-use Rattle.std.proofs.Common.{◌≡◌, ◌≢◌, ◌∙◌, inl, inr, ℕ, ◌+◌, ◌-◌, ◌*◌, ◌/◌, ◌<◌, ◌≤◌, Bool, true, false, eqb, not, List, length, get_or, set, ap, subst, refl, arith}
+use Rattle.std.proofs.Common.{◌≡◌, ◌≢◌, ◌∙◌, inl, inr, ℕ, ◌+◌, ◌-◌, ◌*◌, ◌/◌, ◌<◌, ◌≤◌, Bool, true, false, eqb, not, List, ◌++◌, length, take, drop, get_or, set, ap, subst, refl, arith}
 use Rattle.std.specs.Prelude.{IsTrue}
 use Rattle.std.proofs.lemmas.Bool.{cases_lt, eq-eqb, ne_eqb}
 use Rattle.std.proofs.lemmas.List.{get_or_default, get_or-set_same, get_or-set_other}
@@ -7,6 +7,7 @@ use Rattle.std.proofs.lemmas.Nat.{div-mul-add}
 use Rattle.math_theory.specs.Laws.{IsEquality, IsGroup, IsProduct, IsRing}
 use Rattle.math_base.specs.Members.{RingOf}
 use Rattle.math_transforms.specs.CombinedCells.{IsCombined, AreCombined}
+use Rattle.math_transforms.proofs.WrittenRows.{put-before, put-within, put-after, part-read}
 
 -- a number that stands for a truth value and is not zero stands for true
 pub true-from_number : (n : ℕ) → n ≢ 0 → IsTrue (not (eqb n 0))
@@ -85,6 +86,30 @@ module _ {A : Type 0} (R : RingOf A) where
       lows_after = h.lows_after;
       highs_before = h.highs_before;
       highs_after = h.highs_after;
+    }
+
+    -- n cells of each half from the first place on, by one factor
+    pub combined-row : (w : A) (first n c many : ℕ) (lows highs row other : List A) → n ≡ c → many ≡ n → first + n ≤ length lows → first + n ≤ length highs
+        → length row ≡ n → length other ≡ n → ((p : ℕ) → first ≤ p → p < first + c → w ≡ factor p)
+        → AreCombined R forward (λ _. w) 0 many (take n (drop first lows)) (take n (drop first highs)) row other
+        → AreCombined R forward factor first (first + c) lows highs (take first lows ++ (row ++ drop n (drop first lows))) (take first highs ++ (other ++ drop n (drop first highs)))
+    combined-row w first n c many lows highs row other u v l m e f q h = record {
+      combined = λ p below above.
+          let k = p - first in
+          let at : first + k ≡ p = omega (arith, below) in
+          let inside : k < n = omega (arith, above, below, u) in
+          rw (
+            ← q p below above,
+            ← at,
+            put-within R.zero lows row first n l e k inside,
+            put-within R.zero highs other first n m f k inside,
+            ← part-read R.zero lows first n k inside,
+            ← part-read R.zero highs first n k inside,
+          ) (h.combined k (omega arith) (omega (arith, inside, v)));
+      lows_before = λ p b. put-before R.zero lows row first n l e p b;
+      lows_after = λ p b. put-after R.zero lows row first n l e p (omega (arith, b, u));
+      highs_before = λ p b. put-before R.zero highs other first n m f p b;
+      highs_after = λ p b. put-after R.zero highs other first n m f p (omega (arith, b, u));
     }
 
     -- one pair

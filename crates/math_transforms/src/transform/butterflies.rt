@@ -54,7 +54,30 @@ fn combine<F: FieldNTT, const FORWARD: bool, const AT_ONE: bool>(
     Ok(())
 }
 
-// Combines one row of each half by one power: `cols` pairs, from the place `first` on.
+// Combines the cells of two rows, place by place, by one power.
+fn combine_cells<F: FieldNTT, const FORWARD: bool, const AT_ONE: bool>(
+    alloc: Global,
+    low: &mut [F],
+    high: &mut [F],
+    w: &F,
+    work: &mut Work,
+) -> Mem<()>
+    requires size { length high.old ≡ length low.old }
+    requires room { work.old.butterflies + length low.old < 2 ^ 128 }
+    requires one { IsTrue AT_ONE → F.same w.now F.one }
+    ensures combined { OnOk result (AreCombined F.Ring FORWARD (λ _. w.now) 0 (length low.old)
+        low.old high.old low.new high.new) }
+    ensures counted { OnOk result (work.new.butterflies ≡ work.old.butterflies + length low.old) }
+    ensures bounded { AddsAtMost (2 * length low.old) work.old work.new }
+{
+    for p in 0..low.len() {
+        combine::<F, FORWARD, AT_ONE>(alloc, &mut low[p], &mut high[p], w, work)?;
+    }
+    Ok(())
+}
+
+// Combines one row of each half by one power: `cols` pairs, from the place `first` on. Each row is a
+// slice of its own, so that no place within it has to be tested.
 fn combine_row<F: FieldNTT, const FORWARD: bool, const AT_ONE: bool>(
     alloc: Global,
     low: &mut [F],
@@ -73,9 +96,9 @@ fn combine_row<F: FieldNTT, const FORWARD: bool, const AT_ONE: bool>(
     ensures counted { OnOk result (work.new.butterflies ≡ work.old.butterflies + cols) }
     ensures bounded { AddsAtMost (2 * cols) work.old work.new }
 {
-    for p in first..first + cols {
-        combine::<F, FORWARD, AT_ONE>(alloc, &mut low[p], &mut high[p], w, work)?;
-    }
+    let last = first + cols;
+    let (low, high) = (&mut low[first..last], &mut high[first..last]);
+    combine_cells::<F, FORWARD, AT_ONE>(alloc, low, high, w, work)?;
     Ok(())
 }
 

@@ -1,15 +1,16 @@
-use Rattle.std.proofs.Common.{refl, arith}
-use Rattle.math_transforms.proofs.CombinedPairs.{combined-none, combined-one, combined-then}
+use Rattle.std.proofs.Common.{◌≡◌, ◌∙◌, ◌+◌, ◌-◌, length, take, drop, refl, arith}
+use Rattle.std.proofs.lemmas.List.{length-take-le, length-drop}
+use Rattle.math_transforms.proofs.CombinedPairs.{combined-row}
 use Rattle.math_transforms.proofs.transform.butterflies.combine_row.Goals as goal
 
-pub loop-p-init : goal.loop-p-init
-loop-p-init g c = record { combined = combined-none _ _ _ _ _ _ _ (omega arith); butterflies = omega arith; root_products = omega arith }
-
-pub loop-p-preserved : goal.loop-p-preserved
-loop-p-preserved g c = record {
-  combined =
-      combined-then _ _ _ _ _ _ _ _ _ _ _ _ _ (omega arith) (omega arith) (λ q l m. refl) c.loop-p.invariant.combined
-      (combined-one _ _ _ _ _ _ _ _ (omega arith) (omega arith) _ _ _ refl c.in_ok-combine.ensures.combined);
-  butterflies = omega arith;
-  root_products = omega arith;
-}
+pub returns-clause-combined : goal.returns-clause-combined
+returns-clause-combined g c =
+    let first = c.args.first in
+    let n = first + c.args.cols - first in
+    let lows = c.args.low.now in
+    let highs = c.args.high.now in
+    let count : n ≡ c.args.cols = omega arith in
+    let part : length (take n (drop first lows)) ≡ n = length-take-le n (drop first lows) (omega (arith, length-drop first lows)) in
+    let other : length (take n (drop first highs)) ≡ n = length-take-le n (drop first highs) (omega (arith, length-drop first highs)) in
+    combined-row _ _ _ _ first n c.args.cols _ lows highs _ _ count part (omega arith) (omega arith)
+    (c.combine_cells.auto.low ∙ part) (c.combine_cells.auto.high ∙ other) (λ p l m. refl) c.in_ok-combine_cells.ensures.combined
