@@ -50,7 +50,7 @@ enum cwm_status {
 #define CWM_TEXT_SIZE 32
 
 /* Writes the text of a status, in ASCII, and zeros behind it, up to m bytes.
- * CWM_WRONG_SIZE where m is below CWM_TEXT_SIZE. */
+ * CWM_WRONG_SIZE where m is below CWM_TEXT_SIZE. The text of a number that is no status is "no status". */
 uint32_t cwm_status_text(uint32_t status, char *text, size_t m);
 
 /* Writes the value at x of the polynomial with these n coefficients into *out.
@@ -119,13 +119,13 @@ uint32_t cwm_split(const uint64_t *data, size_t n, uint32_t min, uint32_t total,
 
 /* Writes the data that k shards give back over the first of the m words of data, and their number into
  * *written. Row i of the n words of `cells`, in k rows, is the shard whose index is indices[i]; the order
- * does not matter, and a shard that is there twice counts once. At most min * (n / k) words are written;
- * less room than needed: CWM_WRONG_SIZE.
+ * does not matter, and a shard that is there twice counts once. At most min * (n / k) words are written,
+ * and no more than were split; less room than needed: CWM_WRONG_SIZE.
  * n is a multiple of k, and 0 where k is, else CWM_WRONG_SIZE. A word of P or more: CWM_OUT_OF_RANGE. Then,
  * in this order: no shard at all: CWM_TOO_FEW; not 1 <= min <= total: CWM_MISMATCH; an index of `total` or
  * more: CWM_WRONG_INDEX; unequal shards of one index: CWM_CONFLICT; fewer than `min` distinct indices:
- * CWM_TOO_FEW; shards of no data: CWM_INCONSISTENT. Where more than `min` shards are there, damage to one
- * is so found; where just `min` are there, it is not.
+ * CWM_TOO_FEW; shards of no data: CWM_INCONSISTENT. Where shards of more than `min` distinct indices are
+ * there, damage to one is so found; where there are just `min`, it may not be.
  * Takes memory for a few times N rows of a shard's size, where N is `total` rounded up to a power of two:
  * who takes shards from strangers bounds `total` first. */
 uint32_t cwm_join(const uint32_t *indices, size_t k, uint32_t min, uint32_t total, const uint64_t *cells, size_t n,
