@@ -52,17 +52,20 @@ impl F {
         value: 0x1036_c402_3580_ce8d,
     };
 
-    /// The remainder by P of a sum that is below 2 P, of which one part may be P or more.
+    /// The remainder by P of a sum that is below 2 P, of which the first part may be P or more. The sum is
+    /// below P exactly where a - (P - b) is below zero, so that one borrow decides.
     fn sum_of_words(a: u64, b: u64) -> F
-        requires { a + b < P + P }
+        requires sum { a + b < P + P }
+        requires second { b ≤ P }
         ensures { number result ≡ (a + b) % P }
     {
-        let (addition, overflow) = a.overflowing_add(b);
-        let (subtraction, underflow) = addition.overflowing_sub(MODULUS);
-        if overflow || !underflow {
-            F { value: subtraction }
+        let (difference, underflow) = a.overflowing_sub(MODULUS - b);
+        if underflow {
+            F {
+                value: difference.wrapping_add(MODULUS),
+            }
         } else {
-            F { value: addition }
+            F { value: difference }
         }
     }
 
