@@ -1,5 +1,5 @@
 -- From the transform of the columns to values at the powers of the root, and back.
-use Rattle.std.proofs.Common.{◌≡◌, ◌∙◌, ℕ, ◌+◌, ◌*◌, ◌^◌, ◌<◌, List, length, get_or, sym, ap, arith}
+use Rattle.std.proofs.Common.{◌≡◌, ◌∙◌, ℕ, ◌+◌, ◌*◌, ◌^◌, ◌<◌, List, length, get_or, sym, ap, ap₂, arith}
 use Rattle.std.proofs.lemmas.List.{ext_get_or, length-map, get_or-map}
 use Rattle.std.proofs.lemmas.List.FromFn.{length-map-range_with_len, get_or-map-range_with_len}
 use Rattle.std.proofs.lemmas.Nat.{mul-add-lt}
@@ -22,6 +22,7 @@ use Rattle.math_theory.proofs.transforms.TransformValues.{transform-values}
 use Rattle.math_theory.proofs.polynomials.Values.{value-multiple}
 use Rattle.math_base.specs.Members.{RingOf}
 use Rattle.math_transforms.specs.CombinedCells.{AreTransformed, AreTransformedBack, AreRowsReversed}
+use Rattle.math_transforms.specs.CosetValues.{AreMultiplesAtPowers}
 use Rattle.math_transforms.specs.DomainValues.{matrix_of, AreValuesAtPowers}
 use Rattle.math_transforms.specs.Matrices.{column_of}
 use Rattle.math_transforms.proofs.ColumnHalves.{classes_of_column, length-classes_of_column, at-place}
@@ -82,21 +83,33 @@ module _ {A : Type 0} (R : RingOf A) (E : IsEquality R.same) (G : IsGroup R.same
       ∙ transform-values C lg (class E w) (column k mid) (count k mid) root ∙ ap (OverRing.values_at C points) back)
       ∙ value-at (column k cells) j l ∙ value-of_column k j cells)
 
-  -- what the way back gives, its rows in bit-reversed order and scaled by 1 / 2^lg, are the coefficients
-  pub values-back : (v f : A) (cells mid turned new : List A) → R.same (R.product w v) R.one
-      → R.same (R.product f (power R.one R.product (R.sum R.one R.one) lg)) R.one
-      → length cells ≡ n * c → length mid ≡ n * c → length turned ≡ n * c → length new ≡ n * c
+  -- what the way back gives, its rows in bit-reversed order, is 2^lg times the coefficients
+  pub values-back_multiplied : (v : A) (cells mid turned : List A) → R.same (R.product w v) R.one
+      → length cells ≡ n * c → length mid ≡ n * c → length turned ≡ n * c
       → AreTransformedBack R lg v (matrix_of n c cells) (matrix_of n c mid) → AreRowsReversed R.zero lg (matrix_of n c mid) (matrix_of n c turned)
-      → ((p : ℕ) → p < length turned → R.same (get_or new p R.zero) (R.product (get_or turned p R.zero) f))
-      → AreValuesAtPowers R w (matrix_of n c new) (matrix_of n c cells)
-  values-back v f cells mid turned new unit half a b d e h reversed scaled j k l m =
+      → AreMultiplesAtPowers R w lg (matrix_of n c turned) (matrix_of n c cells)
+  values-back_multiplied v cells mid turned unit a b d h reversed j k l m =
       let t = OverRing.power C (C.sum C.one C.one) lg in
-      let x = OverRing.power C (class E w) j in
-      let inverse_is : C.product (class E f) t ≡ C.one =
-      ap (C.product (class E f)) (power-class E G P L (R.sum R.one R.one) lg) ∙ class_same E _ _ half in
       let turned_is : column k turned ≡ bit_reversed_order lg (DomainsOverRing.inverse_transform C lg (class E v) (column k cells)) =
       column-reversed k mid turned m b d reversed
       ∙ ap (bit_reversed_order lg) (classes-same E _ _ (h k m) ∙ inverse_transform-class E G P L lg v (column_of R.zero (matrix_of n c cells) k)) in
+      same_class E _ _
+      (sym
+      (sym (value-of_column k j turned) ∙ sym (value-at (column k turned) j l)
+      ∙ ap (λ y. get_or y j C.zero)
+      (ap (OverRing.values_at C points) turned_is ∙ values-inverse_transform C lg (class E w) (class E v) (column k cells) root (class_same E _ _ unit) (count k cells))
+      ∙ coefficient-multiple C (column k cells) t j
+      ∙ ap₂ C.product (at-place R E G P L n c k j cells m a) (power-class E G P L (R.sum R.one R.one) lg)))
+
+  -- multiples, scaled by 1 / 2^lg, are the coefficients
+  pub values-scaled : (f : A) (cells turned new : List A) → R.same (R.product f (power R.one R.product (R.sum R.one R.one) lg)) R.one
+      → length turned ≡ n * c → length new ≡ n * c → AreMultiplesAtPowers R w lg (matrix_of n c turned) (matrix_of n c cells)
+      → ((p : ℕ) → p < length turned → R.same (get_or new p R.zero) (R.product (get_or turned p R.zero) f))
+      → AreValuesAtPowers R w (matrix_of n c new) (matrix_of n c cells)
+  values-scaled f cells turned new half d e multiples scaled j k l m =
+      let x = OverRing.power C (class E w) j in
+      let t = power R.one R.product (R.sum R.one R.one) lg in
+      let cell = class E (get_or cells (j * c + k) R.zero) in
       let new_is : column k new ≡ OverRing.polynomial_multiple C (column k turned) (class E f) =
       ext_get_or C.zero (column k new) (OverRing.polynomial_multiple C (column k turned) (class E f))
       (count k new ∙ sym (length-map (column k turned) (λ y. C.product y (class E f)) ∙ count k turned))
@@ -104,15 +117,18 @@ module _ {A : Type 0} (R : RingOf A) (E : IsEquality R.same) (G : IsGroup R.same
       let place : i * c + k < length turned = let z = mul-add-lt i c k n (let r : i < n = omega (arith, q, count k new) in r) m in omega (arith, z, d) in
       at-place R E G P L n c k i new m e ∙ class_same E _ _ (scaled (i * c + k) place)
       ∙ ap (λ y. C.product y (class E f)) (sym (at-place R E G P L n c k i turned m d)) ∙ sym (coefficient-multiple C (column k turned) (class E f) i)) in
-      let turned_value : OverRing.value C x (column k turned) ≡ C.product (get_or (column k cells) j C.zero) t =
-      sym (value-at (column k turned) j l)
-      ∙ ap (λ y. get_or y j C.zero)
-      (ap (OverRing.values_at C points) turned_is ∙ values-inverse_transform C lg (class E w) (class E v) (column k cells) root (class_same E _ _ unit) (count k cells))
-      ∙ coefficient-multiple C (column k cells) t j in
       same_class E _ _
       (sym
       (sym (value-of_column k j new) ∙ ap (OverRing.value C x) new_is ∙ value-multiple C x (column k turned) (class E f)
-      ∙ ap (λ y. C.product y (class E f)) turned_value ∙ C.product_assoc (get_or (column k cells) j C.zero) t (class E f)
-      ∙ ap (C.product (get_or (column k cells) j C.zero)) (C.product_comm t (class E f) ∙ inverse_is)
-      ∙ C.product_comm (get_or (column k cells) j C.zero) C.one ∙ C.product_one (get_or (column k cells) j C.zero)
-      ∙ at-place R E G P L n c k j cells m a))
+      ∙ ap (λ y. C.product y (class E f)) (value-of_column k j turned ∙ sym (class_same E _ _ (multiples j k l m))) ∙ C.product_assoc cell (class E t) (class E f)
+      ∙ ap (C.product cell) (C.product_comm (class E t) (class E f) ∙ class_same E _ _ half)
+      ∙ C.product_comm cell C.one ∙ C.product_one cell))
+
+  -- both
+  pub values-back : (v f : A) (cells mid turned new : List A) → R.same (R.product w v) R.one
+      → R.same (R.product f (power R.one R.product (R.sum R.one R.one) lg)) R.one
+      → length cells ≡ n * c → length mid ≡ n * c → length turned ≡ n * c → length new ≡ n * c
+      → AreTransformedBack R lg v (matrix_of n c cells) (matrix_of n c mid) → AreRowsReversed R.zero lg (matrix_of n c mid) (matrix_of n c turned)
+      → ((p : ℕ) → p < length turned → R.same (get_or new p R.zero) (R.product (get_or turned p R.zero) f))
+      → AreValuesAtPowers R w (matrix_of n c new) (matrix_of n c cells)
+  values-back v f cells mid turned new unit half a b d e h reversed scaled = values-scaled f cells turned new half d e (values-back_multiplied v cells mid turned unit a b d h reversed) scaled

@@ -20,6 +20,7 @@ pub mod SixteenRows
 pub mod DomainSteps
 pub mod DomainTransforms
 pub mod ScaledCells
+pub mod CosetRows
 pub mod PowerTables
 pub mod TreeCounts
 pub mod OnDomain

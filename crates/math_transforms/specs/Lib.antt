@@ -2,6 +2,7 @@ pub mod Matrices
 pub mod Bitmaps
 pub mod CountedWork
 pub mod DomainValues
+pub mod CosetValues
 pub mod RowProducts
 pub mod MissingPoints
 pub mod CombinedCells

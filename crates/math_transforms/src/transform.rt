@@ -18,15 +18,19 @@ ghost use Rattle.std.specs.Prelude.{◌≡◌, ◌+◌, ◌-◌, ◌*◌, ◌<�
 ghost use Rattle.std.specs.Int.{IsPowerOfTwo};
 ghost use Rattle.math_theory.specs.Powers.{power};
 ghost use Rattle.math_transforms.specs.CombinedCells.{AreTransformed, AreTransformedBack};
+ghost use Rattle.math_transforms.specs.CosetValues.{AreMultiplesAtPowers};
 ghost use Rattle.math_transforms.specs.CountedWork.{AddsAtMost};
 ghost use Rattle.math_transforms.specs.DomainValues.{matrix_of, AreValuesAtPowers, ArePowersByLevel};
 
 mod butterflies;
+pub mod coset;
+mod four;
 mod order;
 mod table;
 
 use super::work::Work;
 use butterflies::{combine_halves, combine_pair};
+use four::{transform_four, untransform_four};
 use math_base::algebra::{Field, FieldNTT, Mem, Multiplicative, Object, Ring};
 use order::reverse_rows;
 use std::alloc::Global;
@@ -121,12 +125,37 @@ pub fn interpolate_rows<F: FieldNTT>(
     ensures counted { OnOk result (2 * work.new.butterflies ≡ 2 * work.old.butterflies + cols * 2 ^ lg * lg) }
     ensures bounded { AddsAtMost (cols * 2 ^ lg * lg) work.old work.new }
 {
-    untransform_halves(alloc, cells, cols, lg, table, work)?;
-    reverse_rows(cells, cols, lg);
+    interpolate_multiples(alloc, cells, cols, lg, table, work)?;
     if lg > 0 {
         let factor = size_inverse(alloc, lg)?;
         scale(alloc, cells, &factor)?;
     }
+    Ok(())
+}
+
+/// As `interpolate_rows`, but each coefficient is multiplied by 2^lg: a caller that multiplies the rows by
+/// other factors as well can divide by it in the same pass over the cells.
+pub fn interpolate_multiples<F: FieldNTT>(
+    alloc: Global,
+    cells: &mut [F],
+    cols: usize,
+    lg: u8,
+    table: &[F],
+    work: &mut Work,
+) -> Mem<()>
+    requires domain { lg ≤ F.MAX_LG_ROOT_ORDER }
+    requires small { lg < 64 }
+    requires size { length cells.old ≡ 2 ^ lg * cols }
+    requires table { ArePowersByLevel F.Ring (λ l. F.inverse (F.root l)) lg table.now }
+    requires room { 2 * work.old.butterflies + cols * 2 ^ lg * lg < 2 ^ 129 }
+    ensures size { length cells.new ≡ length cells.old }
+    ensures values { OnOk result (AreMultiplesAtPowers F.Ring (F.root lg) lg
+        (matrix_of (2 ^ lg) cols cells.new) (matrix_of (2 ^ lg) cols cells.old)) }
+    ensures counted { OnOk result (2 * work.new.butterflies ≡ 2 * work.old.butterflies + cols * 2 ^ lg * lg) }
+    ensures bounded { AddsAtMost (cols * 2 ^ lg * lg) work.old work.new }
+{
+    untransform_halves(alloc, cells, cols, lg, table, work)?;
+    reverse_rows(cells, cols, lg);
     Ok(())
 }
 
@@ -153,9 +182,13 @@ fn transform_halves<F: FieldNTT>(
     if lg == 0 {
         return Ok(());
     }
-    // Without this, most calls would be for the single cells of such a column.
+    // Without these two, most calls would be for few cells of such a column.
     if lg == 1 && cols == 1 {
         combine_pair::<F, true>(alloc, cells, &table[1], work)?;
+        return Ok(());
+    }
+    if lg == 2 && cols == 1 {
+        transform_four(alloc, cells, table, work)?;
         return Ok(());
     }
     let half = size_of(lg - 1);
@@ -190,9 +223,13 @@ fn untransform_halves<F: FieldNTT>(
     if lg == 0 {
         return Ok(());
     }
-    // Without this, most calls would be for the single cells of such a column.
+    // Without these two, most calls would be for few cells of such a column.
     if lg == 1 && cols == 1 {
         combine_pair::<F, false>(alloc, cells, &table[1], work)?;
+        return Ok(());
+    }
+    if lg == 2 && cols == 1 {
+        untransform_four(alloc, cells, table, work)?;
         return Ok(());
     }
     let half = size_of(lg - 1);
@@ -204,8 +241,8 @@ fn untransform_halves<F: FieldNTT>(
     Ok(())
 }
 
-// 1 / 2^lg: one, halved lg times.
-fn size_inverse<F: FieldNTT>(alloc: Global, lg: u8) -> Mem<F>
+/// 1 / 2^lg: one, halved lg times.
+pub fn size_inverse<F: FieldNTT>(alloc: Global, lg: u8) -> Mem<F>
     ensures { IfOk result (λ x. F.same (F.product x (power F.one F.product (F.sum F.one F.one) lg)) F.one) }
 {
     let mut out = F::one(alloc)?;

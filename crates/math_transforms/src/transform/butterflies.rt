@@ -175,6 +175,29 @@ pub(super) fn combine_pair<F: FieldNTT, const FORWARD: bool>(
     Ok(())
 }
 
+// Combines two halves of two cells of one column, cell i of each by power i. Power 0 is one.
+pub(super) fn combine_two<F: FieldNTT, const FORWARD: bool>(
+    alloc: Global,
+    low: &mut [F],
+    high: &mut [F],
+    powers: &[F],
+    work: &mut Work,
+) -> Mem<()>
+    requires low { length low.old ≡ 2 }
+    requires high { length high.old ≡ 2 }
+    requires powers { length powers.now ≡ 2 }
+    requires room { work.old.butterflies + 2 < 2 ^ 128 }
+    requires one { F.same (slice_index_or powers.now 0 F.zero) F.one }
+    ensures combined { OnOk result (AreCombined F.Ring FORWARD (λ p. slice_index_or powers.now p F.zero) 0 2
+        low.old high.old low.new high.new) }
+    ensures counted { OnOk result (work.new.butterflies ≡ work.old.butterflies + 2) }
+    ensures bounded { AddsAtMost 4 work.old work.new }
+{
+    combine::<F, FORWARD, true>(alloc, &mut low[0], &mut high[0], &powers[0], work)?;
+    combine::<F, FORWARD, false>(alloc, &mut low[1], &mut high[1], &powers[1], work)?;
+    Ok(())
+}
+
 // Combines two halves, row i of each by power i, of which power 0 is one. The loops count into a `Work` of
 // their own, which is joined to the caller's at their end, refused or not, so that the additions can be
 // summed.
