@@ -13,18 +13,18 @@ column-room lg h =
     let a : 2 ^ lg * lg ≤ 2 ^ 63 * 64 = mul-le-mul (power_of_two-word lg h) (let l : lg ≤ 64 = omega arith in l) in
     omega arith
 
--- the bound of a whole recovery: of the tree, of V times the cells, and of the division
-pub whole-bound : (lg c : ℕ) → 2 ^ lg * lg * (3 * lg - 1) + (c + 2) * 2 ^ lg * lg + (c + c + 1) * 2 ^ lg * lg ≡ 2 ^ lg * lg * (3 * lg + 3 * c + 2)
+-- the bound of a whole recovery: of the tree, and of the division
+pub whole-bound : (lg c : ℕ) → 2 ^ lg * lg * (3 * lg - 1) + (3 * c + 3) * 2 ^ lg * lg ≡ 2 ^ lg * lg * (3 * lg + 3 * c + 2)
 whole-bound zero c = omega arith
 whole-bound (suc k) c =
     let more : 3 * suc k - 1 ≡ 3 * k + 2 = omega arith in
     rw more (at_power (2 ^ suc k))
   where
-    at_power : (p : ℕ) → p * suc k * (3 * k + 2) + (c + 2) * p * suc k + (c + c + 1) * p * suc k ≡ p * suc k * (3 * suc k + 3 * c + 2)
+    at_power : (p : ℕ) → p * suc k * (3 * k + 2) + (3 * c + 3) * p * suc k ≡ p * suc k * (3 * suc k + 3 * c + 2)
     at_power p = omega arith
 
 -- all that is added is far below 2^127
-pub whole-room : (lg c : ℕ) → lg < 64 → 2 ^ lg * c < 2 ^ 64 → 2 ^ lg * lg * (3 * lg - 1) + (c + 2) * 2 ^ lg * lg + (c + c + 1) * 2 ^ lg * lg < 2 ^ 100
+pub whole-room : (lg c : ℕ) → lg < 64 → 2 ^ lg * c < 2 ^ 64 → 2 ^ lg * lg * (3 * lg - 1) + (3 * c + 3) * 2 ^ lg * lg < 2 ^ 100
 whole-room lg c h l =
-    let split : (c + 2) * 2 ^ lg * lg + (c + c + 1) * 2 ^ lg * lg ≡ 3 * (c * 2 ^ lg * lg) + 3 * (2 ^ lg * lg) = omega arith in
+    let split : (3 * c + 3) * 2 ^ lg * lg ≡ 3 * (c * 2 ^ lg * lg) + 3 * (2 ^ lg * lg) = omega arith in
     omega (arith, merges-room lg h, transform-room lg c h l, column-room lg h)

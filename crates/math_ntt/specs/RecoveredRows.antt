@@ -4,7 +4,9 @@ use Rattle.math_theory.specs.Powers.{power}
 use Rattle.math_theory.specs.Recovery.{Fits, count_true}
 use Rattle.math_base.specs.Members.{RingOf}
 use Rattle.math_base.specs.Polynomials.{value_in_ring}
+use Rattle.math_transforms.specs.CosetValues.{AreValuesOnCoset}
 use Rattle.math_transforms.specs.CountedWork.{WorkOf}
+use Rattle.math_transforms.specs.DomainValues.{matrix_of}
 use Rattle.math_ntt.specs.Evaluations.{EvaluationsOf}
 use Rattle.math_transforms.specs.Matrices.{MatrixOf, column_of, cell_of}
 use Rattle.math_transforms.specs.MissingPoints.{count_false}
@@ -46,6 +48,23 @@ AreQuotientsOnCoset R w s g v q =
     let at = power R.one R.product w in
     (i k : ℕ) → i < g.rows → k < g.cols
     → R.same (R.product (value_in_ring R (column_of R.zero q k) (R.product s (at i))) (value_in_ring R v (R.product s (at i)))) (value_in_ring R (column_of R.zero g k) (R.product s (at i)))
+
+-- where the cells are the values on the coset of the columns of some g, and the divisors those of some v with no zero there, the columns of q are
+-- the quotients
+abbrev pub AreQuotientsOfValues : {A : Type 0} → RingOf A → A → A → ℕ → ℕ → List A → List A → List A → Type 0
+AreQuotientsOfValues {A} R w s n c cells divisors q =
+    (g v : List A) → length v ≡ n → AreValuesOnCoset R w s (matrix_of n c g) (matrix_of n c cells) → AreValuesOnCoset R w s (matrix_of n 1 v) (matrix_of n 1 divisors)
+    → IsNonzeroOnCoset R w s n v → AreQuotientsOnCoset R w s (matrix_of n c g) v (matrix_of n c q)
+
+-- there are products, whose values at the first n powers of w are the cells times those of v, and a divisor, whose values there are those of v:
+-- where the divisor has no zero on the coset by s, the columns of q are the quotients
+pub record AreDivided {A : Type 0} (R : RingOf A) (w s : A) (n c : ℕ) (cells v q : List A) : Type 0 where
+  pub product : List A
+  pub divisor : List A
+  pub divisor_size : length divisor ≡ n
+  pub products : AreProductsOnDomain R w (matrix_of n c cells) v (matrix_of n c product)
+  pub same_values : HaveSameValuesOnDomain R w n v divisor
+  pub quotients : IsNonzeroOnCoset R w s n divisor → AreQuotientsOnCoset R w s (matrix_of n c product) divisor (matrix_of n c q)
 
 -- the work of a recovery of 2^lg rows that succeeds: with no row or all rows filled, that of one transform; with some missing, and lg at most 8,
 -- three transforms of all columns and of one more, and v (v + 1) / 2 root products for v missing rows

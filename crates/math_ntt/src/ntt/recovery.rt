@@ -7,7 +7,7 @@
 //! there. So f V is had by interpolation. On the domain it can't be divided by V, but on the coset of
 //! the domain by the shift V has no zero: there f V and V are evaluated, the quotients are values of f,
 //! and these are interpolated. Multiplying coefficient i by power i of the shift moves a polynomial to
-//! the coset, and by power i of its inverse back.
+//! the coset, and by power i of its inverse back. `move_rows` goes from the domain to the coset without a stop.
 //!
 //! One inversion serves all divisions. With no row filled the answer is zero, and with all it is what
 //! has the cells as its values: then there is no polynomial that vanishes, and each is one
@@ -16,19 +16,22 @@
 ghost use Rattle.std.specs.Prelude.{◌≡◌, ◌+◌, ◌*◌, ◌<◌, ◌≤◌, ◌^◌, ℕ, IfOk, OnOk, length};
 ghost use Rattle.std.specs.List.{All};
 ghost use Rattle.math_theory.specs.Recovery.{count_true};
+ghost use Rattle.math_transforms.specs.CosetValues.{AreMovedValues};
 ghost use Rattle.math_transforms.specs.CountedWork.{AddsAtMost, AddsWithin};
 ghost use Rattle.math_transforms.specs.DomainValues.{matrix_of, AreValuesAtPowers, ArePowersByLevel, HasDomain};
 ghost use Rattle.math_transforms.specs.Matrices.{IsOfSize};
 ghost use Rattle.math_transforms.specs.MissingPoints.{count_false};
-ghost use Rattle.math_ntt.specs.RecoveredRows.{AreProductsOnDomain, AreQuotientsOnCoset, HaveSameValuesOnDomain, IsNonzeroOnCoset, AreRecovered, AreOnlyRecovered, IsExactWork};
+ghost use Rattle.math_ntt.specs.RecoveredRows.{AreDivided, AreQuotientsOfValues, AreRecovered, AreOnlyRecovered, IsExactWork};
 
 use super::evaluations::EvaluationVector;
 use super::matrix::Matrix;
 use super::polynomials::PolynomialVector;
 use math_base::algebra::{Additive, FieldNTT, Mem};
 use math_transforms::row_products::{dilate_rows, multiply_rows};
+use math_transforms::transform::coset::{coset_factors, move_rows};
 use math_transforms::transform::{
-    evaluate_rows, evaluation_table, interpolate_rows, interpolation_table, lg_of, size_of,
+    evaluate_rows, evaluation_table, interpolate_multiples, interpolate_rows, interpolation_table,
+    lg_of, size_inverse, size_of,
 };
 use math_transforms::vanishing::vanishing_coefficients;
 use math_transforms::vanishing_points::VanishingPoints;
@@ -162,8 +165,8 @@ fn interpolated<F: FieldNTT>(
     Ok(())
 }
 
-/// The coefficients of f V in each column, and those of V, interpolated again from its values.
-fn times_vanishing<F: FieldNTT>(
+/// The values of the polynomials, and those of V, on the coset: both were values on the domain.
+fn moved_to_coset<F: FieldNTT>(
     alloc: Global,
     cells: &mut [F],
     vanishing: &mut [F],
@@ -179,24 +182,74 @@ fn times_vanishing<F: FieldNTT>(
     requires vanishing_size { length vanishing.old ≡ 2 ^ lg }
     requires evaluation { ArePowersByLevel F.Ring F.root lg evaluation.now }
     requires interpolation { ArePowersByLevel F.Ring (λ l. F.inverse (F.root l)) lg interpolation.now }
-    requires room { 2 * work.old.butterflies + (cols + 2) * 2 ^ lg * lg < 2 ^ 129 }
+    requires room { 2 * work.old.butterflies + (cols + cols + 2) * 2 ^ lg * lg < 2 ^ 129 }
     ensures size { length cells.new ≡ length cells.old }
     ensures vanishing_size { length vanishing.new ≡ length vanishing.old }
-    ensures products { OnOk result (AreProductsOnDomain F.Ring (F.root lg)
-        (matrix_of (2 ^ lg) cols cells.old) vanishing.old (matrix_of (2 ^ lg) cols cells.new)) }
-    ensures again { OnOk result (HaveSameValuesOnDomain F.Ring (F.root lg) (2 ^ lg) vanishing.old vanishing.new) }
-    ensures counted { OnOk result (2 * work.new.butterflies ≡ 2 * work.old.butterflies + (cols + 2) * 2 ^ lg * lg) }
-    ensures bounded { AddsAtMost ((cols + 2) * 2 ^ lg * lg) work.old work.new }
+    ensures cells { OnOk result (AreMovedValues F.Ring (F.root lg) F.shift (2 ^ lg) cols cells.old cells.new) }
+    ensures vanishing { OnOk result (AreMovedValues F.Ring (F.root lg) F.shift (2 ^ lg) 1
+        vanishing.old vanishing.new) }
+    ensures counted { OnOk result (2 * work.new.butterflies
+        ≡ 2 * work.old.butterflies + (cols + cols + 2) * 2 ^ lg * lg) }
+    ensures bounded { AddsAtMost ((cols + cols + 2) * 2 ^ lg * lg) work.old work.new }
 {
-    evaluate_rows(alloc, vanishing, 1, lg, evaluation, work)?;
-    multiply_rows(alloc, cells, cols, vanishing)?;
-    interpolate_rows(alloc, cells, cols, lg, interpolation, work)?;
-    interpolate_rows(alloc, vanishing, 1, lg, interpolation, work)?;
+    let factors = coset_factors::<F>(alloc, lg)?;
+    move_rows(
+        alloc,
+        vanishing,
+        1,
+        lg,
+        &factors,
+        evaluation,
+        interpolation,
+        work,
+    )?;
+    move_rows(
+        alloc,
+        cells,
+        cols,
+        lg,
+        &factors,
+        evaluation,
+        interpolation,
+        work,
+    )?;
     Ok(())
 }
 
-/// The coefficients in each column of the polynomial divided by V: both are moved to the coset by the
-/// shift, evaluated, and the quotients interpolated and moved back.
+/// The coefficients of the quotients in each column, from the values of the dividends and of the divisor on
+/// the coset. The values of the quotients are also divided by 2^lg, since the way back multiplies by it.
+fn quotients_from_coset<F: FieldNTT>(
+    alloc: Global,
+    cells: &mut [F],
+    divisors: &[F],
+    cols: usize,
+    lg: u8,
+    interpolation: &[F],
+    work: &mut Work,
+) -> Mem<()>
+    requires domain { lg ≤ F.MAX_LG_ROOT_ORDER }
+    requires small { lg < 64 }
+    requires size { length cells.old ≡ 2 ^ lg * cols }
+    requires divisors { length divisors.now ≡ 2 ^ lg }
+    requires interpolation { ArePowersByLevel F.Ring (λ l. F.inverse (F.root l)) lg interpolation.now }
+    requires room { 2 * work.old.butterflies + cols * 2 ^ lg * lg < 2 ^ 129 }
+    ensures size { length cells.new ≡ length cells.old }
+    ensures quotients { OnOk result (AreQuotientsOfValues F.Ring (F.root lg) F.shift (2 ^ lg) cols
+        cells.old divisors.now cells.new) }
+    ensures counted { OnOk result (2 * work.new.butterflies ≡ 2 * work.old.butterflies + cols * 2 ^ lg * lg) }
+    ensures bounded { AddsAtMost (cols * 2 ^ lg * lg) work.old work.new }
+{
+    let numerator = size_inverse(alloc, lg)?;
+    let inverses = quotients(alloc, numerator, divisors)?;
+    multiply_rows(alloc, cells, cols, &inverses)?;
+    interpolate_multiples(alloc, cells, cols, lg, interpolation, work)?;
+    let back = F::coset_shift_inv(alloc)?;
+    dilate_rows(alloc, cells, cols, divisors.len(), &back)?;
+    Ok(())
+}
+
+/// The coefficients in each column of f V divided by V: the values of f V on the domain are the cells times
+/// those of V, both are moved to the coset, and there divided.
 fn divided<F: FieldNTT>(
     alloc: Global,
     cells: &mut [F],
@@ -213,27 +266,27 @@ fn divided<F: FieldNTT>(
     requires vanishing_size { length vanishing.old ≡ 2 ^ lg }
     requires evaluation { ArePowersByLevel F.Ring F.root lg evaluation.now }
     requires interpolation { ArePowersByLevel F.Ring (λ l. F.inverse (F.root l)) lg interpolation.now }
-    requires room { 2 * work.old.butterflies + (cols + cols + 1) * 2 ^ lg * lg < 2 ^ 129 }
+    requires room { 2 * work.old.butterflies + (3 * cols + 3) * 2 ^ lg * lg < 2 ^ 129 }
     ensures size { length cells.new ≡ length cells.old }
-    ensures quotients { OnOk result (IsNonzeroOnCoset F.Ring (F.root lg) F.shift (2 ^ lg) vanishing.old
-        → AreQuotientsOnCoset F.Ring (F.root lg) F.shift (matrix_of (2 ^ lg) cols cells.old) vanishing.old
-        (matrix_of (2 ^ lg) cols cells.new)) }
+    ensures divided { OnOk result (AreDivided F.Ring (F.root lg) F.shift (2 ^ lg) cols
+        cells.old vanishing.old cells.new) }
     ensures counted { OnOk result (2 * work.new.butterflies
-        ≡ 2 * work.old.butterflies + (cols + cols + 1) * 2 ^ lg * lg) }
-    ensures bounded { AddsAtMost ((cols + cols + 1) * 2 ^ lg * lg) work.old work.new }
+        ≡ 2 * work.old.butterflies + (3 * cols + 3) * 2 ^ lg * lg) }
+    ensures bounded { AddsAtMost ((3 * cols + 3) * 2 ^ lg * lg) work.old work.new }
 {
-    let rows = vanishing.len();
-    let shift = F::coset_shift(alloc)?;
-    dilate_rows(alloc, vanishing, 1, rows, &shift)?;
     evaluate_rows(alloc, vanishing, 1, lg, evaluation, work)?;
-    dilate_rows(alloc, cells, cols, rows, &shift)?;
-    evaluate_rows(alloc, cells, cols, lg, evaluation, work)?;
-    let one = F::one(alloc)?;
-    let inverses = quotients(alloc, one, vanishing)?;
-    multiply_rows(alloc, cells, cols, &inverses)?;
-    interpolate_rows(alloc, cells, cols, lg, interpolation, work)?;
-    let back = F::coset_shift_inv(alloc)?;
-    dilate_rows(alloc, cells, cols, rows, &back)?;
+    multiply_rows(alloc, cells, cols, vanishing)?;
+    moved_to_coset(
+        alloc,
+        cells,
+        vanishing,
+        cols,
+        lg,
+        evaluation,
+        interpolation,
+        work,
+    )?;
+    quotients_from_coset(alloc, cells, vanishing, cols, lg, interpolation, work)?;
     Ok(())
 }
 
@@ -269,16 +322,6 @@ fn recovered<F: FieldNTT>(
     let mut vanishing = vanishing_coefficients(
         alloc,
         points,
-        lg,
-        &evaluation,
-        &interpolation,
-        work,
-    )?;
-    times_vanishing(
-        alloc,
-        cells,
-        &mut vanishing,
-        cols,
         lg,
         &evaluation,
         &interpolation,

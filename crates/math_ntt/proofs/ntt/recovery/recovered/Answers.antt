@@ -1,9 +1,8 @@
-use Rattle.std.proofs.Common.{◌≡◌, ◌∙◌, ◌++◌, ◌^◌, length, take, drop, ap, arith}
+use Rattle.std.proofs.Common.{◌≡◌, ◌∙◌, ◌^◌, length, sym, arith}
 use Rattle.math_theory.proofs.polynomials.BuiltPolynomials.{value-respects}
 use Rattle.math_theory.proofs.domains.BuiltVanishing.{VanishesAt-respects}
 use Rattle.math_theory.proofs.domains.CarriedDomains.{HasCoset-of_order-same}
 use Rattle.math_theory.proofs.recovery.RecoveredColumns.{domain_agreement, coset_nonzero, recovered-fits}
-use Rattle.math_base.proofs.WholeWrites.{take-written}
 use Rattle.math_transforms.specs.DomainValues.{matrix_of}
 use Rattle.math_transforms.specs.Matrices.{column_of}
 use Rattle.math_transforms.proofs.DomainSteps.{column-cell}
@@ -13,29 +12,19 @@ use Rattle.math_transforms.proofs.TreeCounts.{within-part, within-transforms}
 use Rattle.math_ntt.proofs.RecoveryCounts.{whole-bound, whole-room}
 use Rattle.math_ntt.proofs.ntt.recovery.recovered.Goals as goal
 
-pub times_vanishing-requires-clause-room : goal.times_vanishing-requires-clause-room
-times_vanishing-requires-clause-room g c = omega (arith, whole-room c.args.lg c.args.cols c.requires.small c.requires.fits, c.in_ok-vanishing.ensures.bounded.no_more)
-
 pub divided-requires-clause-room : goal.divided-requires-clause-room
-divided-requires-clause-room g c =
-    omega (arith, whole-room c.args.lg c.args.cols c.requires.small c.requires.fits, c.in_ok-vanishing.ensures.bounded.no_more, c.in_ok-times_vanishing.ensures.bounded.no_more)
+divided-requires-clause-room g c = omega (arith, whole-room c.args.lg c.args.cols c.requires.small c.requires.fits, c.in_ok-vanishing.ensures.bounded.no_more)
 
 pub returns-in_err-vanishing-clause-most : goal.returns-in_err-vanishing-clause-most
 returns-in_err-vanishing-clause-most g c = within-part _ _ _ _ _ _ (omega (arith, whole-bound c.args.lg c.args.cols)) (omega arith) c.in_err-vanishing.ensures.bounded
 
-pub returns-in_err-times_vanishing-clause-most : goal.returns-in_err-times_vanishing-clause-most
-returns-in_err-times_vanishing-clause-most g c =
-    within-part _ _ _ _ _ _ (omega (arith, whole-bound c.args.lg c.args.cols)) (omega arith) (within-transforms _ _ _ _ _ _ c.in_ok-vanishing.ensures.bounded c.in_err-times_vanishing.ensures.bounded)
-
 pub returns-in_err-divided-clause-most : goal.returns-in_err-divided-clause-most
 returns-in_err-divided-clause-most g c =
-    within-part _ _ _ _ _ _ (omega (arith, whole-bound c.args.lg c.args.cols)) (omega arith)
-    (within-transforms _ _ _ _ _ _ (within-transforms _ _ _ _ _ _ c.in_ok-vanishing.ensures.bounded c.in_ok-times_vanishing.ensures.bounded) c.in_err-divided.ensures.bounded)
+    within-part _ _ _ _ _ _ (omega (arith, whole-bound c.args.lg c.args.cols)) (omega arith) (within-transforms _ _ _ _ _ _ c.in_ok-vanishing.ensures.bounded c.in_err-divided.ensures.bounded)
 
 pub returns-clause-most : goal.returns-clause-most
 returns-clause-most g c =
-    within-part _ _ _ _ _ _ (omega (arith, whole-bound c.args.lg c.args.cols)) (omega arith)
-    (within-transforms _ _ _ _ _ _ (within-transforms _ _ _ _ _ _ c.in_ok-vanishing.ensures.bounded c.in_ok-times_vanishing.ensures.bounded) c.in_ok-divided.ensures.bounded)
+    within-part _ _ _ _ _ _ (omega (arith, whole-bound c.args.lg c.args.cols)) (omega arith) (within-transforms _ _ _ _ _ _ c.in_ok-vanishing.ensures.bounded c.in_ok-divided.ensures.bounded)
 
 pub returns-clause-fits : goal.returns-clause-fits
 returns-clause-fits g c = λ m k e b.
@@ -54,20 +43,19 @@ returns-clause-fits g c = λ m k e b.
     let order = F.FieldNTT.roots.order lg c.requires.domain in
     let coset = HasCoset-of_order-same E G P R root shift n order F.FieldNTT.roots.shift_is_not_zero (F.FieldNTT.roots.shift_is_no_power lg c.requires.domain) in
     let v = c.in_ok-vanishing.vanishing in
-    let again = c.times_vanishing.new.vanishing in
-    let kept : length again ≡ length v.items = c.times_vanishing.auto.vanishing ∙ ap length c.deref_mut.ensures.value in
-    let written : take v.len (again ++ drop (length again) v.items) ≡ again = take-written v.len v.items again v.ok.0 kept in
+    let found = rw c.deref_mut.ensures.value at c.in_ok-divided.ensures.divided in
+    let again = found.divisor in
     let long_v : length v.items ≡ n = omega (arith, c.in_ok-vanishing.ensures.length, v.ok.0) in
-    let long : length again ≡ n = kept ∙ long_v in
-    let on_domain = rw c.deref_mut.ensures.value at c.in_ok-times_vanishing.ensures.again in
-    let products = rw c.deref_mut.ensures.value at c.in_ok-times_vanishing.ensures.products in
+    let long : length again ≡ n = found.divisor_size in
+    let on_domain = found.same_values in
+    let products = found.products in
     let vanishes = c.in_ok-vanishing.ensures.vanishes in
     let agreement = domain_agreement E G P R f root n order again v.items (omega (arith, long)) (omega (arith, long_v)) on_domain in
-    let vanishes_again = VanishesAt-respects E G P R root points _ _ (λ r. value-respects E G P R r again v.items kept (λ j l. agreement j)) vanishes in
+    let vanishes_again = VanishesAt-respects E G P R root points _ _ (λ r. value-respects E G P R r again v.items (long ∙ sym long_v) (λ j l. agreement j)) vanishes in
     let nonzero = coset_nonzero E G P R f root shift n points c.requires.points coset _ vanishes_again in
-    let quotients = (rw (c.deref_mut-2.ensures.value, written) at c.in_ok-divided.ensures.quotients) nonzero in
+    let quotients = found.quotients nonzero in
     let cells = matrix_of n c.args.cols c.args.cells.now in
-    let product = matrix_of n c.args.cols c.times_vanishing.new.cells in
+    let product = matrix_of n c.args.cols found.product in
     let quotient = matrix_of n c.args.cols c.divided.new.cells in
     rw (← power_of_two-same lg m e)
     (recovered-fits E G P R f root shift n points c.requires.points coset (column_of zero cells k) v.items again (column_of zero product k) (column_of zero quotient k)
