@@ -27,7 +27,7 @@ pub fn elements(alloc: Global, words: &[u64]) -> Mem<Vec<F>>
 {
     let mut out = Vec::with_capacity(alloc, words.len())?;
     for word in words {
-        out.push(F::from(*word))?;
+        out.push_reserved(F::from(*word));
     }
     Ok(out)
 }
@@ -39,13 +39,15 @@ pub fn number_of(a: &F) -> u64
     u64::from_le_bytes(a.to_le_bytes())
 }
 
-/// Writes the numbers of the elements over the words, of which there are as many.
+/// Writes the numbers of the elements over the words, of which there are as many. Both are slices of one
+/// length, so that no place is tested.
 pub fn write_numbers(words: &mut [u64], items: &[F])
     requires { length words.old ≡ length items.now }
     ensures { words.new ≡ numbers items.now }
 {
-    for i in 0..items.len() {
-        words[i] = number_of(&items[i]);
+    let source = &items[..words.len()];
+    for i in 0..words.len() {
+        words[i] = number_of(&source[i]);
     }
 }
 
