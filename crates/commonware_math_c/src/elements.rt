@@ -1,6 +1,6 @@
 //! Words as elements, and elements as words.
 
-ghost use Rattle.std.specs.Prelude.{◌≡◌, ◌↔◌, ◌≤◌, ◌+◌, ◌*◌, ◌++◌, ℕ, List, IsTrue, IfOk, IfSome, length, take, drop};
+ghost use Rattle.std.specs.Prelude.{◌≡◌, ◌↔◌, ◌≤◌, ◌+◌, ◌*◌, ◌++◌, ℕ, List, IsTrue, IfOk, IfSome, None, length, take, drop};
 ghost use Rattle.std.specs.Int.{to_be_bytes, w64};
 ghost use Rattle.std.specs.List.{flat_map};
 ghost use Rattle.math_codec.specs.Faults.{Agrees, OnMemory};
@@ -30,6 +30,25 @@ pub fn elements(alloc: Global, words: &[u64]) -> Mem<Vec<F>>
         out.push_reserved(F::from(*word));
     }
     Ok(out)
+}
+
+/// The words as elements, where each is below P.
+///
+/// All words are looked at before it answers, so that none waits for the one before it.
+pub fn elements_below(alloc: Global, words: &[u64]) -> Mem<Option<Vec<F>>>
+    ensures some { IfOk result (λ answer. IfSome answer (λ v.
+        AreElements words.now × (v.items ≡ elements words.now))) }
+    ensures none { IfOk result (λ answer. answer ≡ None → ¬ (AreElements words.now)) }
+{
+    let mut out = Vec::with_capacity(alloc, words.len())?;
+    let mut below = true;
+    for word in words {
+        out.push_reserved(F::from(*word));
+        if *word >= MODULUS {
+            below = false;
+        }
+    }
+    if below { Ok(Some(out)) } else { Ok(None) }
 }
 
 /// The number of an element.

@@ -26,7 +26,7 @@ mod values;
 mod weights;
 
 use commonware_math::fields::goldilocks::MODULUS;
-use elements::are_elements;
+use elements::{are_elements, elements_below};
 use polynomials::is_coefficient_count;
 use rows::{are_filled_elements, are_marks, lg_of_rows, lg_of_these_rows};
 use shards::is_split;
@@ -73,10 +73,12 @@ pub extern "C" fn cwm_evaluate(alloc: Global, cells: &mut [u64], cols: usize) ->
     let Some(lg) = lg_of_rows(cells.len(), cols) else {
         return Status::WrongSize.code();
     };
-    if !are_elements(cells) {
-        return Status::OutOfRange.code();
-    }
-    match rows::evaluate(alloc, cells, lg, cols) {
+    let items = match elements_below(alloc, cells) {
+        Ok(Some(items)) => items,
+        Ok(None) => return Status::OutOfRange.code(),
+        Err(_) => return Status::OutOfMemory.code(),
+    };
+    match rows::evaluate(alloc, cells, items, lg, cols) {
         Ok(()) => Status::Done.code(),
         Err(_) => Status::OutOfMemory.code(),
     }
@@ -94,10 +96,12 @@ pub extern "C" fn cwm_interpolate(alloc: Global, cells: &mut [u64], cols: usize)
     let Some(lg) = lg_of_rows(cells.len(), cols) else {
         return Status::WrongSize.code();
     };
-    if !are_elements(cells) {
-        return Status::OutOfRange.code();
-    }
-    match rows::interpolate(alloc, cells, lg, cols) {
+    let items = match elements_below(alloc, cells) {
+        Ok(Some(items)) => items,
+        Ok(None) => return Status::OutOfRange.code(),
+        Err(_) => return Status::OutOfMemory.code(),
+    };
+    match rows::interpolate(alloc, cells, items, lg, cols) {
         Ok(()) => Status::Done.code(),
         Err(_) => Status::OutOfMemory.code(),
     }

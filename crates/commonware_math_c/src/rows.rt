@@ -1,7 +1,7 @@
 //! Rows of words: coefficients and values of polynomials at the points of a domain, one polynomial a column.
 
 ghost use Rattle.std.specs.Prelude.{◌≡◌, ◌↔◌, ◌<◌, ◌≤◌, ◌*◌, ◌^◌, ℕ, IsTrue, IsSome, IfOk, IfSome, OnOk, OnErr, length, All};
-ghost use Rattle.commonware_math_c.specs.WordElements.{AreElements};
+ghost use Rattle.commonware_math_c.specs.WordElements.{AreElements, elements};
 ghost use Rattle.commonware_math_c.specs.WordRows.{
   AreFilledElements,
   AreRecoveredWords,
@@ -83,6 +83,14 @@ pub fn are_filled_elements(cells: &[u64], cols: usize, bytes: &[u8]) -> bool
     true
 }
 
+/// The elements as a matrix.
+fn matrix_of(cells: Vec<F>, rows: usize, cols: usize) -> Matrix<F>
+    requires { length cells.items ≡ rows * cols }
+    ensures { result ≡ record { rows = rows; cols = cols; cells = cells.items } }
+{
+    Matrix::from_cells(rows, cols, cells)
+}
+
 /// The words as a matrix of elements.
 fn matrix(alloc: Global, cells: &[u64], rows: usize, cols: usize) -> Mem<Matrix<F>>
     requires { length cells.now ≡ rows * cols }
@@ -92,29 +100,34 @@ fn matrix(alloc: Global, cells: &[u64], rows: usize, cols: usize) -> Mem<Matrix<
     Ok(Matrix::from_cells(rows, cols, cells))
 }
 
-/// Puts the values of the polynomials whose coefficients the columns are in place of these.
-pub fn evaluate(alloc: Global, cells: &mut [u64], lg: u8, cols: usize) -> Mem<()>
+/// Puts the values of the polynomials whose coefficients the columns are in place of these, which are handed in as
+/// elements too.
+pub fn evaluate(alloc: Global, cells: &mut [u64], items: Vec<F>, lg: u8, cols: usize) -> Mem<()>
     requires small { lg ≤ 32 }
     requires count { length cells.old ≡ 2 ^ lg * cols }
     requires below { AreElements cells.old }
+    requires items { items.items ≡ elements cells.old }
     ensures ok { OnOk result (AreWordValues cols cells.old cells.new) }
     ensures err { OnErr result (cells.new ≡ cells.old) }
 {
-    let polynomials = PolynomialVector::from_matrix(matrix(alloc, cells, power_of_two(lg), cols)?);
+    let matrix = matrix_of(items, power_of_two(lg), cols);
+    let polynomials = PolynomialVector::from_matrix(matrix);
     let values = polynomials.evaluate(alloc)?.data().into_cells();
     write_numbers(cells, &values);
     Ok(())
 }
 
-/// Puts the coefficients of the polynomials whose values the columns are in place of these.
-pub fn interpolate(alloc: Global, cells: &mut [u64], lg: u8, cols: usize) -> Mem<()>
+/// Puts the coefficients of the polynomials whose values the columns are in place of these, which are handed in as
+/// elements too.
+pub fn interpolate(alloc: Global, cells: &mut [u64], items: Vec<F>, lg: u8, cols: usize) -> Mem<()>
     requires small { lg ≤ 32 }
     requires count { length cells.old ≡ 2 ^ lg * cols }
     requires below { AreElements cells.old }
+    requires items { items.items ≡ elements cells.old }
     ensures ok { OnOk result (AreWordValues cols cells.new cells.old) }
     ensures err { OnErr result (cells.new ≡ cells.old) }
 {
-    let matrix = matrix(alloc, cells, power_of_two(lg), cols)?;
+    let matrix = matrix_of(items, power_of_two(lg), cols);
     let points = VanishingPoints::all_non_vanishing(alloc, u32::from(lg))?;
     let values = EvaluationVector::from_parts(matrix, points);
     let coefficients = values.recover(alloc)?.data().into_cells();

@@ -1,4 +1,4 @@
-use Rattle.std.proofs.Common.{◌≡◌, ◌≤◌, ap, length, ◌∙◌, arith}
+use Rattle.std.proofs.Common.{◌≤◌, ap, length, ◌∙◌, arith}
 use Rattle.std.proofs.lemmas.List.{take_all, get_or-take}
 use Rattle.math_base.specs.Elements.{number}
 use Rattle.commonware_math_c.proofs.WordElements.{numbers_more}

@@ -1,18 +1,18 @@
-use Rattle.std.proofs.Common.{◌≡◌, ◌∙◌, ap}
+use Rattle.std.proofs.Common.{◌≡◌, ◌∙◌, ap, ap₂}
+use Rattle.math_transforms.specs.DomainValues.{matrix_of}
 use Rattle.commonware_math_c.specs.WordElements.{numbers}
-use Rattle.commonware_math_c.specs.WordRows.{word_matrix}
 use Rattle.commonware_math_c.proofs.WordMatrices.{has_domain, values_of_words}
 use Rattle.commonware_math_c.proofs.rows.evaluate.Goals as goal
 
 pub evaluate-requires : goal.evaluate-requires
 evaluate-requires c = record {
-  domain = has_domain c.args.lg c.from_matrix-polynomials.result.rows c.requires.small (ap (λ m. m.rows) (c.from_matrix-polynomials.ensures ∙ c.in_ok-matrix.ensures) ∙ c.power_of_two.ensures);
+  domain = has_domain c.args.lg c.from_matrix-polynomials.result.rows c.requires.small (ap (λ m. m.rows) (c.from_matrix-polynomials.ensures ∙ c.matrix_of-matrix.ensures) ∙ c.power_of_two.ensures);
 }
 
 pub returns-clause-ok : goal.returns-clause-ok
 returns-clause-ok c =
     let cells = c.args.cells.now in
-    let is_words = c.from_matrix-polynomials.ensures ∙ c.in_ok-matrix.ensures ∙ ap (λ n. word_matrix n c.args.cols cells) c.power_of_two.ensures in
+    let is_words = c.from_matrix-polynomials.ensures ∙ c.matrix_of-matrix.ensures ∙ ap₂ (λ n xs. matrix_of n c.args.cols xs) c.power_of_two.ensures c.requires.items in
     let written : c.write_numbers.new.words ≡ numbers c.in_ok-evaluate.field-0.matrix.cells =
     c.write_numbers.ensures ∙ ap numbers (c.deref.ensures.value ∙ c.into_cells-values.ensures ∙ ap (λ m. m.cells) c.data.ensures) in
     values_of_words c.args.lg c.args.cols cells c.write_numbers.new.words c.from_matrix-polynomials.result c.in_ok-evaluate.field-0.matrix c.requires.small c.requires.count c.requires.below

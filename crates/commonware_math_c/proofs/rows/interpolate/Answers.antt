@@ -1,18 +1,18 @@
-use Rattle.std.proofs.Common.{◌≡◌, ◌∙◌, ◌^◌, ap, replicate, true}
+use Rattle.std.proofs.Common.{◌≡◌, ◌∙◌, ◌^◌, ap, ap₂, replicate, true}
+use Rattle.math_transforms.specs.DomainValues.{matrix_of}
 use Rattle.commonware_math_c.specs.WordElements.{numbers}
-use Rattle.commonware_math_c.specs.WordRows.{word_matrix}
 use Rattle.commonware_math_c.proofs.WordMatrices.{has_domain, coefficients_of_words}
 use Rattle.commonware_math_c.proofs.rows.interpolate.Goals as goal
 
 pub recover-requires : goal.recover-requires
 recover-requires c = record {
-  domain = has_domain c.args.lg c.from_parts-values.result.matrix.rows c.requires.small (ap (λ m. m.rows) (c.from_parts-values.ensures.matrix ∙ c.in_ok-matrix.ensures) ∙ c.power_of_two.ensures);
+  domain = has_domain c.args.lg c.from_parts-values.result.matrix.rows c.requires.small (ap (λ m. m.rows) (c.from_parts-values.ensures.matrix ∙ c.matrix_of-matrix.ensures) ∙ c.power_of_two.ensures);
 }
 
 pub returns-clause-ok : goal.returns-clause-ok
 returns-clause-ok c =
     let cells = c.args.cells.now in
-    let is_words = c.from_parts-values.ensures.matrix ∙ c.in_ok-matrix.ensures ∙ ap (λ n. word_matrix n c.args.cols cells) c.power_of_two.ensures in
+    let is_words = c.from_parts-values.ensures.matrix ∙ c.matrix_of-matrix.ensures ∙ ap₂ (λ n xs. matrix_of n c.args.cols xs) c.power_of_two.ensures c.requires.items in
     let all = c.from_parts-values.ensures.filled ∙ c.in_ok-points.ensures ∙ ap (λ n. replicate (2 ^ n) true) c.from.ensures in
     let written : c.write_numbers.new.words ≡ numbers c.in_ok-recover.field-0.cells =
     c.write_numbers.ensures ∙ ap numbers (c.deref.ensures.value ∙ c.into_cells-coefficients.ensures ∙ ap (λ m. m.cells) c.data.ensures) in
