@@ -1,0 +1,103 @@
+/* Each call of the C library with each of its allocations refused in turn: it answers CWM_OUT_OF_MEMORY, and all
+ * that it was given is as it was. With nothing refused it is done, and each time with the same answer.
+ *
+ * `.ci/sweeps` loads the library of .ci/refuse.c before it, and asks that for refusals by requests of impossible sizes. */
+#include "commonware_math.h"
+
+#include <stdio.h>
+#include <stdlib.h>
+#include <string.h>
+
+enum { ROWS = 512, COLS = 3, POINTS = 20, WORDS = 40, MIN = 3, TOTAL = 7, SHARD = 14 };
+
+/* All that the calls are given. */
+struct given {
+  uint64_t cells[ROWS * COLS], points[POINTS], weights[POINTS], value;
+  uint8_t filled[ROWS], bytes[8 * POINTS + 5];
+  uint32_t indices[POINTS];
+  uint64_t data[WORDS], shards[TOTAL * SHARD];
+  size_t count;
+};
+
+static struct given now, before, answer;
+
+static uint32_t eval(void) { return cwm_eval(now.cells, ROWS, 5, &now.value); }
+static uint32_t evaluate(void) { return cwm_evaluate(now.cells, ROWS * COLS, COLS); }
+static uint32_t interpolate(void) { return cwm_interpolate(now.cells, ROWS * COLS, COLS); }
+static uint32_t recover(void) { return cwm_recover(now.cells, ROWS * COLS, COLS, now.filled, ROWS); }
+static uint32_t weights(void) { return cwm_weights(now.points, POINTS, 5, now.weights, POINTS); }
+static uint32_t weights_at_roots(void) { return cwm_weights_at_roots(ROWS, now.indices, POINTS, 5, now.weights, POINTS); }
+static uint32_t encode_poly(void) { return cwm_encode_poly(now.points, POINTS, now.bytes, sizeof now.bytes, &now.count); }
+static uint32_t decode_poly(void) { return cwm_decode_poly(now.bytes, 8 * 3 + 1, now.weights, POINTS, &now.count); }
+static uint32_t split(void) { return cwm_split(now.data, WORDS, MIN, TOTAL, now.shards, TOTAL * SHARD); }
+static uint32_t join(void) {
+  return cwm_join(now.indices, MIN + 1, MIN, TOTAL, now.shards, (MIN + 1) * SHARD, now.data, WORDS, &now.count);
+}
+
+static const struct {
+  const char *name;
+  uint32_t (*call)(void);
+  int takes_memory;
+} calls[] = {
+    {"cwm_eval", eval, 1},         {"cwm_evaluate", evaluate, 1},       {"cwm_interpolate", interpolate, 1},
+    {"cwm_recover", recover, 1},   {"cwm_weights", weights, 1},         {"cwm_weights_at_roots", weights_at_roots, 1},
+    {"cwm_split", split, 1},       {"cwm_join", join, 1},               {"cwm_encode_poly", encode_poly, 1},
+    {"cwm_decode_poly", decode_poly, 0},
+};
+
+/* Words below P, a third of the rows missing, three coefficients in bytes, and shards with rising indices. */
+static int make(void) {
+  for (int i = 0; i < ROWS * COLS; i++) before.cells[i] = (uint64_t)i * 0x9e3779b97f4a7c15 % CWM_MODULUS;
+  for (int i = 0; i < ROWS; i++) before.filled[i] = i % 3 != 0;
+  for (int i = 0; i < POINTS; i++) before.points[i] = 7 + 3 * i, before.weights[i] = 9, before.indices[i] = i;
+  for (int i = 0; i < WORDS; i++) before.data[i] = (uint64_t)i << 50;
+  before.bytes[0] = 3;
+  size_t n = 0;
+  return cwm_shard_sizes(WORDS, MIN, TOTAL, &n) == CWM_DONE && n == SHARD
+         && cwm_split(before.data, WORDS, MIN, TOTAL, before.shards, TOTAL * SHARD) == CWM_DONE;
+}
+
+/* Asks the library of refusals, where it is loaded; the compiler can't leave such requests out. */
+static void *(*volatile ask)(size_t) = malloc;
+static const size_t REFUSE = 0x7e00000000000000, HAS_COME = 0x7d00000000000000;
+
+/* Sweeps a call, and says whether it failed. */
+static int sweep(const char *name, uint32_t (*call)(void), int takes_memory) {
+  now = before;
+  int failed = call() != CWM_DONE;
+  answer = now;
+  for (size_t n = 1; !failed; n++) {
+    now = before;
+    ask(REFUSE + n);
+    uint32_t status = call();
+    void *come = ask(HAS_COME);
+    ask(REFUSE);
+    if (come == NULL) {
+      failed = status != CWM_DONE || memcmp(&now, &answer, sizeof now) != 0 || (n > 1) != takes_memory;
+      printf("%s: %zu refusals%s\n", name, n - 1, failed ? ", FAILED" : "");
+      return failed;
+    }
+    free(come);
+    failed = status != CWM_OUT_OF_MEMORY || memcmp(&now, &before, sizeof now) != 0;
+    if (failed) printf("%s: FAILED with allocation %zu refused\n", name, n);
+  }
+  return failed;
+}
+
+/* Whether the name contains the part. */
+static int contains(const char *name, const char *part) {
+  for (; *name; name++) {
+    size_t i = 0;
+    while (part[i] && part[i] == name[i]) i++;
+    if (!part[i]) return 1;
+  }
+  return 0;
+}
+
+/* Sweeps the calls whose names contain the first word, or all. */
+int main(int words, char **word) {
+  int failed = !make();
+  for (size_t i = 0; i < sizeof calls / sizeof *calls; i++)
+    if (words < 2 || contains(calls[i].name, word[1])) failed |= sweep(calls[i].name, calls[i].call, calls[i].takes_memory);
+  return failed;
+}
