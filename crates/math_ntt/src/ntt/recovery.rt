@@ -7,7 +7,8 @@
 //! there. So f V is had by interpolation. On the domain it can't be divided by V, but on the coset of
 //! the domain by the shift V has no zero: there f V and V are evaluated, the quotients are values of f,
 //! and these are interpolated. Multiplying coefficient i by power i of the shift moves a polynomial to
-//! the coset, and by power i of its inverse back. `move_rows` goes from the domain to the coset without a stop.
+//! the coset, and by power i of its inverse back. `move_rows` does this step and the transforms before and
+//! after it.
 //!
 //! One inversion serves all divisions. With no row filled the answer is zero, and with all it is what
 //! has the cells as its values: then there is no polynomial that vanishes, and each is one
