@@ -1,5 +1,6 @@
 //! Tests of what no row of calls and answers can say: texts for debugging, how often an iterator is
-//! asked, memory that there can't be, and calls whose contracts have to serve their callers.
+//! asked, memory that there can't be, calls whose contracts have to serve their callers, combinations,
+//! and secrets in shares.
 #![tactic(auto)]
 
 #[cfg(test)]
@@ -12,5 +13,7 @@ mod iterators;
 mod memory;
 #[cfg(test)]
 mod packing;
+#[cfg(test)]
+mod shares;
 #[cfg(test)]
 mod texts;

@@ -2,7 +2,7 @@
 
 ghost use Rattle.std.specs.Prelude.{◌≤◌};
 
-use commonware_math::algebra::{Additive, CryptoGroup, Random};
+use commonware_math::algebra::{Additive, CryptoGroup, Mem, Random};
 use commonware_math::fields::goldilocks::F;
 use math_samples::boxed::Boxed;
 use math_samples::elements::Element;
@@ -30,33 +30,46 @@ fn chosen<R: Element>(
     Ok(out)
 }
 
-/// Whether the shares combine to n.
-fn give<R: Element>(alloc: Global, shares: &[Share<R>], n: u64) -> Result<bool, Fail> {
-    let secret = combine(alloc, 3, shares).ok().ok_or("a secret")?;
-    let out = secret.equals(alloc, &R::from_number(alloc, n)?)?;
+/// Whether the element is n.
+fn is<R: Element>(alloc: Global, element: &R, n: u64) -> Mem<bool> {
+    element.equals(alloc, &R::from_number(alloc, n)?)
+}
+
+/// Whether the shares at these places combine to 12.
+fn give<R: Element>(alloc: Global, dealt: &[Share<R>], places: &[usize]) -> Result<bool, Fail> {
+    let secret = combine(alloc, 3, &chosen(alloc, dealt, places)?)
+        .ok()
+        .ok_or("a secret")?;
+    let out = is(alloc, &secret, 12)?;
     Ok(out)
 }
 
-/// Whether the values of the shares are these.
-fn have<R: Element>(alloc: Global, shares: &[Share<R>], values: &[u64]) -> Result<bool, Fail> {
-    let mut out = shares.len() == values.len();
-    for (share, n) in shares.iter().zip(values) {
-        out &= share.value.equals(alloc, &R::from_number(alloc, *n)?)?;
+/// Whether the values of the shares are those of 12 + 7 X + 9 X^2 at 1 to 5.
+fn are_values<R: Element>(alloc: Global, dealt: &[Share<R>]) -> Mem<bool> {
+    let values = [28, 62, 114, 184, 272];
+    let mut out = dealt.len() == values.len();
+    for (share, n) in dealt.iter().zip(&values) {
+        out &= is(alloc, &share.value, *n)?;
     }
     Ok(out)
 }
 
-/// 12 + 7 X + 9 X^2 at 1 to 5; three of the shares and all of them combine to 12.
+/// 12 in five shares, of which three of them and all of them combine to it.
 fn three_of_five<R: Element + Random>(alloc: Global) -> Result<[bool; 4], Fail> {
-    let secret = R::from_number(alloc, 12)?;
-    let dealt = deal(alloc, secret, 3, 5, &mut Listed::new(&[7, 9]))
-        .ok()
-        .ok_or("shares")?;
+    let dealt = deal(
+        alloc,
+        R::from_number(alloc, 12)?,
+        3,
+        5,
+        &mut Listed::new(&[7, 9]),
+    )
+    .ok()
+    .ok_or("shares")?;
     Ok([
-        have(alloc, &dealt, &[28, 62, 114, 184, 272])?,
-        give(alloc, &chosen(alloc, &dealt, &[4, 0, 2])?, 12)?,
-        give(alloc, &chosen(alloc, &dealt, &[1, 2, 3, 0])?, 12)?,
-        give(alloc, &dealt, 12)?,
+        are_values(alloc, &dealt)?,
+        give(alloc, &dealt, &[4, 0, 2])?,
+        give(alloc, &dealt, &[1, 2, 3, 0])?,
+        give(alloc, &dealt, &[0, 1, 2, 3, 4])?,
     ])
 }
 
@@ -150,22 +163,24 @@ where
     <K as CryptoGroup>::Scalar: Element + Random,
 {
     let secret = <K as CryptoGroup>::Scalar::from_number(alloc, 12)?;
-    let (shares, commitment) = deal_committed::<K, _>(alloc, secret, 2, 3, &mut Listed::new(&[7]))
-        .ok()
+    let (mut shares, commitment) = deal_committed::<K, _>(
+        alloc,
+        secret,
+        2,
+        3,
+        &mut Listed::new(&[7]),
+    ).ok()
         .ok_or("a deal")?;
     let mut all = true;
     for share in &shares {
         all &= verify(alloc, share, &commitment)?;
     }
-    let mut moved = chosen(alloc, &shares, &[0])?.pop().ok_or("a share")?;
-    moved.index = 2;
-    let mut changed = chosen(alloc, &shares, &[0])?.pop().ok_or("a share")?;
-    changed.value.double(alloc)?;
-    Ok([
-        all,
-        verify(alloc, &moved, &commitment)?,
-        verify(alloc, &changed, &commitment)?,
-    ])
+    let share = shares.first_mut().ok_or("a share")?;
+    share.index = 2;
+    let moved = verify(alloc, share, &commitment)?;
+    share.index = 1;
+    share.value.double(alloc)?;
+    Ok([all, moved, verify(alloc, share, &commitment)?])
 }
 
 #[test]
