@@ -7,6 +7,7 @@
 mod encodings;
 mod hostile;
 mod shards;
+mod shares;
 mod transforms;
 
 use commonware_math::algebra::Mem;
@@ -40,6 +41,7 @@ fn run(alloc: Global, table: &mut Table<'_>) -> Mem<()> {
     at_any::<Boxed<F>>(alloc, table)?;
     table.sweep_by::<transforms::Given<Boxed<F>>>(alloc, transforms::LARGE, 997)?;
     table.sweep::<commitments::Given<Boxed<F>>>(alloc, &commitments::NAMES)?;
+    table.sweep::<shares::Given>(alloc, &shares::NAMES)?;
     table.set_type("quotients", Texts::Apart, false);
     at_any::<Quotient>(alloc, table)?;
     table.sweep::<commitments::Given<Quotient>>(alloc, &commitments::NAMES)?;
