@@ -100,8 +100,9 @@ fn committed(
     [a, b]: [u64; 2],
     generator: &Synthetic<F, F>,
 ) -> Mem<Poly<Synthetic<F, F>>> {
-    let p = Poly::from_coefficients(vec![in alloc; F::from(a), F::from(b)]?);
-    p.translate(alloc, |c: &F| generator.clone(alloc)?.scaled(alloc, c))
+    let constant = generator.scale(alloc, &[a])?;
+    let linear = generator.scale(alloc, &[b])?;
+    Ok(Poly::from_coefficients(vec![in alloc; constant, linear]?))
 }
 
 /// The commitments to 4 + 6 X and to 1 + 2 X add up to that to 5 + 8 X.

@@ -163,6 +163,41 @@ impl<R: Element> Calls for Given<R> {
     }
 }
 
+/// The butterflies that are counted of one column of 16 boxed coefficients with the n-th allocation refused, and
+/// whether the call is.
+fn counted(alloc: Global, n: u32) -> Mem<(u128, bool)> {
+    let m = Matrix::init(alloc, 2, 1, elements::<Boxed<F>>(alloc, &[1, 2])?)?;
+    let mut work = Work::new();
+    refuse(alloc, n);
+    let answer = evaluated(alloc, &m, 16, &mut work);
+    refuse(alloc, 0);
+    Ok((work.butterflies(), answer.is_err()))
+}
+
+/// A later refusal counts no fewer butterflies, and none counts all 32.
+pub fn counts_of_refused_evaluations(alloc: Global, table: &mut Table<'_>) -> Mem<()> {
+    let name = "boxed evaluate_counted at 16 rows: a later refusal counts no fewer butterflies";
+    if !table.wants(name) || !table.refuses() {
+        return Ok(());
+    }
+    let mut right = true;
+    let mut last = 0;
+    let mut at_100 = 0;
+    for n in 1..1000 {
+        let (butterflies, refused) = counted(alloc, n)?;
+        right = right && last <= butterflies;
+        last = butterflies;
+        if n == 100 {
+            at_100 = butterflies;
+        }
+        if !refused {
+            break;
+        }
+    }
+    let line = format!(in alloc; "{name}: {at_100} at 100, {last} at last")?;
+    table.add_line(line.as_str(), right && last == 32)
+}
+
 /// Whether the coefficients are one and then zeros.
 fn is_one(polynomials: &PolynomialVector<Boxed<F>>) -> bool {
     for (i, row) in polynomials.coefficients_up_to(usize::MAX).enumerate() {
