@@ -14,7 +14,7 @@
 //! The way back undoes the levels from the last to the first: a + b and (a - b) w^-i are twice what a and
 //! b were made of. No level halves a cell, so that in the end each cell is multiplied once by 1 / N.
 
-ghost use Rattle.std.specs.Prelude.{◌≡◌, ◌+◌, ◌-◌, ◌*◌, ◌<◌, ◌≤◌, ◌^◌, ℕ, IfOk, OnOk, length, slice_index_or};
+ghost use Rattle.std.specs.Prelude.{◌≡◌, ◌+◌, ◌-◌, ◌*◌, ◌<◌, ◌≤◌, ◌^◌, ℕ, IfOk, OnOk, OnErr, length, slice_index_or};
 ghost use Rattle.std.specs.Int.{IsPowerOfTwo};
 ghost use Rattle.math_theory.specs.Powers.{power};
 ghost use Rattle.math_transforms.specs.CombinedCells.{AreTransformed, AreTransformedBack};
@@ -178,6 +178,7 @@ fn transform_halves<F: FieldNTT>(
         (matrix_of (2 ^ lg) cols cells.old) (matrix_of (2 ^ lg) cols cells.new)) }
     ensures counted { OnOk result (2 * work.new.butterflies ≡ 2 * work.old.butterflies + cols * 2 ^ lg * lg) }
     ensures bounded { AddsAtMost (cols * 2 ^ lg * lg) work.old work.new }
+    ensures refused { OnErr result (work.old.butterflies < work.new.butterflies) }
 {
     if lg == 0 {
         return Ok(());
@@ -219,6 +220,7 @@ fn untransform_halves<F: FieldNTT>(
         (matrix_of (2 ^ lg) cols cells.old) (matrix_of (2 ^ lg) cols cells.new)) }
     ensures counted { OnOk result (2 * work.new.butterflies ≡ 2 * work.old.butterflies + cols * 2 ^ lg * lg) }
     ensures bounded { AddsAtMost (cols * 2 ^ lg * lg) work.old work.new }
+    ensures refused { OnErr result (work.old.butterflies < work.new.butterflies) }
 {
     if lg == 0 {
         return Ok(());

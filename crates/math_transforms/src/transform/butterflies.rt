@@ -3,7 +3,7 @@
 //! Power 0 of each root is one, so the first pair of two halves takes no product: in all levels together
 //! these are N - 1 of the N lg / 2 pairs of a column.
 
-ghost use Rattle.std.specs.Prelude.{◌≡◌, ◌+◌, ◌*◌, ◌/◌, ◌<◌, ◌≤◌, ◌^◌, IsTrue, OnOk, length, take, drop, slice_index_or};
+ghost use Rattle.std.specs.Prelude.{◌≡◌, ◌+◌, ◌*◌, ◌/◌, ◌<◌, ◌≤◌, ◌^◌, IsTrue, OnOk, OnErr, length, take, drop, slice_index_or};
 ghost use Rattle.math_transforms.specs.CombinedCells.{IsCombined, AreCombined};
 ghost use Rattle.math_transforms.specs.CountedWork.{AddsAtMost};
 
@@ -69,6 +69,7 @@ fn combine_cells<F: FieldNTT, const FORWARD: bool, const AT_ONE: bool>(
         low.old high.old low.new high.new) }
     ensures counted { OnOk result (work.new.butterflies ≡ work.old.butterflies + length low.old) }
     ensures bounded { AddsAtMost (2 * length low.old) work.old work.new }
+    ensures refused { OnErr result (work.old.butterflies < work.new.butterflies) }
 {
     for p in 0..low.len() {
         combine::<F, FORWARD, AT_ONE>(alloc, &mut low[p], &mut high[p], w, work)?;
@@ -95,6 +96,7 @@ fn combine_row<F: FieldNTT, const FORWARD: bool, const AT_ONE: bool>(
         low.old high.old low.new high.new) }
     ensures counted { OnOk result (work.new.butterflies ≡ work.old.butterflies + cols) }
     ensures bounded { AddsAtMost (2 * cols) work.old work.new }
+    ensures refused { OnErr result (work.old.butterflies < work.new.butterflies) }
 {
     let last = first + cols;
     let (low, high) = (&mut low[first..last], &mut high[first..last]);
@@ -121,6 +123,7 @@ fn combine_rows<F: FieldNTT, const FORWARD: bool>(
         low.old high.old low.new high.new) }
     ensures counted { OnOk result (work.new.butterflies ≡ work.old.butterflies + length powers.now * cols) }
     ensures bounded { AddsAtMost (2 * (length powers.now * cols)) work.old work.new }
+    ensures refused { OnErr result (work.old.butterflies < work.new.butterflies) }
 {
     combine_row::<F, FORWARD, true>(alloc, low, high, 0, cols, &powers[0], work)?;
     for i in 1..powers.len() {
@@ -147,6 +150,7 @@ fn combine_column<F: FieldNTT, const FORWARD: bool>(
         low.old high.old low.new high.new) }
     ensures counted { OnOk result (work.new.butterflies ≡ work.old.butterflies + length powers.now) }
     ensures bounded { AddsAtMost (2 * length powers.now) work.old work.new }
+    ensures refused { OnErr result (work.old.butterflies < work.new.butterflies) }
 {
     combine::<F, FORWARD, true>(alloc, &mut low[0], &mut high[0], &powers[0], work)?;
     for p in 1..powers.len() {
@@ -192,6 +196,7 @@ pub(super) fn combine_two<F: FieldNTT, const FORWARD: bool>(
         low.old high.old low.new high.new) }
     ensures counted { OnOk result (work.new.butterflies ≡ work.old.butterflies + 2) }
     ensures bounded { AddsAtMost 4 work.old work.new }
+    ensures refused { OnErr result (work.old.butterflies < work.new.butterflies) }
 {
     combine::<F, FORWARD, true>(alloc, &mut low[0], &mut high[0], &powers[0], work)?;
     combine::<F, FORWARD, false>(alloc, &mut low[1], &mut high[1], &powers[1], work)?;
@@ -219,6 +224,7 @@ pub(super) fn combine_halves<F: FieldNTT, const FORWARD: bool>(
         low.old high.old low.new high.new) }
     ensures counted { OnOk result (work.new.butterflies ≡ work.old.butterflies + length powers.now * cols) }
     ensures bounded { AddsAtMost (2 * (length powers.now * cols)) work.old work.new }
+    ensures refused { OnErr result (work.old.butterflies < work.new.butterflies) }
 {
     let mut counted = Work::new();
     let outcome = if cols == 1 {

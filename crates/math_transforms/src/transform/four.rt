@@ -3,7 +3,7 @@
 //! Most levels of one column are of few cells. Of the four butterflies here only one takes a product, and the
 //! cells stay in registers from one level to the next.
 
-ghost use Rattle.std.specs.Prelude.{◌≡◌, ◌+◌, ◌*◌, ◌<◌, ◌≤◌, ◌^◌, OnOk, length};
+ghost use Rattle.std.specs.Prelude.{◌≡◌, ◌+◌, ◌*◌, ◌<◌, ◌≤◌, ◌^◌, OnOk, OnErr, length};
 ghost use Rattle.math_transforms.specs.CombinedCells.{AreTransformed, AreTransformedBack};
 ghost use Rattle.math_transforms.specs.CountedWork.{AddsAtMost};
 ghost use Rattle.math_transforms.specs.DomainValues.{matrix_of, ArePowersByLevel};
@@ -29,6 +29,7 @@ pub(super) fn transform_four<F: FieldNTT>(
         (matrix_of 4 1 cells.old) (matrix_of 4 1 cells.new)) }
     ensures counted { OnOk result (2 * work.new.butterflies ≡ 2 * work.old.butterflies + 8) }
     ensures bounded { AddsAtMost 8 work.old work.new }
+    ensures refused { OnErr result (work.old.butterflies < work.new.butterflies) }
 {
     let (low, high) = cells.split_at_mut(2);
     let (below, powers) = table.split_at(2);
@@ -54,6 +55,7 @@ pub(super) fn untransform_four<F: FieldNTT>(
         (matrix_of 4 1 cells.old) (matrix_of 4 1 cells.new)) }
     ensures counted { OnOk result (2 * work.new.butterflies ≡ 2 * work.old.butterflies + 8) }
     ensures bounded { AddsAtMost 8 work.old work.new }
+    ensures refused { OnErr result (work.old.butterflies < work.new.butterflies) }
 {
     let (low, high) = cells.split_at_mut(2);
     let (below, powers) = table.split_at(2);
