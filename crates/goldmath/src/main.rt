@@ -1,5 +1,8 @@
 //! `goldmath eval POINT`: the value at POINT of the polynomial over the Goldilocks field that is
 //! encoded on standard input, in decimal.
+//!
+//! `goldmath recover LG ROW..`: the encoding of the only matrix of 2^LG rows whose columns are the
+//! coefficients that fit the rows of the matrix on standard input, each in the place that a word names.
 #![tactic(auto)]
 
 mod engine;

@@ -3,11 +3,11 @@
 ghost use Rattle.std.specs.Prelude.{◌≡◌, ◌≤◌, OnOk};
 
 use crate::fault::Fault;
-use crate::header::Header;
 use crate::names::shard_name;
 use crate::output::{Restored, owned};
 use crate::progress::Progress;
 use crate::sources::{ShardFile, block_in, gather};
+use shard_format::header::Header;
 
 /// Restores the file from the shard files that are there, and names on standard error those that were left
 /// out and those with a shard that was.

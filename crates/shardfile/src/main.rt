@@ -6,7 +6,6 @@
 #![tactic(auto)]
 
 mod fault;
-mod header;
 mod joining;
 mod names;
 mod output;
@@ -15,7 +14,7 @@ mod sources;
 mod splitting;
 
 use fault::Fault;
-use header::MOST_SHARDS;
+use shard_format::header::MOST_SHARDS;
 use std::process::ExitCode;
 use std::{env, io};
 

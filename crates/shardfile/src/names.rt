@@ -1,8 +1,8 @@
 //! The names of shard files.
 
 use crate::fault::Fault;
-use crate::header::MOST_SHARDS;
 use crate::output::owned;
+use shard_format::header::MOST_SHARDS;
 use std::fs::read_dir;
 use std::io::ErrorKind;
 

@@ -1,14 +1,15 @@
 //! The shard files that are there, and the shards in them.
 
-ghost use Rattle.std.specs.Prelude.{◌≡◌, ◌≤◌, length, IfOk, IfSome};
-ghost use Rattle.shardfile.specs.Splits.{IsPossible};
+ghost use Rattle.std.specs.Prelude.{◌≡◌, ◌≤◌, length, IfOk};
+ghost use Rattle.shard_format.specs.Splits.{IsPossible};
 
 use crate::fault::Fault;
-use crate::header::{HEADER_SIZE, Header, Verdict, header_in};
 use crate::names::{numbers_there, shard_name};
 use crate::output::owned;
 use math_codec::codec::{self, decode, len_size};
 use shard_blocks::{Error, Mended, Shard, cells_for, mend_block};
+use shard_format::header::{HEADER_SIZE, Header, Verdict, header_in};
+use shard_format::splits::largest_split;
 use std::alloc::{AllocError, Global};
 use std::fs;
 use std::fs::File;
@@ -134,35 +135,6 @@ fn shard_file(rt: &HostRuntime, file: &str, number: u32) -> Result<ShardFile, Fa
         first_lost: 0,
         why: "",
     })
-}
-
-/// How many of the headers are of this one's split.
-fn count_of(split: &Header, headers: &[Header]) -> usize {
-    headers
-        .iter()
-        .filter(|header| header.is_of_split(split))
-        .count()
-}
-
-/// The header of a split of which more of the headers are than of any other, where there is one.
-fn largest_split(headers: &[Header]) -> Option<Header>
-    ensures { IfSome result IsPossible }
-{
-    let mut best = *headers.first()?;
-    let mut most = 0;
-    for header in headers {
-        let count = count_of(header, headers);
-        if count > most {
-            best = *header;
-            most = count;
-        }
-    }
-    for header in headers {
-        if !header.is_of_split(&best) && count_of(header, headers) >= most {
-            return None;
-        }
-    }
-    best.is_possible().then_some(best)
 }
 
 /// Leaves out each file whose header says by itself that it is not of the shard with that number.

@@ -3,11 +3,11 @@
 ghost use Rattle.std.specs.Prelude.{◌≡◌, ◌≤◌, ◌^◌, OnOk};
 
 use crate::fault::Fault;
-use crate::header::{Header, header_bytes};
 use crate::names::{numbers_there, shard_name};
 use crate::output::{ShardFiles, owned};
 use crate::progress::Progress;
 use shard_blocks::split_block;
+use shard_format::header::{Header, header_bytes};
 use std::fs;
 use std::fs::File;
 use std::io::{ErrorKind, Read};

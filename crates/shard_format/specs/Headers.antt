@@ -3,7 +3,7 @@ use Rattle.std.specs.Prelude.{ℕ, ◌<◌, ◌^◌, List, ◌++◌, Result, Ok,
 use Rattle.std.specs.Int.{to_be_bytes, w64}
 use Rattle.math_codec.specs.Faults.{Fault, Invalid, ◌>>=◌}
 use Rattle.math_codec.specs.Words.{scan_word, word_in_front}
-use Rattle.shardfile.specs.declared.header.Header.{Header}
+use Rattle.shard_format.specs.declared.header.Header.{Header}
 
 -- the word that every shard file begins with
 abbrev pub mark : ℕ

@@ -5,10 +5,10 @@
 ghost use Rattle.std.specs.Prelude.{◌≡◌, ◌↔◌, ◌<◌, ◌≤◌, ◌^◌, ◌++◌, length, take, refl, IsTrue, IfOk, OnOk, OnErr, MatchResult};
 ghost use Rattle.std.specs.Int.{w64, to_be_bytes};
 ghost use Rattle.math_codec.specs.Faults.{IsMemory, OnMemory, Reads};
-ghost use Rattle.shardfile.specs.Headers.{header_spelling, split_spelling, AdmitsHeader, scan_fixed, scan_header, scan_number};
-ghost use Rattle.shardfile.specs.HeaderLaws.{header_again, header_apart};
-ghost use Rattle.shardfile.specs.Splits.{AreOfOneSplit, IsPossible, IsThatOf, largest_block};
-ghost use Rattle.shardfile.specs.declared.header.Verdict.TheVariants.{Fits, Impossible, OtherIndex, OtherSplit};
+ghost use Rattle.shard_format.specs.Headers.{header_spelling, split_spelling, AdmitsHeader, scan_fixed, scan_header, scan_number};
+ghost use Rattle.shard_format.specs.HeaderLaws.{header_again, header_apart};
+ghost use Rattle.shard_format.specs.Splits.{AreOfOneSplit, IsPossible, IsThatOf, largest_block};
+ghost use Rattle.shard_format.specs.declared.header.Verdict.TheVariants.{Fits, Impossible, OtherIndex, OtherSplit};
 
 use math_codec::codec::{Encoding, Error, Mem, Read, Write, decode, roll_back};
 use std::alloc::Global;
@@ -179,8 +179,8 @@ pub enum Verdict {
 }
 
 impl Header {
-    /// The greatest number of bytes that a block may have: 16 MiB, and so many that the shards of a block
-    /// take 32 MiB or so at most.
+    /// The greatest number of bytes that a block may have: 16 MiB, and so many that `total` / `min` blocks
+    /// have 32 MiB at most. The shards of a block take as much, and some bytes for their numbers.
     pub fn largest_block(min: u32, total: u32) -> u32
         requires { 1 ≤ total }
         ensures { result ≡ largest_block min total }

@@ -4,8 +4,8 @@ use Rattle.std.specs.Int.{w64, to_be_bytes}
 use Rattle.std.proofs.lemmas.Bool.{lt-ltb, eq-eqb}
 use Rattle.math_codec.specs.Encodings.{ReadsAgain, SpellsApart}
 use Rattle.math_codec.specs.WordLaws.{word_again, word_in_front-spelled, word_apart}
-use Rattle.shardfile.specs.declared.header.Header.{Header}
-use Rattle.shardfile.specs.Headers.{mark, version, header_spelling, AdmitsHeader, scan_fixed, scan_number, scan_header}
+use Rattle.shard_format.specs.declared.header.Header.{Header}
+use Rattle.shard_format.specs.Headers.{mark, version, header_spelling, AdmitsHeader, scan_fixed, scan_number, scan_header}
 
 fixed_again : (n : ℕ) (name rest : List ℕ) → n < 2 ^ 64 → scan_fixed n name (to_be_bytes w64 n ++ rest) ≡ Ok rest
 unfolding scan_fixed

@@ -1,8 +1,8 @@
 -- Which headers belong to one split.
 use Rattle.std.specs.Prelude.{◌≡◌, ℕ, ◌*◌, ◌/◌, ◌<◌, ◌≤◌, ◌^◌, min}
-use Rattle.shardfile.specs.declared.header.Header.{Header}
+use Rattle.shard_format.specs.declared.header.Header.{Header}
 
--- the greatest number of bytes of a block: 16 MiB, and so many that the shards of a block take 32 MiB at most
+-- the greatest number of bytes of a block: 16 MiB, and so many that TOTAL / MIN blocks have 32 MiB at most
 abbrev pub largest_block : ℕ → ℕ → ℕ
 largest_block least most = min (2 ^ 24) (2 ^ 25 * least / most)
 
