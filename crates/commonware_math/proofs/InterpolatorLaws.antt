@@ -1,5 +1,5 @@
 -- Keyed weights: they respect the point that they are for, and serve every space.
-use Rattle.std.proofs.Common.{◌≡◌, ◌∙◌, ap, sym, ◌<◌, ◌≤◌, List, [], ◌∷◌, length, map, arith}
+use Rattle.std.proofs.Common.{◌≡◌, ℕ, ◌∙◌, ap, sym, ◌<◌, ◌≤◌, List, [], ◌∷◌, length, map, arith}
 use Rattle.std.proofs.lemmas.List.{get_or_default, length-map}
 use Rattle.std.proofs.lemmas.Map.Made.{keys_of-zip}
 use Rattle.std.proofs.lemmas.Slice.Zip.{seconds-zip}
@@ -14,7 +14,9 @@ use Rattle.math_theory.proofs.interpolation.WeightsRespect.{weights_at-respects}
 use Rattle.math_theory.proofs.interpolation.WeightsInSpaces.{weights-value_over}
 use Rattle.math_codec.specs.OrderedMaps.{HasFirstOfEachKey}
 use Rattle.math_base.specs.Members.{RingOf}
+use Rattle.math_transforms.specs.RootWeights.{powers_at}
 use Rattle.commonware_math.specs.Interpolators.{AreWeightsOfPoints, InterpolatesAt}
+use Rattle.commonware_math.specs.RootInterpolators.{pairs_at_powers, InterpolatesAtPowers}
 
 -- the weights of the points, each with its point's key
 pub keyed-weights : {I A : Type 0} (cmp : I → I → Ordering) (R : RingOf A) (x : A) (pairs points keyed : List (I × A)) (values weights : List A) → values ≡ values_of points
@@ -54,6 +56,16 @@ module _ {A : Type 0} (R : RingOf A) (E : IsEquality R.same) (G : IsGroup R.same
     keys = W.keys;
     each = weights_of_points-respects x y h (values_of W.points) (values_of weights) W.each;
   }
+
+  pub interpolates_at_powers-respects : {I : Type 0} (cmp : I → I → Ordering) (w x y : A) → R.same x y → (pairs : List (I × ℕ)) (weights : List (I × A))
+      → InterpolatesAtPowers cmp R w x pairs weights → InterpolatesAtPowers cmp R w y pairs weights
+  interpolates_at_powers-respects cmp w x y h pairs weights W =
+      let back : R.same y x = E.symmetric x y h in
+      record {
+        keyed = interpolates-respects cmp x y h (pairs_at_powers R w pairs) weights W.keyed;
+        give = weights_at-respects E G P L x y h (powers_at R w (values_of pairs)) (values_of weights) W.give;
+        only = λ others V. W.only others (weights_at-respects E G P L y x back (powers_at R w (values_of pairs)) others V);
+      }
 
 module _ {A B : Type 0} {same : A → A → Type 0} {zero_of : A} {sum : A → A → A} {negative : A → A} {scaling : A → B → A} {same_scalar : B → B → Type 0}
     {zero_scalar : B} {sum_scalar : B → B → B} {negative_scalar : B → B} {product : B → B → B} {one : B}

@@ -29,8 +29,8 @@ use Rattle.math_theory.proofs.lists.ListMaps.{map-map}
 use Rattle.math_codec.specs.OrderedMaps.{is_equal, value_at, first_pair}
 use Rattle.math_codec.proofs.MapParts.{zip_of_parts}
 use Rattle.math_transforms.specs.RootWeights.{AreIndicesBelow}
-use Rattle.commonware_math.specs.Interpolators.{AreWeightsOfPoints, InterpolatesAt}
-use Rattle.commonware_math.specs.RootInterpolators.{pairs_below, pairs_at_powers, weighted_pairs, weight_at}
+use Rattle.commonware_math.specs.Interpolators.{AreWeightsOfPoints}
+use Rattle.commonware_math.specs.RootInterpolators.{pairs_below, pairs_at_powers, weighted_pairs, weight_at, InterpolatesAtPowers}
 
 -- a pair whose index has a weight is one more
 pub weighted_pairs-next : {I A : Type 0} (ws : List (ℕ × A)) (ys : List (I × ℕ)) (key : I) (index : ℕ) (w : A) → value_at nat_cmp index ws ≡ Some w
@@ -320,7 +320,7 @@ module _ {A : Type 0} (R : RingOf A) {inverse : A → A} (E : IsEquality R.same)
         → Differ (values_of pairs) → total ≤ n → AreIndicesBelow total (values_of pairs) (keys_of weights) → ((i : ℕ) → first_pair nat_cmp i map_of ≡ first_pair nat_cmp i weights)
         → AllZip (λ v i. R.same v (weight_at R.zero map_of i)) values (values_of (pairs_below total pairs)) → keys_of keyed ≡ keys_of (pairs_below total pairs) → values_of keyed ≡ values
         → AreWeightsAt R.same R.zero R.sum R.product R.one x (map (power R.one R.product w) (keys_of weights)) (values_of weights)
-        → InterpolatesAt cmp R x (pairs_at_powers R w (pairs_below total pairs)) keyed
+        → InterpolatesAtPowers cmp R w x (pairs_below total pairs) keyed
     keyed-roots cmp x total pairs weights map_of keyed values rise d fits h first zipped keys vals W =
         let js = pairs_below total pairs in
         let points = pairs_at_powers R w js in
@@ -337,10 +337,15 @@ module _ {A : Type 0} (R : RingOf A) {inverse : A → A} (E : IsEquality R.same)
         (E.reflexive (get_or (values_of weights) k R.zero)))
         found.0 found.1 W in
         let apart : AreApart R.same (map (power R.one R.product w) (values_of js)) = points-apart (values_of js) kept_differ (λ i t. let r = has-kept total i pairs t in omega (arith, r.1)) in
+        let all : AreWeightsOfPoints R x (map (power R.one R.product w) (values_of js)) (values_of keyed) =
+        subst (λ vs. AreWeightsOfPoints R x (map (power R.one R.product w) (values_of js)) vs) (sym vals) (weights-of_points x (map (power R.one R.product w) (values_of js)) values apart here) in
         record {
-          points = points;
-          first = (subst (IsStrictlySortedBy cmp) (sym same_keys) (rise-kept total cmp pairs rise), λ k. refl);
-          keys = keys ∙ sym same_keys;
-          each = subst (λ vs. AreWeightsOfPoints R x (values_of points) vs) (sym vals)
-              (subst (λ ps. AreWeightsOfPoints R x ps values) (sym same_points) (weights-of_points x (map (power R.one R.product w) (values_of js)) values apart here));
+          keyed = record {
+            points = points;
+            first = (subst (IsStrictlySortedBy cmp) (sym same_keys) (rise-kept total cmp pairs rise), λ k. refl);
+            keys = keys ∙ sym same_keys;
+            each = subst (λ ps. AreWeightsOfPoints R x ps (values_of keyed)) (sym same_points) all;
+          };
+          give = all.give apart;
+          only = all.only apart;
         }

@@ -1,17 +1,19 @@
 -- Shards of some data: they are sound, no two of them are in conflict, and enough of them are there.
-use Rattle.std.proofs.Common.{◌≡◌, ℕ, ◌-◌, ◌<◌, ◌≤◌, ◌^◌, List, [], ◌∷◌, length, sym, ◌∙◌, ap, subst, arith}
+use Rattle.std.proofs.Common.{◌≡◌, ℕ, ◌-◌, ◌<◌, ◌≤◌, ◌^◌, List, [], ◌∷◌, length, get_or, sym, ◌∙◌, ap, subst, arith}
 use Rattle.std.specs.Int.{IsNextPowerOfTwo}
-use Rattle.std.specs.List.{All, AllZip, Contains}
-use Rattle.std.proofs.lemmas.List.Elements.{All-contains, All-head, All-weaker}
+use Rattle.std.specs.List.{All, AllZip}
+use Rattle.std.proofs.lemmas.List.Elements.{All-head, All-weaker}
 use Rattle.std.specs.Int.Count.{count_leading_zeros}
+use Rattle.math_base.specs.declared.fields.goldilocks.F.{F}
 use Rattle.math_base.specs.Elements.{number, residue, same}
 use Rattle.math_transforms.specs.Matrices.{column_of}
 use Rattle.math_transforms.proofs.PresentIndices.{lg-of_total, lg-only}
 use Rattle.math_shards.specs.declared.shards.Shard.{Shard}
 use Rattle.math_shards.specs.Joining.{HaveConflict, IsSound}
-use Rattle.math_shards.specs.Shards.{ChosenShardsJoin, IsShardOf, JoinTo, rows_for, value_at, width_for}
+use Rattle.math_shards.specs.ShardEncoding.{AreSameShards}
+use Rattle.math_shards.specs.Shards.{ChosenShardsJoin, IsSameAsOne, IsShardOf, JoinTo, rows_for, value_at, width_for}
 use Rattle.math_shards.proofs.FilledShards.{no_indices}
-use Rattle.math_shards.proofs.SameCells.{same_by_items}
+use Rattle.math_shards.proofs.SameCells.{nought, same_are_equal, same_by_items}
 
 -- the least domain of `total` points
 pub domain_of : (total : ℕ) → 1 ≤ total → total < 2 ^ 32 → (lg : ℕ) × IsNextPowerOfTwo total (2 ^ lg) × (lg ≤ 32)
@@ -70,9 +72,21 @@ joined_no_conflict words shards j conflict =
     let there : IsShardOf words j.min j.total t = rw (sym other.3) (j.each other.0 t other.2) in
     other.4.1 (same_shards words j.min j.total lg t s next there here other.4.0)
 
--- chosen ones of the shards of data join to the data, where enough are chosen
+-- a shard that is the same as one of the data is one of them
+pub shard_of_same : (words : List ℕ) (min total : ℕ) (s t : Shard) → AreSameShards s t → IsShardOf words min total s → IsShardOf words min total t
+shard_of_same words min total s t h of =
+    let cells : s.cells.items ≡ t.cells.items = same_are_equal s.cells.items t.cells.items h.cells in record {
+      index = omega (arith, of.index, h.index);
+      least = sym h.least ∙ of.least;
+      most = sym h.most ∙ of.most;
+      count = sym (ap length cells) ∙ of.count;
+      values = λ lg k next l. subst (λ (xs : List F). same (get_or xs k nought) (value_at lg (column_of nought (rows_for min words) k) t.index)) cells
+          (subst (λ (i : ℕ). same (get_or s.cells.items k nought) (value_at lg (column_of nought (rows_for min words) k) i)) h.index (of.values lg k next l));
+    }
+
+-- shards that are the same as some of those of the data join to the data, where enough are there
 pub chosen_join : ChosenShardsJoin
-chosen_join words min total shards chosen some within short each_word few of contained enough = record {
+chosen_join words min total shards chosen some within short each_word few of each_same enough = record {
   min = min;
   total = total;
   some = some;
@@ -81,5 +95,6 @@ chosen_join words min total shards chosen some within short each_word few of con
   each_word = each_word;
   few = few;
   enough = enough;
-  each = All-weaker (Contains shards) (IsShardOf words min total) (λ s there. All-contains (IsShardOf words min total) shards s of.each there) chosen contained;
+  each = All-weaker (IsSameAsOne shards) (IsShardOf words min total)
+      (λ s one. let there : IsShardOf words min total one.1 = rw (sym one.3) (of.each one.0 one.1 one.2) in shard_of_same words min total one.1 s one.4 there) chosen each_same;
 }

@@ -1,5 +1,5 @@
 -- Data, which are a list of words, in shards: the rows of elements that they fill, and what each shard holds.
-use Rattle.std.specs.Prelude.{◌≡◌, ℕ, ◌-◌, ◌*◌, ◌<◌, ◌≤◌, ◌^◌, ◌==◌, List, ◌∷◌, ◌++◌, Bool, length, map, replicate, slice_index_or, count_by, All, Contains}
+use Rattle.std.specs.Prelude.{◌≡◌, ℕ, ◌-◌, ◌*◌, ◌<◌, ◌≤◌, ◌^◌, ◌==◌, List, ◌∷◌, ◌++◌, Bool, length, map, replicate, slice_index_or, count_by, All, Any}
 use Rattle.std.specs.Int.{IsNextPowerOfTwo}
 use Rattle.std.specs.List.{list_any, range_with_len}
 use Rattle.math_numbers.specs.Bits.{piece_count}
@@ -10,6 +10,7 @@ use Rattle.math_base.specs.Elements.{residue, same, sum, product, root_of}
 use Rattle.math_base.specs.Packing.{elements_of}
 use Rattle.math_transforms.specs.Matrices.{MatrixOf, column_of}
 use Rattle.math_shards.specs.declared.shards.Shard.{Shard}
+use Rattle.math_shards.specs.ShardEncoding.{AreSameShards}
 
 -- what is packed: how many words there are, and then these
 abbrev pub counted : List ℕ → List ℕ
@@ -74,8 +75,12 @@ pub record JoinTo (words : List ℕ) (shards : List Shard) : Type 0 where
 abbrev pub HaveOneData : Type 0
 HaveOneData = (words others : List ℕ) (shards : List Shard) → JoinTo words shards → JoinTo others shards → words ≡ others
 
--- whichever of the shards of data are chosen, in any order and some of them twice: where at least `min` have distinct indices, they join to the data
+-- one of the shards has the same numbers and the same cells as s
+abbrev pub IsSameAsOne : List Shard → Shard → Type 0
+IsSameAsOne shards s = Any (λ t. AreSameShards t s) shards
+
+-- shards each of which is the same as one of the shards of data, in any order and some of them twice: where at least `min` have distinct indices, they join to the data
 abbrev pub ChosenShardsJoin : Type 0
 ChosenShardsJoin =
     (words : List ℕ) (min total : ℕ) (shards chosen : List Shard) → 1 ≤ min → min ≤ total → total < 2 ^ 32 → All (λ word. word < 2 ^ 64) words → length words < 2 ^ 64
-    → AreShardsOf words min total shards → All (Contains shards) chosen → min ≤ distinct_indices total chosen → JoinTo words chosen
+    → AreShardsOf words min total shards → All (IsSameAsOne shards) chosen → min ≤ distinct_indices total chosen → JoinTo words chosen

@@ -1,12 +1,13 @@
 //! Data cut into shards, of which any `min` give them back.
 //!
-//! The words that are packed are the number of data words, and then the data. Packed by 63 bits into
-//! elements of the Goldilocks field they fill `min` rows of a matrix, row by row, and what is left over is
-//! zero. Column k is the polynomial of `min` coefficients whose coefficient r is the cell of row r. Shard
-//! i, for i below `total`, holds the value of each column at power i of the root of unity of order N,
-//! where N is the least power of two that is `total` or more. A polynomial of `min` coefficients is the
-//! only one with its values at `min` points: so any `min` shards give the data back, and where more are
-//! there, one that was damaged fits no data with the others. This is Reed and Solomon's code.
+//! The words that are packed are the number of data words, and then the data. Packed by 63 bits
+//! into elements of the Goldilocks field they fill `min` rows of a matrix, row by row, and what is
+//! left over is zero. Column k is the polynomial of `min` coefficients whose coefficient r is the
+//! cell of row r. Shard i, for i below `total`, holds the value of each column at power i of the
+//! root of unity of order N, where N is the least power of two that is `total` or more. A
+//! polynomial of `min` coefficients is the only one with its values at `min` points: so any `min`
+//! shards give the data back, and where more are there, one that was damaged fits no data with the
+//! others. This is Reed and Solomon's code.
 //!
 //! The shards hide nothing of the data. Where only `min` of them are there, damage is not found.
 
@@ -24,8 +25,8 @@ pub use splitting::split;
 use std::alloc::{AllocError, AllocFailed};
 use thiserror::Error;
 
-/// One of `total` shards of some data, any `min` of which give them back: the values of all columns at
-/// power `index` of the root.
+/// One of `total` shards of some data, any `min` of which give them back: the values of all columns
+/// at power `index` of the root.
 #[derive(Debug, Drop)]
 pub struct Shard {
     /// Which of the shards it is, from 0 on.
@@ -47,8 +48,8 @@ pub enum Error {
     /// Fewer than `min` distinct indices are there, or no shard at all.
     #[error("too few shards")]
     TooFew,
-    /// The numbers `min` and `total` or the number of cells of a shard are not those of the first, or not
-    /// 1 <= `min` <= `total`.
+    /// The numbers `min` and `total` or the number of cells of a shard are not those of the first,
+    /// or not 1 <= `min` <= `total`.
     #[error("shards of different splits")]
     Mismatch,
     /// An index is `total` or more.

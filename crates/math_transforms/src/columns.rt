@@ -15,8 +15,8 @@ use math_base::algebra::{FieldNTT, Mem};
 use std::alloc::Global;
 use std::marker::Model;
 
-/// The coefficients of one polynomial from the constant upwards, a power of two of them. The last ones
-/// may be zero.
+/// The coefficients of one polynomial from the constant upwards, a power of two of them. The last
+/// ones may be zero.
 #[derive(Debug, Drop)]
 pub struct PolynomialColumn<F: Drop> {
     pub(super) coefficients: Vec<F>,
@@ -34,8 +34,8 @@ impl<F: Drop> Model for PolynomialColumn<F> {
     ghost invariant = { λ p. IsPowerOfTwo (length p.coefficients.items) };
 }
 
-/// The values of one polynomial at the points of a domain of a power of two of points: value i is at
-/// power i of the root.
+/// The values of one polynomial at the points of a domain of a power of two of points: value i is
+/// at power i of the root.
 #[derive(Debug, Drop)]
 pub struct EvaluationColumn<F: Drop> {
     pub(super) values: Vec<F>,
@@ -66,12 +66,13 @@ impl<F: Drop> PolynomialColumn<F> {
 impl<F: FieldNTT> PolynomialColumn<F> {
     /// The values at the powers of the root of order N, where N is the number of coefficients.
     ///
-    /// lg N is at most `F::MAX_LG_ROOT_ORDER`. Takes memory for a table of N elements; the values stand
-    /// where the coefficients stood.
+    /// lg N is at most `F::MAX_LG_ROOT_ORDER`. Takes memory for a table of N elements; the values
+    /// stand where the coefficients stood.
     pub fn evaluate(self, alloc: Global) -> Mem<EvaluationColumn<F>>
         requires domain { HasDomain F.MAX_LG_ROOT_ORDER (length self) }
         ensures count { IfOk result (λ v. length v ≡ length self) }
-        ensures values { IfOk result (λ v. AreValuesOnDomain F.Ring F.root (one_column self) (one_column v)) }
+        ensures values { IfOk result
+            (λ v. AreValuesOnDomain F.Ring F.root (one_column self) (one_column v)) }
     {
         let mut cells = self.coefficients;
         let lg = lg_of(cells.len());
@@ -91,16 +92,16 @@ impl<F: Drop> EvaluationColumn<F> {
 }
 
 impl<F: FieldNTT> EvaluationColumn<F> {
-    /// The value at zero, and the values at the powers of the root of order N, of a polynomial that is
-    /// zero at the points that are `false` and at no others, where N is the number of points. Up to a
-    /// factor that is not zero it is the product of X - x over these points x.
+    /// The value at zero, and the values at the powers of the root of order N, of a polynomial that
+    /// is zero at the points that are `false` and at no others, where N is the number of points. Up
+    /// to a factor that is not zero it is the product of X - x over these points x.
     ///
-    /// lg N is at most `F::MAX_LG_ROOT_ORDER`, and some point is `true`. Takes memory for two tables of N
-    /// elements, and for as many coefficients, most of them twice.
+    /// lg N is at most `F::MAX_LG_ROOT_ORDER`, and some point is `true`. Takes memory for two
+    /// tables of N elements, and for as many coefficients, most of them twice.
     pub fn vanishing(alloc: Global, points: &VanishingPoints) -> Mem<(F, Self)>
         requires domain { HasDomain F.MAX_LG_ROOT_ORDER (length points.now) }
         requires some { 0 < count_true points.now }
-        ensures { IfOk result (λ answer. (lg : ℕ) → length points.now ≡ 2 ^ lg
+        ensures vanishing { IfOk result (λ answer. (lg : ℕ) → length points.now ≡ 2 ^ lg
             → IsVanishing F.Ring (F.root lg) points.now answer.0 answer.1) }
     {
         let lg = points.lg_size() as u8;
@@ -108,15 +109,16 @@ impl<F: FieldNTT> EvaluationColumn<F> {
         Ok((at_zero, EvaluationColumn { values }))
     }
 
-    /// The polynomial with N coefficients that has these values at the powers of the root of order N,
-    /// where N is the number of values.
+    /// The polynomial with N coefficients that has these values at the powers of the root of order
+    /// N, where N is the number of values.
     ///
-    /// lg N is at most `F::MAX_LG_ROOT_ORDER`. Takes memory for a table of N elements; the coefficients
-    /// stand where the values stood.
+    /// lg N is at most `F::MAX_LG_ROOT_ORDER`. Takes memory for a table of N elements; the
+    /// coefficients stand where the values stood.
     pub fn interpolate(self, alloc: Global) -> Mem<PolynomialColumn<F>>
         requires domain { HasDomain F.MAX_LG_ROOT_ORDER (length self) }
         ensures count { IfOk result (λ p. length p ≡ length self) }
-        ensures values { IfOk result (λ p. AreValuesOnDomain F.Ring F.root (one_column p) (one_column self)) }
+        ensures values { IfOk result
+            (λ p. AreValuesOnDomain F.Ring F.root (one_column p) (one_column self)) }
     {
         let mut cells = self.values;
         let lg = lg_of(cells.len());

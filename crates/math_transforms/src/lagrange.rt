@@ -1,27 +1,46 @@
 //! Interpolation weights at roots of unity.
 //!
-//! Let S be the points of the indices, N the number of points of the domain, and V a polynomial that
-//! vanishes at exactly the other points of the domain. V is known up to a factor, which cancels in all
-//! that follows. The product of X - s over the points s of S is (X^N - 1) / V, up to that factor; and at
-//! x_i, one of them, the product of x_i - s over the others is (N / x_i) / V(x_i), since N / x_i is the
-//! product of the differences of x_i from all other points of the domain. So the weight of index i is
+//! Let S be the points of the indices, N the number of points of the domain, and V a polynomial
+//! that vanishes at exactly the other points of the domain. V is known up to a factor, which
+//! cancels in all that follows. The product of X - s over the points s of S is (X^N - 1) / V, up to
+//! that factor; and at x_i, one of them, the product of x_i - s over the others is
+//! (N / x_i) / V(x_i), since N / x_i is the product of the differences of x_i from all other points
+//! of the domain. So the weight of index i is
 //!
 //! - at zero: V(x_i) / (N V(0));
-//! - at x outside the domain: (x^N - 1) / (V(x) N (x - x_i)) times x_i V(x_i), with V(x) by Horner's rule
-//!   from the coefficients of V, and one inversion for all divisors;
+//! - at x outside the domain: (x^N - 1) / (V(x) N (x - x_i)) times x_i V(x_i), with V(x) by
+//!   Horner's rule from the coefficients of V, and one inversion for all divisors;
 //! - at a point of S: one there, and zero elsewhere.
 //!
-//! x is a point of the domain exactly where x^N is same as one. At a point y of the domain that is missing
-//! in S, the first two would divide zero by zero. So y is set as well: with V' that vanishes at the points
-//! that are still missing, the weight is -(x_i / y) V'(x_i) / V'(y).
+//! x is a point of the domain exactly where x^N is same as one. At a point y of the domain that is
+//! missing in S, the first two would divide zero by zero. So y is set as well: with V' that
+//! vanishes at the points that are still missing, the weight is -(x_i / y) V'(x_i) / V'(y).
 
-ghost use Rattle.std.specs.Prelude.{◌≡◌, ◌<◌, ◌≤◌, ◌^◌, ℕ, List, false, length, slice_index_or, IfOk, All};
+ghost use Rattle.std.specs.Prelude.{
+  ◌≡◌,
+  ◌<◌,
+  ◌≤◌,
+  ◌^◌,
+  ℕ,
+  List,
+  false,
+  length,
+  slice_index_or,
+  IfOk,
+  All,
+};
 ghost use Rattle.std.specs.Iterator.{IsFiniteIterable, Drains};
 ghost use Rattle.std.specs.Map.{keys_of};
 ghost use Rattle.math_theory.specs.Powers.{power};
 ghost use Rattle.math_theory.specs.Recovery.{filled_places};
 ghost use Rattle.math_base.specs.Polynomials.{AreWeightsAt};
-ghost use Rattle.math_transforms.specs.RootWeights.{HasDomainOf, AreIndicesBelow, AreRootWeightsAt, ArePointsAt, powers_at};
+ghost use Rattle.math_transforms.specs.RootWeights.{
+  HasDomainOf,
+  AreIndicesBelow,
+  AreRootWeightsAt,
+  ArePointsAt,
+  powers_at,
+};
 
 mod indices;
 mod points;
@@ -46,12 +65,14 @@ pub fn lagrange_coefficients<F: FieldNTT, P: IntoIterator<Item = u32> + Drop>(
 ) -> Mem<Vec<(u32, F)>>
 where
     P::IntoIter: Drop,
-    requires finite { IsFiniteIterable P.into_iter_gives P.IntoIter.can_next P.IntoIter.remaining indices }
+    requires finite { IsFiniteIterable P.into_iter_gives P.IntoIter.can_next P.IntoIter.remaining
+        indices }
     requires domain { HasDomainOf F.MAX_LG_ROOT_ORDER total.value }
     ensures indices { IfOk result (λ weights. (it : P.IntoIter) × (xs : List ℕ)
         × P.into_iter_gives indices it × Drains P.IntoIter.next_gives it xs
         × AreIndicesBelow total.value xs (keys_of weights.items)) }
-    ensures weights { IfOk result (λ weights. AreRootWeightsAt F.Ring F.root total.value F.zero weights.items) }
+    ensures weights { IfOk result
+        (λ weights. AreRootWeightsAt F.Ring F.root total.value F.zero weights.items) }
 {
     let zero = F::zero(alloc)?;
     let out = lagrange_coefficients_at(alloc, total, indices, &zero)?;
@@ -61,9 +82,10 @@ where
 /// The weights by which the values at the powers of a root of unity with the given indices give the
 /// value at x, each with its index, for polynomials of at most as many coefficients as indices.
 ///
-/// The root is of order N, which is `total` rounded up to a power of two. Repeated indices and those of
-/// `total` or more are ignored. The weights go by rising index, and there is none where no index is left.
-/// x may be any element, also a point of the domain, whether its index is given or not.
+/// The root is of order N, which is `total` rounded up to a power of two. Repeated indices and
+/// those of `total` or more are ignored. The weights go by rising index, and there is none where no
+/// index is left. x may be any element, also a point of the domain, whether its index is given or
+/// not.
 ///
 /// lg N is at most `F::MAX_LG_ROOT_ORDER`.
 pub fn lagrange_coefficients_at<F: FieldNTT, P: IntoIterator<Item = u32> + Drop>(
@@ -74,12 +96,14 @@ pub fn lagrange_coefficients_at<F: FieldNTT, P: IntoIterator<Item = u32> + Drop>
 ) -> Mem<Vec<(u32, F)>>
 where
     P::IntoIter: Drop,
-    requires finite { IsFiniteIterable P.into_iter_gives P.IntoIter.can_next P.IntoIter.remaining indices }
+    requires finite { IsFiniteIterable P.into_iter_gives P.IntoIter.can_next P.IntoIter.remaining
+        indices }
     requires domain { HasDomainOf F.MAX_LG_ROOT_ORDER total.value }
     ensures indices { IfOk result (λ weights. (it : P.IntoIter) × (xs : List ℕ)
         × P.into_iter_gives indices it × Drains P.IntoIter.next_gives it xs
         × AreIndicesBelow total.value xs (keys_of weights.items)) }
-    ensures weights { IfOk result (λ weights. AreRootWeightsAt F.Ring F.root total.value x.now weights.items) }
+    ensures weights { IfOk result
+        (λ weights. AreRootWeightsAt F.Ring F.root total.value x.now weights.items) }
 {
     let lg = lg_of_domain(total);
     let points = present_points(alloc, lg, total.get(), indices)?;
@@ -101,7 +125,8 @@ fn weights_at<F: FieldNTT>(
     requires small { lg < 64 }
     requires size { length present ≡ 2 ^ lg }
     requires places { places.now ≡ filled_places present }
-    ensures { IfOk result (λ w. AreWeightsAt F.Ring x.now (powers_at F.Ring (F.root lg) places.now) w.items) }
+    ensures { IfOk result
+        (λ w. AreWeightsAt F.Ring x.now (powers_at F.Ring (F.root lg) places.now) w.items) }
 {
     if places.is_empty() {
         return Ok(Vec::new(alloc));
@@ -125,8 +150,8 @@ fn weights_at<F: FieldNTT>(
     Ok(out)
 }
 
-/// The weights at x that is zero: the values at the points of a polynomial that vanishes at the missing
-/// ones, divided by N times its value at zero.
+/// The weights at x that is zero: the values at the points of a polynomial that vanishes at the
+/// missing ones, divided by N times its value at zero.
 fn weights_at_zero<F: FieldNTT>(
     alloc: Global,
     lg: u8,
@@ -140,7 +165,8 @@ fn weights_at_zero<F: FieldNTT>(
     requires places { places.now ≡ filled_places present.now }
     requires some { 0 < length places.now }
     requires zero { F.same x.now F.zero }
-    ensures { IfOk result (λ w. AreWeightsAt F.Ring x.now (powers_at F.Ring (F.root lg) places.now) w.items) }
+    ensures { IfOk result
+        (λ w. AreWeightsAt F.Ring x.now (powers_at F.Ring (F.root lg) places.now) w.items) }
 {
     let (at_zero, column) = EvaluationColumn::vanishing(alloc, present)?;
     let mut divisor = size::<F>(alloc, lg)?;
@@ -166,8 +192,10 @@ fn weights_outside<F: FieldNTT>(
     requires places { places.now ≡ filled_places present.now }
     requires some { 0 < length places.now }
     requires points { ArePointsAt F.Ring (F.root lg) places.now points.now }
-    requires outside { (i : ℕ) → i < 2 ^ lg → ¬ (F.same (power F.one F.product (F.root lg) i) x.now) }
-    ensures { IfOk result (λ w. AreWeightsAt F.Ring x.now (powers_at F.Ring (F.root lg) places.now) w.items) }
+    requires outside { (i : ℕ) → i < 2 ^ lg
+        → ¬ (F.same (power F.one F.product (F.root lg) i) x.now) }
+    ensures { IfOk result
+        (λ w. AreWeightsAt F.Ring x.now (powers_at F.Ring (F.root lg) places.now) w.items) }
 {
     let (_, column) = EvaluationColumn::vanishing(alloc, present)?;
     let values = gathered(alloc, column.values(), places)?;
@@ -201,7 +229,8 @@ fn weights_at_missing<F: FieldNTT>(
     requires outside { All (λ p. ¬ (F.same p x.now)) points.now }
     requires inside { m < 2 ^ lg }
     requires missing { F.same (power F.one F.product (F.root lg) m) x.now }
-    ensures { IfOk result (λ w. AreWeightsAt F.Ring x.now (powers_at F.Ring (F.root lg) places.now) w.items) }
+    ensures { IfOk result
+        (λ w. AreWeightsAt F.Ring x.now (powers_at F.Ring (F.root lg) places.now) w.items) }
 {
     let mut present = present;
     present.set_non_vanishing(m as u64);

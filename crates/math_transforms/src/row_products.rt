@@ -10,7 +10,8 @@ use std::alloc::Global;
 /// Multiplies each cell by the factor.
 pub(super) fn multiply_row<F: Ring>(alloc: Global, cells: &mut [F], factor: &F) -> Mem<()>
     ensures { OnOk result ((k : ℕ) → k < length cells.old
-        → F.same (slice_index_or cells.new k F.zero) (F.product (slice_index_or cells.old k F.zero) factor.now)) }
+        → F.same (slice_index_or cells.new k F.zero)
+        (F.product (slice_index_or cells.old k F.zero) factor.now)) }
 {
     for cell in cells.iter_mut() {
         cell.mul_assign(alloc, factor)?;
@@ -31,8 +32,8 @@ pub fn multiply_rows<F: Ring>(alloc: Global, cells: &mut [F], cols: usize, facto
     Ok(())
 }
 
-/// Multiplies each cell of row i by power i of `ratio`. Where the columns are polynomials, the value at r
-/// becomes that at `ratio` times r.
+/// Multiplies each cell of row i by power i of `ratio`. Where the columns are polynomials, the
+/// value at r becomes that at `ratio` times r.
 pub fn dilate_rows<F: Ring>(
     alloc: Global,
     cells: &mut [F],

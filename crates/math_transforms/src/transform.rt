@@ -1,26 +1,46 @@
 //! Number theoretic transforms of rows of cells, in place and counted.
 //!
-//! A polynomial p with N = 2^lg coefficients is p(x) = e(x^2) + x o(x^2), where e has its coefficients of
-//! even index and o those of odd index. Let w be a root of unity of order N. The N / 2 powers of w^2 are
-//! the squares of the powers of w, and power i + N / 2 of w is minus power i. So, with e and o known at
-//! the powers of w^2, value i of p is e_i + w^i o_i, and value i + N / 2 is e_i - w^i o_i. Combining e_i
-//! and o_i into these two is a butterfly. There are N / 2 of them, and lg levels: N lg / 2 in all.
+//! A polynomial p with N = 2^lg coefficients is p(x) = e(x^2) + x o(x^2), where e has its
+//! coefficients of even index and o those of odd index. Let w be a root of unity of order N. The
+//! N / 2 powers of w^2 are the squares of the powers of w, and power i + N / 2 of w is minus power
+//! i. So, with e and o known at the powers of w^2, value i of p is e_i + w^i o_i, and value
+//! i + N / 2 is e_i - w^i o_i. Combining e_i and o_i into these two is a butterfly. There are N / 2
+//! of them, and lg levels: N lg / 2 in all.
 //!
-//! The coefficients of even index lie in the low half of the cells, at each level, where the rows are in
-//! bit-reversed order: row i stands at the place whose bits are those of i in the opposite order. The
-//! rows are put in this order first, so that both the coefficients and the values are in natural order
-//! outside of this module.
+//! The coefficients of even index lie in the low half of the cells, at each level, where the rows
+//! are in bit-reversed order: row i stands at the place whose bits are those of i in the opposite
+//! order. The rows are put in this order first, so that both the coefficients and the values are in
+//! natural order outside of this module.
 //!
-//! The way back undoes the levels from the last to the first: a + b and (a - b) w^-i are twice what a and
-//! b were made of. No level halves a cell, so that in the end each cell is multiplied once by 1 / N.
+//! The way back undoes the levels from the last to the first: a + b and (a - b) w^-i are twice what
+//! a and b were made of. No level halves a cell, so that in the end each cell is multiplied once by
+//! 1 / N.
 
-ghost use Rattle.std.specs.Prelude.{◌≡◌, ◌+◌, ◌-◌, ◌*◌, ◌<◌, ◌≤◌, ◌^◌, ℕ, IfOk, OnOk, length, slice_index_or};
+ghost use Rattle.std.specs.Prelude.{
+  ◌≡◌,
+  ◌+◌,
+  ◌-◌,
+  ◌*◌,
+  ◌<◌,
+  ◌≤◌,
+  ◌^◌,
+  ℕ,
+  IfOk,
+  OnOk,
+  OnErr,
+  length,
+  slice_index_or,
+};
 ghost use Rattle.std.specs.Int.{IsPowerOfTwo};
 ghost use Rattle.math_theory.specs.Powers.{power};
 ghost use Rattle.math_transforms.specs.CombinedCells.{AreTransformed, AreTransformedBack};
 ghost use Rattle.math_transforms.specs.CosetValues.{AreMultiplesAtPowers};
 ghost use Rattle.math_transforms.specs.CountedWork.{AddsAtMost};
-ghost use Rattle.math_transforms.specs.DomainValues.{matrix_of, AreValuesAtPowers, ArePowersByLevel};
+ghost use Rattle.math_transforms.specs.DomainValues.{
+  matrix_of,
+  AreValuesAtPowers,
+  ArePowersByLevel,
+};
 
 mod butterflies;
 pub mod coset;
@@ -45,7 +65,7 @@ pub fn lg_of(count: usize) -> u8
     count.trailing_zeros() as u8
 }
 
-// 2^lg.
+/// 2^lg.
 pub fn size_of(lg: u8) -> usize
     requires { lg < 64 }
     ensures { result ≡ 2 ^ lg }
@@ -63,12 +83,13 @@ pub fn evaluation_table<F: FieldNTT>(alloc: Global, lg: u8) -> Mem<Vec<F>>
     Ok(table)
 }
 
-/// The table for `interpolate_rows` at 2^lg rows: 2^lg entries, the powers of the inverses of the roots
-/// of all levels.
+/// The table for `interpolate_rows` at 2^lg rows: 2^lg entries, the powers of the inverses of the
+/// roots of all levels.
 pub fn interpolation_table<F: FieldNTT>(alloc: Global, lg: u8) -> Mem<Vec<F>>
     requires domain { lg ≤ F.MAX_LG_ROOT_ORDER }
     requires small { lg < 64 }
-    ensures { IfOk result (λ table. ArePowersByLevel F.Ring (λ l. F.inverse (F.root l)) lg table.items) }
+    ensures { IfOk result
+        (λ table. ArePowersByLevel F.Ring (λ l. F.inverse (F.root l)) lg table.items) }
 {
     let table = powers_by_level::<F, false>(alloc, lg)?;
     Ok(table)
@@ -94,7 +115,8 @@ pub fn evaluate_rows<F: FieldNTT>(
     ensures size { length cells.new ≡ length cells.old }
     ensures values { OnOk result (AreValuesAtPowers F.Ring (F.root lg)
         (matrix_of (2 ^ lg) cols cells.old) (matrix_of (2 ^ lg) cols cells.new)) }
-    ensures counted { OnOk result (2 * work.new.butterflies ≡ 2 * work.old.butterflies + cols * 2 ^ lg * lg) }
+    ensures counted { OnOk result
+        (2 * work.new.butterflies ≡ 2 * work.old.butterflies + cols * 2 ^ lg * lg) }
     ensures bounded { AddsAtMost (cols * 2 ^ lg * lg) work.old work.new }
 {
     reverse_rows(cells, cols, lg);
@@ -102,8 +124,8 @@ pub fn evaluate_rows<F: FieldNTT>(
     Ok(())
 }
 
-/// Turns 2^lg rows of values, at the powers of the root of order 2^lg, into rows of the coefficients of
-/// the polynomials that have them. Both are in natural order.
+/// Turns 2^lg rows of values, at the powers of the root of order 2^lg, into rows of the
+/// coefficients of the polynomials that have them. Both are in natural order.
 ///
 /// Adds cols 2^lg lg / 2 butterflies. Where it is refused, the cells have some values.
 pub fn interpolate_rows<F: FieldNTT>(
@@ -122,7 +144,8 @@ pub fn interpolate_rows<F: FieldNTT>(
     ensures size { length cells.new ≡ length cells.old }
     ensures values { OnOk result (AreValuesAtPowers F.Ring (F.root lg)
         (matrix_of (2 ^ lg) cols cells.new) (matrix_of (2 ^ lg) cols cells.old)) }
-    ensures counted { OnOk result (2 * work.new.butterflies ≡ 2 * work.old.butterflies + cols * 2 ^ lg * lg) }
+    ensures counted { OnOk result
+        (2 * work.new.butterflies ≡ 2 * work.old.butterflies + cols * 2 ^ lg * lg) }
     ensures bounded { AddsAtMost (cols * 2 ^ lg * lg) work.old work.new }
 {
     interpolate_multiples(alloc, cells, cols, lg, table, work)?;
@@ -133,8 +156,8 @@ pub fn interpolate_rows<F: FieldNTT>(
     Ok(())
 }
 
-/// As `interpolate_rows`, but each coefficient is multiplied by 2^lg: a caller that multiplies the rows by
-/// other factors as well can divide by it in the same pass over the cells.
+/// As `interpolate_rows`, but each coefficient is multiplied by 2^lg: a caller that multiplies the
+/// rows by other factors as well can divide by it in the same pass over the cells.
 pub fn interpolate_multiples<F: FieldNTT>(
     alloc: Global,
     cells: &mut [F],
@@ -151,7 +174,8 @@ pub fn interpolate_multiples<F: FieldNTT>(
     ensures size { length cells.new ≡ length cells.old }
     ensures values { OnOk result (AreMultiplesAtPowers F.Ring (F.root lg) lg
         (matrix_of (2 ^ lg) cols cells.new) (matrix_of (2 ^ lg) cols cells.old)) }
-    ensures counted { OnOk result (2 * work.new.butterflies ≡ 2 * work.old.butterflies + cols * 2 ^ lg * lg) }
+    ensures counted { OnOk result
+        (2 * work.new.butterflies ≡ 2 * work.old.butterflies + cols * 2 ^ lg * lg) }
     ensures bounded { AddsAtMost (cols * 2 ^ lg * lg) work.old work.new }
 {
     untransform_halves(alloc, cells, cols, lg, table, work)?;
@@ -159,7 +183,7 @@ pub fn interpolate_multiples<F: FieldNTT>(
     Ok(())
 }
 
-// Transforms both halves, and combines them.
+/// Transforms both halves, and combines them.
 fn transform_halves<F: FieldNTT>(
     alloc: Global,
     cells: &mut [F],
@@ -176,8 +200,10 @@ fn transform_halves<F: FieldNTT>(
     ensures size { length cells.new ≡ length cells.old }
     ensures values { OnOk result (AreTransformed F.Ring lg (F.root lg)
         (matrix_of (2 ^ lg) cols cells.old) (matrix_of (2 ^ lg) cols cells.new)) }
-    ensures counted { OnOk result (2 * work.new.butterflies ≡ 2 * work.old.butterflies + cols * 2 ^ lg * lg) }
+    ensures counted { OnOk result
+        (2 * work.new.butterflies ≡ 2 * work.old.butterflies + cols * 2 ^ lg * lg) }
     ensures bounded { AddsAtMost (cols * 2 ^ lg * lg) work.old work.new }
+    ensures refused { OnErr result (work.old.butterflies < work.new.butterflies) }
 {
     if lg == 0 {
         return Ok(());
@@ -200,7 +226,8 @@ fn transform_halves<F: FieldNTT>(
     Ok(())
 }
 
-// Undoes the combining of both halves, and then the transform of each, but for a factor of two a level.
+/// Undoes the combining of both halves, and then the transform of each, but for a factor of two a
+/// level.
 fn untransform_halves<F: FieldNTT>(
     alloc: Global,
     cells: &mut [F],
@@ -217,8 +244,10 @@ fn untransform_halves<F: FieldNTT>(
     ensures size { length cells.new ≡ length cells.old }
     ensures values { OnOk result (AreTransformedBack F.Ring lg (F.inverse (F.root lg))
         (matrix_of (2 ^ lg) cols cells.old) (matrix_of (2 ^ lg) cols cells.new)) }
-    ensures counted { OnOk result (2 * work.new.butterflies ≡ 2 * work.old.butterflies + cols * 2 ^ lg * lg) }
+    ensures counted { OnOk result
+        (2 * work.new.butterflies ≡ 2 * work.old.butterflies + cols * 2 ^ lg * lg) }
     ensures bounded { AddsAtMost (cols * 2 ^ lg * lg) work.old work.new }
+    ensures refused { OnErr result (work.old.butterflies < work.new.butterflies) }
 {
     if lg == 0 {
         return Ok(());
@@ -243,7 +272,8 @@ fn untransform_halves<F: FieldNTT>(
 
 /// 1 / 2^lg: one, halved lg times.
 pub fn size_inverse<F: FieldNTT>(alloc: Global, lg: u8) -> Mem<F>
-    ensures { IfOk result (λ x. F.same (F.product x (power F.one F.product (F.sum F.one F.one) lg)) F.one) }
+    ensures { IfOk result
+        (λ x. F.same (F.product x (power F.one F.product (F.sum F.one F.one) lg)) F.one) }
 {
     let mut out = F::one(alloc)?;
     for _done in 0..lg {
@@ -252,10 +282,11 @@ pub fn size_inverse<F: FieldNTT>(alloc: Global, lg: u8) -> Mem<F>
     Ok(out)
 }
 
-// Multiplies each cell by a factor.
+/// Multiplies each cell by a factor.
 fn scale<F: FieldNTT>(alloc: Global, cells: &mut [F], factor: &F) -> Mem<()>
     ensures { OnOk result ((p : ℕ) → p < length cells.old
-        → F.same (slice_index_or cells.new p F.zero) (F.product (slice_index_or cells.old p F.zero) factor.now)) }
+        → F.same (slice_index_or cells.new p F.zero)
+        (F.product (slice_index_or cells.old p F.zero) factor.now)) }
 {
     for p in 0..cells.len() {
         cells[p].mul_assign(alloc, factor)?;

@@ -1,25 +1,51 @@
 //! Polynomials that vanish at the missing points of a domain.
 //!
-//! The domain is that of the powers of the root w of order N = 2^lg, and a point is missing where the
-//! bitmap has `false`. The points of even index are the powers of w², the root of order N / 2, and those
-//! of odd index are w times these. So a polynomial for all missing points is had from two for half as
-//! many points: p for those of even index, and q for those of odd index, taken at X / w, so that its
-//! roots move from the powers of w² to w times these. The product p(X) q(X / w) vanishes at exactly the
-//! missing points.
+//! The domain is that of the powers of the root w of order N = 2^lg, and a point is missing where
+//! the bitmap has `false`. The points of even index are the powers of w², the root of order N / 2,
+//! and those of odd index are w times these. So a polynomial for all missing points is had from two
+//! for half as many points: p for those of even index, and q for those of odd index, taken at
+//! X / w, so that its roots move from the powers of w² to w times these. The product p(X) q(X / w)
+//! vanishes at exactly the missing points.
 //!
-//! Few points make a base chunk, whose polynomial is built factor by factor, one for each missing point.
+//! Few points make a base chunk, whose polynomial is built factor by factor, one for each missing
+//! point.
 //!
-//! A piece has few coefficients more than missing points. So a product is had from its values on the smallest domain
-//! that has a point for each of its coefficients: where a third of the points are missing, on half of the domain.
+//! A piece has few coefficients more than missing points. So a product is had from its values on
+//! the smallest domain that has a point for each of its coefficients: where a third of the points
+//! are missing, on half of the domain.
 
-ghost use Rattle.std.specs.Prelude.{◌≡◌, ◌+◌, ◌-◌, ◌*◌, ◌<◌, ◌≤◌, ◌^◌, ℕ, IfOk, OnOk, length, slice_index_or, vec_len};
+ghost use Rattle.std.specs.Prelude.{
+  ◌≡◌,
+  ◌+◌,
+  ◌-◌,
+  ◌*◌,
+  ◌<◌,
+  ◌≤◌,
+  ◌^◌,
+  ℕ,
+  IfOk,
+  OnOk,
+  length,
+  slice_index_or,
+  vec_len,
+};
 ghost use Rattle.std.specs.List.{AllWithin};
 ghost use Rattle.math_theory.specs.Powers.{power};
 ghost use Rattle.math_theory.specs.Recovery.{count_true};
 ghost use Rattle.math_base.specs.Polynomials.{value_in_ring};
 ghost use Rattle.math_transforms.specs.CountedWork.{AddsAtMost, AddsWithin};
 ghost use Rattle.math_transforms.specs.DomainValues.{ArePowersByLevel};
-ghost use Rattle.math_transforms.specs.MissingPoints.{count_false, every, missing_product, piece_value, HasLength, IsEverywhere, IsMerged, IsVanishing, VanishesAtFalse};
+ghost use Rattle.math_transforms.specs.MissingPoints.{
+  count_false,
+  every,
+  missing_product,
+  piece_value,
+  HasLength,
+  IsEverywhere,
+  IsMerged,
+  IsVanishing,
+  VanishesAtFalse,
+};
 
 use super::cells::{copies, filled_up};
 use super::row_products::{multiply_row, multiply_rows};
@@ -31,9 +57,9 @@ use super::work::Work;
 use math_base::algebra::{Additive, Field, FieldNTT, Mem, Multiplicative, Object, Ring};
 use std::alloc::Global;
 
-/// Up to 2^8 points are one base chunk. A domain of more points is cut into chunks of 2^6: a chunk of n
-/// points takes up to n / 2 root products a point, and a merge into m points 3 lg(m) / 2 butterflies a
-/// point.
+/// Up to 2^8 points are one base chunk. A domain of more points is cut into chunks of 2^6: a chunk
+/// of n points takes up to n / 2 root products a point, and a merge into m points 3 lg(m) / 2
+/// butterflies a point.
 const WHOLE_LG: u8 = 8;
 
 const CHUNK_LG: u8 = 6;
@@ -59,7 +85,8 @@ fn root_product<F: Ring>(alloc: Global, coefficient: &mut F, root: &F, work: &mu
     Ok(())
 }
 
-/// Multiplies the polynomial by X - root: coefficient i becomes the one before it, less itself times the root.
+/// Multiplies the polynomial by X - root: coefficient i becomes the one before it, less itself
+/// times the root.
 fn times_root<F: Ring>(
     alloc: Global,
     coefficients: &mut Vec<F>,
@@ -69,9 +96,11 @@ fn times_root<F: Ring>(
     requires room { work.old.root_products + vec_len coefficients.old < 2 ^ 128 }
     ensures length { OnOk result (vec_len coefficients.new ≡ vec_len coefficients.old + 1) }
     ensures values { OnOk result ((r : F) → F.same (value_in_ring F.Ring coefficients.new.items r)
-        (F.product (value_in_ring F.Ring coefficients.old.items r) (F.sum r (F.negative root.now)))) }
+        (F.product (value_in_ring F.Ring coefficients.old.items r)
+        (F.sum r (F.negative root.now)))) }
     ensures butterflies { work.new.butterflies ≡ work.old.butterflies }
-    ensures exact { OnOk result (work.new.root_products ≡ work.old.root_products + vec_len coefficients.old) }
+    ensures exact { OnOk result
+        (work.new.root_products ≡ work.old.root_products + vec_len coefficients.old) }
     ensures bounded { AddsWithin 0 (vec_len coefficients.old) work.old work.new }
 {
     let mut before = F::zero(alloc)?;
@@ -87,7 +116,8 @@ fn times_root<F: Ring>(
     Ok(())
 }
 
-/// The product of X - root^j over the missing ones of the points `start + j * stride`, j below `count`.
+/// The product of X - root^j over the missing ones of the points `start + j * stride`, j below
+/// `count`.
 fn chunk_product<F: Ring>(
     alloc: Global,
     points: &VanishingPoints,
@@ -102,7 +132,8 @@ fn chunk_product<F: Ring>(
     requires fits { length points.now < 2 ^ 64 }
     requires few { count ≤ 256 }
     requires room { work.old.root_products + 2 ^ 16 < 2 ^ 128 }
-    ensures length { IfOk result (λ p. vec_len p ≡ count_false (every start stride count points.now) + 1) }
+    ensures length { IfOk result
+        (λ p. vec_len p ≡ count_false (every start stride count points.now) + 1) }
     ensures values { IfOk result (λ p. (r : F) → F.same (value_in_ring F.Ring p.items r)
         (missing_product F.Ring r root.now (every start stride count points.now))) }
     ensures butterflies { work.new.butterflies ≡ work.old.butterflies }
@@ -162,7 +193,8 @@ fn chunk<F: FieldNTT>(
     ensures everywhere { IfOk result (λ piece. IsEverywhere piece
         → count_true (every start stride (2 ^ lg) points.now) ≡ 0) }
     ensures butterflies { work.new.butterflies ≡ work.old.butterflies }
-    ensures exact { IfOk result (λ _. let v = count_false (every start stride (2 ^ lg) points.now) in v < 2 ^ lg
+    ensures exact { IfOk result
+        (λ _. let v = count_false (every start stride (2 ^ lg) points.now) in v < 2 ^ lg
         → 2 * work.new.root_products ≡ 2 * work.old.root_products + v * (v + 1)) }
     ensures bounded { AddsWithin 0 (128 * 2 ^ lg) work.old work.new }
 {
@@ -193,7 +225,8 @@ fn constant_one<F: Ring>(alloc: Global, n: usize) -> Mem<Vec<F>>
     Ok(all)
 }
 
-/// The polynomial of n coefficients times 1 + factor X^n: the coefficients, and after them each times the factor.
+/// The polynomial of n coefficients times 1 + factor X^n: the coefficients, and after them each
+/// times the factor.
 fn with_multiple<F: Ring>(alloc: Global, low: Vec<F>, factor: &F) -> Mem<Vec<F>>
     requires { vec_len low + vec_len low < 2 ^ 64 }
     ensures length { IfOk result (λ p. vec_len p ≡ vec_len low + vec_len low) }
@@ -211,7 +244,8 @@ fn with_multiple<F: Ring>(alloc: Global, low: Vec<F>, factor: &F) -> Mem<Vec<F>>
 /// The number of coefficients before the zeros at the end.
 fn count_before_zeros<F: Ring>(alloc: Global, coefficients: &[F]) -> Mem<usize>
     ensures within { IfOk result (λ n. n ≤ length coefficients.now) }
-    ensures zeros { IfOk result (λ n. AllWithin (λ c. F.same c F.zero) coefficients.now n (length coefficients.now)) }
+    ensures zeros { IfOk result
+        (λ n. AllWithin (λ c. F.same c F.zero) coefficients.now n (length coefficients.now)) }
     ensures last { IfOk result (λ n. 0 < n
         → ¬ (F.same (slice_index_or coefficients.now (n - 1) F.zero) F.zero)) }
 {
@@ -238,8 +272,8 @@ fn trimmed<F: Ring>(alloc: Global, coefficients: Vec<F>) -> Mem<Vec<F>>
     Ok(out)
 }
 
-/// Turns the coefficients of two polynomials into those of the polynomial whose values on the domain are
-/// the products of theirs, which stand where the first ones stood.
+/// Turns the coefficients of two polynomials into those of the polynomial whose values on the
+/// domain are the products of theirs, which stand where the first ones stood.
 fn multiply_values<F: FieldNTT>(
     alloc: Global,
     left: &mut [F],
@@ -254,10 +288,12 @@ fn multiply_values<F: FieldNTT>(
     requires left { length left.old ≡ 2 ^ lg }
     requires right { length right.old ≡ 2 ^ lg }
     requires evaluation { ArePowersByLevel F.Ring F.root lg evaluation.now }
-    requires interpolation { ArePowersByLevel F.Ring (λ l. F.inverse (F.root l)) lg interpolation.now }
+    requires interpolation { ArePowersByLevel F.Ring
+        (λ l. F.inverse (F.root l)) lg interpolation.now }
     requires room { 2 * work.old.butterflies + 3 * 2 ^ lg * lg < 2 ^ 129 }
     ensures size { length left.new ≡ length left.old }
-    ensures values { OnOk result ((i : ℕ) → i < 2 ^ lg → let x = power F.one F.product (F.root lg) i in
+    ensures values { OnOk result
+        ((i : ℕ) → i < 2 ^ lg → let x = power F.one F.product (F.root lg) i in
         F.same (value_in_ring F.Ring left.new x)
         (F.product (value_in_ring F.Ring left.old x) (value_in_ring F.Ring right.old x))) }
     ensures bounded { AddsAtMost (3 * 2 ^ lg * lg) work.old work.new }
@@ -269,9 +305,9 @@ fn multiply_values<F: FieldNTT>(
     Ok(())
 }
 
-/// The product of two polynomials that have together at most as many coefficients as the domain has points. It is had
-/// from its values on the smallest domain of which that holds, and has no zeros at its end, so that the products made
-/// with it are on the smallest domains too.
+/// The product of two polynomials that have together at most as many coefficients as the domain has
+/// points. It is had from its values on the smallest domain of which that holds, and has no zeros
+/// at its end, so that the products made with it are on the smallest domains too.
 fn multiplied<F: FieldNTT>(
     alloc: Global,
     left: Vec<F>,
@@ -285,7 +321,8 @@ fn multiplied<F: FieldNTT>(
     requires small { lg < 64 }
     requires few { vec_len left + vec_len right ≤ 2 ^ lg }
     requires evaluation { ArePowersByLevel F.Ring F.root lg evaluation.now }
-    requires interpolation { ArePowersByLevel F.Ring (λ l. F.inverse (F.root l)) lg interpolation.now }
+    requires interpolation { ArePowersByLevel F.Ring
+        (λ l. F.inverse (F.root l)) lg interpolation.now }
     requires room { 2 * work.old.butterflies + 3 * 2 ^ lg * lg < 2 ^ 129 }
     ensures length { IfOk result (λ p. vec_len p ≤ 2 ^ lg) }
     ensures values { IfOk result (λ p. (r : F) → F.same (value_in_ring F.Ring p.items r)
@@ -315,10 +352,12 @@ fn multiplied<F: FieldNTT>(
     Ok(out)
 }
 
-/// p(X) q(X / w), up to its sign, for pieces p and q of 2^(lg - 1) points, w being the root of order 2^lg.
+/// p(X) q(X / w), up to its sign, for pieces p and q of 2^(lg - 1) points, w being the root of
+/// order 2^lg.
 ///
-/// With n = 2^(lg - 1) the power n of w is -1, so that X^n - 1 becomes -(X^n + 1) at X / w. The product of two such
-/// polynomials has n coefficients less than their number of points, but where all points are missing.
+/// With n = 2^(lg - 1) the power n of w is -1, so that X^n - 1 becomes -(X^n + 1) at X / w. The
+/// product of two such polynomials has n coefficients less than their number of points, but where
+/// all points are missing.
 fn merged<F: FieldNTT>(
     alloc: Global,
     left: Piece<F>,
@@ -334,13 +373,15 @@ fn merged<F: FieldNTT>(
     requires left { HasLength (2 ^ (lg - 1)) left }
     requires right { HasLength (2 ^ (lg - 1)) right }
     requires evaluation { ArePowersByLevel F.Ring F.root lg evaluation.now }
-    requires interpolation { ArePowersByLevel F.Ring (λ l. F.inverse (F.root l)) lg interpolation.now }
+    requires interpolation { ArePowersByLevel F.Ring
+        (λ l. F.inverse (F.root l)) lg interpolation.now }
     requires room { 2 * work.old.butterflies + 3 * 2 ^ lg * lg < 2 ^ 129 }
     ensures length { IfOk result (λ piece. HasLength (2 ^ lg) piece) }
     ensures merged { IfOk result (λ piece. IsMerged F.Ring (F.inverse (F.root lg))
         (piece_value F.Ring (2 ^ (lg - 1)) left) (piece_value F.Ring (2 ^ (lg - 1)) right)
         (piece_value F.Ring (2 ^ lg) piece)) }
-    ensures everywhere { IfOk result (λ piece. IsEverywhere piece → IsEverywhere left × IsEverywhere right) }
+    ensures everywhere { IfOk result
+        (λ piece. IsEverywhere piece → IsEverywhere left × IsEverywhere right) }
     ensures bounded { AddsAtMost (3 * 2 ^ lg * lg) work.old work.new }
 {
     let half = size_of(lg - 1);
@@ -392,8 +433,8 @@ fn merged<F: FieldNTT>(
     }
 }
 
-/// The piece for the 2^lg points `start + j * stride`: that of the even ones and that of the odd ones, merged, down to
-/// chunks of 2^base points.
+/// The piece for the 2^lg points `start + j * stride`: that of the even ones and that of the odd
+/// ones, merged, down to chunks of 2^base points.
 fn tree<F: FieldNTT>(
     alloc: Global,
     points: &VanishingPoints,
@@ -413,7 +454,8 @@ fn tree<F: FieldNTT>(
     requires covers { 2 ^ lg * stride ≡ length points.now }
     requires fits { length points.now < 2 ^ 64 }
     requires evaluation { ArePowersByLevel F.Ring F.root lg evaluation.now }
-    requires interpolation { ArePowersByLevel F.Ring (λ l. F.inverse (F.root l)) lg interpolation.now }
+    requires interpolation { ArePowersByLevel F.Ring
+        (λ l. F.inverse (F.root l)) lg interpolation.now }
     requires room { 2 * work.old.butterflies + 2 ^ lg * lg * (3 * lg - 1) < 2 ^ 129 }
     requires product_room { work.old.root_products + 128 * 2 ^ lg + 2 ^ 16 < 2 ^ 128 }
     ensures length { IfOk result (λ piece. HasLength (2 ^ lg) piece) }
@@ -423,7 +465,8 @@ fn tree<F: FieldNTT>(
     ensures everywhere { IfOk result (λ piece. IsEverywhere piece
         → count_true (every start stride (2 ^ lg) points.now) ≡ 0) }
     ensures butterflies { lg ≤ base → work.new.butterflies ≡ work.old.butterflies }
-    ensures exact { IfOk result (λ _. let v = count_false (every start stride (2 ^ lg) points.now) in lg ≤ base
+    ensures exact { IfOk result
+        (λ _. let v = count_false (every start stride (2 ^ lg) points.now) in lg ≤ base
         → v < 2 ^ lg → 2 * work.new.root_products ≡ 2 * work.old.root_products + v * (v + 1)) }
     ensures bounded { AddsWithin (2 ^ lg * lg * (3 * lg - 1)) (128 * 2 ^ lg) work.old work.new }
 {
@@ -475,11 +518,13 @@ pub fn vanishing_coefficients<F: FieldNTT>(
     requires points { length points.now ≡ 2 ^ lg }
     requires some { 0 < count_true points.now }
     requires evaluation { ArePowersByLevel F.Ring F.root lg evaluation.now }
-    requires interpolation { ArePowersByLevel F.Ring (λ l. F.inverse (F.root l)) lg interpolation.now }
+    requires interpolation { ArePowersByLevel F.Ring
+        (λ l. F.inverse (F.root l)) lg interpolation.now }
     requires room { work.old.butterflies ≤ 2 ^ 127 }
     requires product_room { work.old.root_products ≤ 2 ^ 127 }
     ensures length { IfOk result (λ p. vec_len p ≡ 2 ^ lg) }
-    ensures vanishes { IfOk result (λ p. VanishesAtFalse F.Ring (F.root lg) points.now (value_in_ring F.Ring p.items)) }
+    ensures vanishes { IfOk result
+        (λ p. VanishesAtFalse F.Ring (F.root lg) points.now (value_in_ring F.Ring p.items)) }
     ensures butterflies { lg ≤ 8 → work.new.butterflies ≡ work.old.butterflies }
     ensures exact { IfOk result (λ _. lg ≤ 8 → 2 * work.new.root_products
         ≡ 2 * work.old.root_products + count_false points.now * (count_false points.now + 1)) }
@@ -510,8 +555,8 @@ pub fn vanishing_coefficients<F: FieldNTT>(
     }
 }
 
-/// The value at zero, and the values on the domain of 2^lg points, of a polynomial that vanishes at the
-/// missing points and at no others. Some point is not missing.
+/// The value at zero, and the values on the domain of 2^lg points, of a polynomial that vanishes at
+/// the missing points and at no others. Some point is not missing.
 pub(super) fn vanishing_values<F: FieldNTT>(
     alloc: Global,
     points: &VanishingPoints,
@@ -521,7 +566,8 @@ pub(super) fn vanishing_values<F: FieldNTT>(
     requires small { lg < 64 }
     requires points { length points.now ≡ 2 ^ lg }
     requires some { 0 < count_true points.now }
-    ensures { IfOk result (λ answer. IsVanishing F.Ring (F.root lg) points.now answer.0 answer.1.items) }
+    ensures { IfOk result
+        (λ answer. IsVanishing F.Ring (F.root lg) points.now answer.0 answer.1.items) }
 {
     let evaluation = evaluation_table::<F>(alloc, lg)?;
     let interpolation = interpolation_table::<F>(alloc, lg)?;

@@ -1,6 +1,22 @@
 //! The points of a domain at which a polynomial has to vanish, one bit a point.
 
-ghost use Rattle.std.specs.Prelude.{◌≡◌, ◌+◌, ◌-◌, ◌<◌, ◌^◌, IfOk, Some, length, replicate, List, Bool, slice_get, slice_set, true, false};
+ghost use Rattle.std.specs.Prelude.{
+  ◌≡◌,
+  ◌+◌,
+  ◌-◌,
+  ◌<◌,
+  ◌^◌,
+  IfOk,
+  Some,
+  length,
+  replicate,
+  List,
+  Bool,
+  slice_get,
+  slice_set,
+  true,
+  false,
+};
 ghost use Rattle.math_theory.specs.Recovery.{count_true};
 ghost use Rattle.math_transforms.specs.Bitmaps.{points_a_word, truth_values, word_count, IsBitmap};
 
@@ -10,11 +26,12 @@ use std::marker::Model;
 
 /// The points of a domain of 2^lg_size roots of unity at which a polynomial has to vanish.
 ///
-/// Each point has a truth value, in natural order: point `i` is power `i` of the root, `false` says that
-/// the polynomial vanishes there, and `true` that it does not.
+/// Each point has a truth value, in natural order: point `i` is power `i` of the root, `false` says
+/// that the polynomial vanishes there, and `true` that it does not.
 ///
-/// Point `i` is bit `i % 64` of word `i / 64`. Fewer than 64 points leave bits of the one word over, and
-/// these are zero, so that equal bitmaps have equal words and the ones of whole words can be counted.
+/// Point `i` is bit `i % 64` of word `i / 64`. Fewer than 64 points leave bits of the one word
+/// over, and these are zero, so that equal bitmaps have equal words and the ones of whole words can
+/// be counted.
 #[derive(Debug, Drop)]
 pub struct VanishingPoints {
     lg_size: u32,
@@ -116,7 +133,7 @@ impl Eq for VanishingPoints {
     ghost laws = { Prim.search (comparing, rules) };
 }
 
-// How many words hold 2^lg_size points.
+/// How many words hold 2^lg_size points.
 fn words_for(lg_size: u32) -> usize
     requires { lg_size < 64 }
     ensures { result ≡ word_count lg_size }
@@ -124,7 +141,7 @@ fn words_for(lg_size: u32) -> usize
     1 << lg_size.saturating_sub(6)
 }
 
-// A word whose points are all set.
+/// A word whose points are all set.
 fn full_word(lg_size: u32) -> u64
     ensures { result + 1 ≡ 2 ^ points_a_word lg_size }
 {

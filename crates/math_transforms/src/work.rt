@@ -4,8 +4,9 @@ ghost use Rattle.std.specs.Prelude.{◌≡◌, ◌+◌, ◌<◌, ◌^◌};
 
 use std::marker::Model;
 
-/// How much counted calls did: butterflies, each of which combines a pair of cells, and root products.
-/// A root product is one coefficient times one root, when small vanishing polynomials are built.
+/// How much counted calls did: butterflies, each of which combines a pair of cells, and root
+/// products. A root product is one coefficient times one root, when small vanishing polynomials are
+/// built.
 ///
 /// A counted call adds to it whatever its outcome.
 #[derive(Debug, Drop)]
@@ -67,14 +68,16 @@ impl Work {
         self.root_products += 1;
     }
 
-    /// The work of both: a loop counts into a `Work` of its own, which is joined to its caller's at the
-    /// end.
+    /// The work of both: a loop counts into a `Work` of its own, which is joined to its caller's at
+    /// the end.
     pub(super) fn join(&mut self, other: Work)
-        requires butterflies { self.old.butterflies < 2 ^ 128 → self.old.butterflies + other.butterflies < 2 ^ 128 }
+        requires butterflies { self.old.butterflies < 2 ^ 128
+            → self.old.butterflies + other.butterflies < 2 ^ 128 }
         requires root_products { self.old.root_products < 2 ^ 128
             → self.old.root_products + other.root_products < 2 ^ 128 }
         ensures butterflies { self.new.butterflies ≡ self.old.butterflies + other.butterflies }
-        ensures root_products { self.new.root_products ≡ self.old.root_products + other.root_products }
+        ensures root_products { self.new.root_products
+            ≡ self.old.root_products + other.root_products }
     {
         self.butterflies += other.butterflies;
         self.root_products += other.root_products;

@@ -29,7 +29,7 @@ each_word bytes of =
     All-cons (λ word. word < 2 ^ 64) (length bytes) (cut 64 bits) of.few (pieces_below 64 (piece_count 64 (length bits)) bits (joined-are_bits 8 bytes))
 
 pub chosen_give_block : ChosenShardsGiveBlock
-chosen_give_block bytes min total shards chosen of some within short split contained enough = (
+chosen_give_block bytes min total shards chosen of some within short split each_same enough = (
   of,
-  chosen_join (words_of_bytes bytes) min total shards chosen some within short (each_word bytes of) (omega (arith, length_of_words bytes, of.few)) split contained enough,
+  chosen_join (words_of_bytes bytes) min total shards chosen some within short (each_word bytes of) (omega (arith, length_of_words bytes, of.few)) split each_same enough,
 )

@@ -5,11 +5,11 @@ use Rattle.std.proofs.lemmas.List.{take_rest}
 use Rattle.std.proofs.lemmas.List.Elements.{All-cons, All-head, All-nil, All-tail, all_zip_more}
 use Rattle.math_base.specs.declared.fields.goldilocks.F.{F}
 use Rattle.math_base.specs.Elements.{same}
-use Rattle.math_transforms.specs.Matrices.{column_of}
 use Rattle.math_shards.specs.declared.shards.Shard.{Shard}
 use Rattle.math_shards.specs.ShardEncoding.{AreSameShards}
-use Rattle.math_shards.specs.Shards.{IsShardOf, rows_for, value_at}
-use Rattle.math_shards.proofs.SameCells.{nought, same_are_equal}
+use Rattle.math_shards.specs.Shards.{IsShardOf}
+use Rattle.math_shards.proofs.JoinedShards.{shard_of_same}
+use Rattle.math_shards.proofs.SameCells.{same_are_equal}
 use Rattle.shard_blocks.specs.Blocks.{JoinToBlock}
 use Rattle.shard_blocks.proofs.Indices.{same_distinct}
 
@@ -34,18 +34,7 @@ copies_backwards (x ∷ xs) (y ∷ ys) h = (
   copies_backwards xs ys h.1,
 )
 
--- the same shard is one of the same words
-shard_of_same : (words : List ℕ) (min total : ℕ) (s t : Shard) → AreSameShards s t → IsShardOf words min total s → IsShardOf words min total t
-shard_of_same words min total s t h of =
-    let cells : s.cells.items ≡ t.cells.items = same_are_equal s.cells.items t.cells.items h.cells in record {
-      index = omega (arith, of.index, h.index);
-      least = sym h.least ∙ of.least;
-      most = sym h.most ∙ of.most;
-      count = sym (ap length cells) ∙ of.count;
-      values = λ lg k next l. subst (λ (xs : List F). same (get_or xs k nought) (value_at lg (column_of nought (rows_for min words) k) t.index)) cells
-          (subst (λ (i : ℕ). same (get_or s.cells.items k nought) (value_at lg (column_of nought (rows_for min words) k) i)) h.index (of.values lg k next l));
-    }
-
+-- shards that are the same as those of the words are so too
 each_of_same : (words : List ℕ) (min total : ℕ) (xs ys : List Shard) → AllZip AreSameShards xs ys → All (IsShardOf words min total) xs → All (IsShardOf words min total) ys
 each_of_same words min total [] [] h of = All-nil (IsShardOf words min total)
 each_of_same words min total [] (y ∷ ys) h of = absurd h

@@ -1,9 +1,9 @@
 -- Shards that give a block of bytes back, and what is wrong with those that give none.
-use Rattle.std.specs.Prelude.{◌≡◌, ℕ, ◌<◌, ◌≤◌, ◌^◌, ◌⊎◌, List, [], ◌∷◌, All, Contains, Result, Err, MatchResult, ⊤}
+use Rattle.std.specs.Prelude.{◌≡◌, ℕ, ◌<◌, ◌≤◌, ◌^◌, ◌⊎◌, List, [], ◌∷◌, All, Result, Err, MatchResult, ⊤}
 use Rattle.math_shards.specs.declared.shards.Shard.{Shard}
 use Rattle.math_shards.specs.declared.shards.Error.{Error}
 use Rattle.math_shards.specs.declared.shards.Error.TheVariants.{Memory, TooFew, Mismatch, Index, Conflict, Inconsistent}
-use Rattle.math_shards.specs.Shards.{AreShardsOf, JoinTo, distinct_indices}
+use Rattle.math_shards.specs.Shards.{AreShardsOf, IsSameAsOne, JoinTo, distinct_indices}
 use Rattle.math_shards.specs.Joining.{AreSound, IsDue, IsMemory}
 use Rattle.shard_blocks.specs.BlockWords.{AreBytes, words_of_bytes}
 
@@ -37,8 +37,8 @@ RefusesBlockExactly result shards e = (result ≡ Err e → IsBlockDue shards e)
 abbrev pub HaveOneBlock : Type 0
 HaveOneBlock = (bytes others : List ℕ) (shards : List Shard) → JoinToBlock bytes shards → JoinToBlock others shards → bytes ≡ others
 
--- whichever of the shards of a block are chosen, in any order and some of them twice: where at least `min` have distinct indices, they give the block back
+-- shards each of which is the same as one of the shards of a block, in any order and some of them twice: where at least `min` have distinct indices, they give the block back
 abbrev pub ChosenShardsGiveBlock : Type 0
 ChosenShardsGiveBlock =
     (bytes : List ℕ) (min total : ℕ) (shards chosen : List Shard) → AreBytes bytes → 1 ≤ min → min ≤ total → total < 2 ^ 32
-    → AreShardsOf (words_of_bytes bytes) min total shards → All (Contains shards) chosen → min ≤ distinct_indices total chosen → JoinToBlock bytes chosen
+    → AreShardsOf (words_of_bytes bytes) min total shards → All (IsSameAsOne shards) chosen → min ≤ distinct_indices total chosen → JoinToBlock bytes chosen

@@ -3,7 +3,8 @@
 ghost use Rattle.std.specs.Prelude.{◌≡◌, ◌≤◌, ℕ, List, length, IfOk, IfErr, MatchResult};
 ghost use Rattle.math_shards.specs.Joining.{IsMemory};
 ghost use Rattle.math_shards.specs.Shards.{AreShardsOf, width_for};
-ghost use Rattle.math_shards.specs.declared.shards.Error.TheVariants.{TooFew, Mismatch, Index, Conflict, Inconsistent};
+ghost use Rattle.math_shards.specs.declared.shards.Error.TheVariants.{TooFew, Mismatch, Index};
+ghost use Rattle.math_shards.specs.declared.shards.Error.TheVariants.{Conflict, Inconsistent};
 ghost use Rattle.shard_blocks.specs.BlockWords.{words_of_bytes};
 ghost use Rattle.shard_blocks.specs.Blocks.{IsBlockDue, JoinToBlock, RefusesBlockExactly};
 
@@ -12,36 +13,40 @@ use math_base::algebra::Mem;
 use math_shards::shards::{Error, Shard, join, split};
 use std::alloc::Global;
 
-/// The shards of the bytes, one for each index below `total`, in the order of the indices. Any `min` of
-/// them give the bytes back.
+/// The shards of the bytes, one for each index below `total`, in the order of the indices. Any
+/// `min` of them give the bytes back.
 ///
-/// `min` is at least 1, and at most `total`. Takes memory as `split` does for the words of the bytes, which
-/// are an eighth of their number, rounded up, and one more.
+/// `min` is at least 1, and at most `total`. Takes memory as `split` does for the words of the
+/// bytes, which are an eighth of their number, rounded up, and one more.
 pub fn split_block(alloc: Global, bytes: &[u8], min: u32, total: u32) -> Mem<Vec<Shard>>
     requires some { 1 ≤ min }
     requires within { min ≤ total }
-    ensures { IfOk result (λ shards. AreShardsOf (words_of_bytes bytes.now) min total shards.items) }
+    ensures { IfOk result
+        (λ shards. AreShardsOf (words_of_bytes bytes.now) min total shards.items) }
 {
     let words = words_of(alloc, bytes)?;
     let shards = split(alloc, &words, min, total)?;
     Ok(shards)
 }
 
-/// How many cells each shard has of a block of so many bytes, of which `min`, at least 1, give it back.
+/// How many cells each shard has of a block of so many bytes, of which `min`, at least 1, give it
+/// back.
 pub fn cells_for(bytes: usize, min: u32) -> usize
     requires { 1 ≤ min }
-    ensures { (block : List ℕ) → length block ≡ bytes → width_for min (words_of_bytes block) ≡ result }
+    ensures { (block : List ℕ) → length block ≡ bytes
+        → width_for min (words_of_bytes block) ≡ result }
 {
     let words = bytes.div_ceil(8) + 2;
     let elements = words + words.div_ceil(63);
     elements.div_ceil(min as usize)
 }
 
-/// The bytes of which each of the shards is one. There are no others, and a shard that is handed in twice
-/// counts once.
+/// The bytes of which each of the shards is one. There are no others, and a shard that is handed in
+/// twice counts once.
 ///
-/// It refuses as `join` does, and words that are those of no block with `Inconsistent`. Where more than
-/// `min` shards are there, damage to one is so found, and where just `min` are there it is not.
+/// It refuses as `join` does, and words that are those of no block with `Inconsistent`. Where more
+/// than `min` shards are there, damage to one is so found, and where just `min` are there it is
+/// not.
 ///
 /// Takes memory as `join` does: who takes shards from strangers bounds `total` first.
 pub fn join_block(alloc: Global, shards: &[Shard]) -> Result<Vec<u8>, Error>
@@ -54,11 +59,11 @@ pub fn join_block(alloc: Global, shards: &[Shard]) -> Result<Vec<u8>, Error>
     ensures conflict { RefusesBlockExactly result shards.now Conflict }
     ensures inconsistent { RefusesBlockExactly result shards.now Inconsistent }
 {
-    joined(alloc, shards)
+    recovered_block(alloc, shards)
 }
 
-/// What `join_block` answers.
-fn joined(alloc: Global, shards: &[Shard]) -> Result<Vec<u8>, Error>
+/// The block of the shards, or what is wrong with them.
+fn recovered_block(alloc: Global, shards: &[Shard]) -> Result<Vec<u8>, Error>
     ensures ok { IfOk result (λ bytes. JoinToBlock bytes.items shards.now) }
     ensures err { IfErr result (IsBlockDue shards.now) }
 {

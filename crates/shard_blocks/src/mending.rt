@@ -1,12 +1,14 @@
 //! Shards of which one is damaged.
 
-ghost use Rattle.std.specs.Prelude.{◌≡◌, ◌↔◌, ◌+◌, ◌<◌, ◌≤◌, ◌++◌, ℕ, List, length, IsTrue, IsSome, IfOk, IfErr, IfSome, OnOk, MatchResult, Some, None};
+ghost use Rattle.std.specs.Prelude.{◌≡◌, ◌↔◌, ◌+◌, ◌<◌, ◌≤◌, ◌++◌, ℕ, List, length, IsTrue, IsSome};
+ghost use Rattle.std.specs.Prelude.{IfOk, IfErr, IfSome, OnOk, MatchResult, Some, None};
 ghost use Rattle.std.specs.List.{AllZip};
 ghost use Rattle.math_shards.specs.Joining.{IsMemory};
 ghost use Rattle.math_shards.specs.ShardEncoding.{AreSameShards};
 ghost use Rattle.math_shards.specs.Shards.{distinct_indices, has_index};
 ghost use Rattle.shard_blocks.specs.Blocks.{FitNoBlock, IsBlockDue, JoinToBlock};
-ghost use Rattle.shard_blocks.specs.Mending.{CallsForMending, HaveTwoMore, HaveTwoToSpare, IsMended, IsMendedBySome, IsStuckWith, JoinWithout};
+ghost use Rattle.shard_blocks.specs.Mending.{CallsForMending, HaveTwoMore, HaveTwoToSpare};
+ghost use Rattle.shard_blocks.specs.Mending.{IsMended, IsMendedBySome, IsStuckWith, JoinWithout};
 
 use crate::blocks::join_block;
 use math_base::algebra::Mem;
@@ -18,18 +20,22 @@ use std::alloc::Global;
 pub struct Mended {
     /// The bytes of the block.
     pub bytes: Vec<u8>,
-    /// The position, among the shards that were handed in, of the one that fits no block with the others.
-    /// `None` where all fit.
+    /// The position, among the shards that were handed in, of the one that fits no block with the
+    /// others. `None` where all fit.
     pub left_out: Option<usize>,
 }
 
-/// As `join_block`; where the shards fit no block, and at least `min` + 2 of their indices are distinct, it
-/// leaves out the one without which the others fit a block, where there is one, and says which.
+/// As `join_block`; and where the shards fit no block, although `min`, `total` and the number of
+/// cells are those of the first for each of them, each index is below `total`, and at least `min` +
+/// 2 indices are distinct, it leaves out the one without which the others fit a block, if there is
+/// one, and says which.
 ///
-/// There cannot be two. `Inconsistent` and `Conflict` call for this, and stay where it does not help; all
-/// other errors are those of `join_block`.
+/// There cannot be two. `Inconsistent` and `Conflict` call for this, and stay where it does not
+/// help; all other errors are those of `join_block`: a shard that has other numbers, or an index
+/// out of range, is refused with `Mismatch` or `Index`, also where the others fit a block.
 ///
-/// Takes memory for a copy of the shards beside what `join_block` takes, and the time of that many calls.
+/// Takes memory for a copy of the shards beside what `join_block` takes, and the time of that many
+/// calls.
 pub fn mend_block(alloc: Global, shards: &[Shard]) -> Result<Mended, Error>
     ensures ok { IfOk result (IsMended shards.now) }
     ensures whole { (block : List ℕ) → JoinToBlock block shards.now
@@ -39,11 +45,11 @@ pub fn mend_block(alloc: Global, shards: &[Shard]) -> Result<Mended, Error>
         → MatchResult result (λ m. (m.bytes.items ≡ block) × (m.left_out ≡ Some i)) IsMemory }
     ensures err { IfErr result (IsBlockDue shards.now) }
 {
-    mend(alloc, shards)
+    join_or_leave_one_out(alloc, shards)
 }
 
-/// What `mend_block` answers.
-fn mend(alloc: Global, shards: &[Shard]) -> Result<Mended, Error>
+/// The block of all shards, or of all but one where that helps, or what is wrong with them.
+fn join_or_leave_one_out(alloc: Global, shards: &[Shard]) -> Result<Mended, Error>
     ensures ok { IfOk result (IsMended shards.now) }
     ensures err { IfErr result (IsStuckWith shards.now) }
 {
@@ -75,7 +81,8 @@ fn calls_for_mending(error: &Error) -> bool
     }
 }
 
-/// Whether at least two more distinct indices are there than the first shard says give a block back.
+/// Whether at least two more distinct indices are there than the first shard says give a block
+/// back.
 fn have_two_more(shards: &[Shard]) -> bool
     ensures { IsTrue result ↔ HaveTwoMore shards.now }
 {
@@ -124,7 +131,7 @@ fn first_mended(alloc: Global, shards: &[Shard]) -> Mem<Option<Mended>>
         → IfOk result (λ answer. IsSome answer) }
 {
     for position in 0..shards.len() {
-        if let Some(bytes) = joined_without(alloc, shards, position)? {
+        if let Some(bytes) = block_without(alloc, shards, position)? {
             return Ok(Some(Mended {
                 bytes,
                 left_out: Some(position),
@@ -135,9 +142,10 @@ fn first_mended(alloc: Global, shards: &[Shard]) -> Mem<Option<Mended>>
 }
 
 /// The block of all shards but the one at that position, where there is one.
-fn joined_without(alloc: Global, shards: &[Shard], position: usize) -> Mem<Option<Vec<u8>>>
+fn block_without(alloc: Global, shards: &[Shard], position: usize) -> Mem<Option<Vec<u8>>>
     requires { position < length shards.now }
-    ensures some { IfOk result (λ answer. IfSome answer (λ bytes. JoinWithout bytes.items shards.now position)) }
+    ensures some { IfOk result
+        (λ answer. IfSome answer (λ bytes. JoinWithout bytes.items shards.now position)) }
     ensures none { (block : List ℕ) → JoinWithout block shards.now position
         → IfOk result (λ answer. IsSome answer) }
 {

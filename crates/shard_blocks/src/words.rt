@@ -1,6 +1,7 @@
 //! Bytes as words, and these as bytes.
 
-ghost use Rattle.std.specs.Prelude.{◌≡◌, ◌↔◌, ◌-◌, ◌<◌, ◌++◌, ℕ, List, All, length, replicate, IsTrue, IfOk, IfSome, IsSomeAnd};
+ghost use Rattle.std.specs.Prelude.{◌≡◌, ◌↔◌, ◌-◌, ◌<◌, ◌++◌, ℕ, List, All, length, replicate};
+ghost use Rattle.std.specs.Prelude.{IsTrue, IfOk, IfSome, IsSomeAnd};
 ghost use Rattle.std.specs.Int.{to_le_bytes, w64};
 ghost use Rattle.std.specs.List.{flat_map};
 ghost use Rattle.shard_blocks.specs.BlockWords.{IsBlockOf, words_of_bytes};
@@ -8,7 +9,8 @@ ghost use Rattle.shard_blocks.specs.BlockWords.{IsBlockOf, words_of_bytes};
 use math_base::algebra::Mem;
 use std::alloc::Global;
 
-/// The number of the bytes, and then the bytes, eight a word, the lowest first, with zeros after the last.
+/// The number of the bytes, and then the bytes, eight a word, the lowest first, with zeros after
+/// the last.
 pub(crate) fn words_of(alloc: Global, bytes: &[u8]) -> Mem<Vec<u64>>
     ensures { IfOk result (λ words. words.items ≡ words_of_bytes bytes.now) }
 {
@@ -19,13 +21,13 @@ pub(crate) fn words_of(alloc: Global, bytes: &[u8]) -> Mem<Vec<u64>>
         words.push(u64::from_le_bytes(*eight))?;
     }
     if !rest.is_empty() {
-        words.push(u64::from_le_bytes(filled(rest)))?;
+        words.push(u64::from_le_bytes(padded_to_eight(rest)))?;
     }
     Ok(words)
 }
 
 /// Fewer than eight bytes, and zeros after them.
-fn filled(rest: &[u8]) -> [u8; 8]
+fn padded_to_eight(rest: &[u8]) -> [u8; 8]
     requires { length rest.now < 8 }
     ensures { result ≡ rest.now ++ replicate (8 - length rest.now) 0 }
 {
@@ -36,7 +38,8 @@ fn filled(rest: &[u8]) -> [u8; 8]
 
 /// The bytes of the block whose words these are, where there is one.
 pub(crate) fn bytes_of(alloc: Global, words: &[u64]) -> Mem<Option<Vec<u8>>>
-    ensures some { IfOk result (λ answer. IfSome answer (λ bytes. IsBlockOf words.now bytes.items)) }
+    ensures some { IfOk result
+        (λ answer. IfSome answer (λ bytes. IsBlockOf words.now bytes.items)) }
     ensures found { (block : List ℕ) → IsBlockOf words.now block
         → IfOk result (λ answer. IsSomeAnd answer (λ bytes. bytes.items ≡ block)) }
 {

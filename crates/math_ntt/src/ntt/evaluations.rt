@@ -1,6 +1,23 @@
 //! Values of polynomials at the points of a domain.
 
-ghost use Rattle.std.specs.Prelude.{◌≡◌, ◌↔◌, ◌*◌, ◌<◌, ◌≤◌, ◌^◌, IsTrue, IsOk, IfOk, OnOk, OnErr, Some, length, replicate, slice_get, false};
+ghost use Rattle.std.specs.Prelude.{
+  ◌≡◌,
+  ◌↔◌,
+  ◌*◌,
+  ◌<◌,
+  ◌≤◌,
+  ◌^◌,
+  IsTrue,
+  IsOk,
+  IfOk,
+  OnOk,
+  OnErr,
+  Some,
+  length,
+  replicate,
+  slice_get,
+  false,
+};
 ghost use Rattle.std.specs.Int.{IsPowerOfTwo};
 ghost use Rattle.std.specs.List.{All};
 ghost use Rattle.math_theory.specs.Recovery.{count_true};
@@ -54,9 +71,9 @@ impl<F: Additive> EvaluationVector<F> {
         Ok(EvaluationVector { matrix, filled })
     }
 
-    /// Puts copies of `data` in place of the first cells of a row, which counts as filled from then on.
-    /// The further cells are as they were. Where it is refused, all of them are, and so is what counts
-    /// as filled: each copy is made before the first cell is written.
+    /// Puts copies of `data` in place of the first cells of a row, which counts as filled from then
+    /// on. The further cells are as they were. Where it is refused, all of them are, and so is what
+    /// counts as filled: each copy is made before the first cell is written.
     ///
     /// `row` is below the number of rows, and `data` has no more items than there are columns.
     pub fn fill_row(&mut self, alloc: Global, row: usize, data: &[F]) -> Mem<()>
@@ -76,8 +93,8 @@ impl<F: Additive> EvaluationVector<F> {
 }
 
 impl<F: Drop> EvaluationVector<F> {
-    /// The rows of the matrix as values, of which those are filled whose truth value is `true`. The number
-    /// of rows is a power of two, and there is a truth value for each.
+    /// The rows of the matrix as values, of which those are filled whose truth value is `true`. The
+    /// number of rows is a power of two, and there is a truth value for each.
     pub fn from_parts(matrix: Matrix<F>, filled: VanishingPoints) -> Self
         requires power { IsPowerOfTwo matrix.rows }
         requires count { length filled ≡ matrix.rows }
@@ -120,10 +137,11 @@ impl<F: Drop> EvaluationVector<F> {
 }
 
 impl<F: Object> EvaluationVector<F> {
-    /// Whether both have as many rows, as many columns, in each place the same cell, and the same rows
-    /// are filled. Where calls on cells are never refused, neither is this one.
+    /// Whether both have as many rows, as many columns, in each place the same cell, and the same
+    /// rows are filled. Where calls on cells are never refused, neither is this one.
     pub fn equals(&self, alloc: Global, other: &Self) -> Mem<bool>
-        ensures ok { IfOk result (λ answer. IsTrue answer ↔ AreSameEvaluations F.same self.now other.now) }
+        ensures ok { IfOk result
+            (λ answer. IsTrue answer ↔ AreSameEvaluations F.same self.now other.now) }
         ensures never { IsTrue F.NEVER_REFUSES → IsOk result }
     {
         if self.filled != other.filled {

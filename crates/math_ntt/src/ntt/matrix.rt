@@ -1,10 +1,34 @@
 //! Matrices.
 
-ghost use Rattle.std.specs.Prelude.{◌≡◌, ◌↔◌, ◌+◌, ◌*◌, ◌<◌, ◌≤◌, ◌^◌, List, Some, IsTrue, IsOk, IfOk, length, slice_get};
+ghost use Rattle.std.specs.Prelude.{
+  ◌≡◌,
+  ◌↔◌,
+  ◌+◌,
+  ◌*◌,
+  ◌<◌,
+  ◌≤◌,
+  ◌^◌,
+  List,
+  Some,
+  IsTrue,
+  IsOk,
+  IfOk,
+  length,
+  slice_get,
+};
 ghost use Rattle.std.specs.List.{AllZip};
 ghost use Rattle.std.specs.Iterator.{YieldsFirstRef, item_count};
 ghost use Rattle.math_codec.specs.Iterables.{ItemsMeet};
-ghost use Rattle.math_transforms.specs.Matrices.{rows_of, row_of, IsOfSize, AreSame, IsIterable, GivesAtMost, AreFilledUp, IsProductOf};
+ghost use Rattle.math_transforms.specs.Matrices.{
+  rows_of,
+  row_of,
+  IsOfSize,
+  AreSame,
+  IsIterable,
+  GivesAtMost,
+  AreFilledUp,
+  IsProductOf,
+};
 
 mod encoding;
 mod product;
@@ -40,8 +64,8 @@ impl<F: Drop> Model for Matrix<F> {
 
 impl<F: Additive> Matrix<F> {
     /// The matrix whose cells are the items of `data`, row by row. Where there are fewer items than
-    /// cells, the further cells are zero. No more items than cells are asked for, so `data` need not
-    /// end. The number of cells is below 2^64.
+    /// cells, the further cells are zero. No more items than cells are asked for, so `data` need
+    /// not end. The number of cells is below 2^64.
     pub fn init<P: IntoIterator<Item = F>>(
         alloc: Global,
         rows: usize,
@@ -66,19 +90,20 @@ impl<F: Additive> Matrix<F> {
         Ok(Matrix { rows, cols, cells })
     }
 
-    /// The product: the cell in row i and column k is the sum over j of the cell in row i and column j
-    /// of this matrix times the cell in row j and column k of `other`.
+    /// The product: the cell in row i and column k is the sum over j of the cell in row i and
+    /// column j of this matrix times the cell in row j and column k of `other`.
     ///
-    /// Row i of the product is the sum of the rows of `other`, row j scaled by cell j of row i here. So
-    /// both matrices are read along their rows. This matrix has as many columns as `other` has rows, and the
-    /// number of cells of the product is below 2^64.
+    /// Row i of the product is the sum of the rows of `other`, row j scaled by cell j of row i
+    /// here. So both matrices are read along their rows. This matrix has as many columns as `other`
+    /// has rows, and the number of cells of the product is below 2^64.
     pub fn mul(&self, alloc: Global, other: &Self) -> Mem<Self>
     where
         F: Ring,
         requires shapes { self.now.cols ≡ other.now.rows }
         requires fits { self.now.rows * other.now.cols < 2 ^ 64 }
         ensures size { IfOk result (λ m. IsOfSize m self.now.rows other.now.cols) }
-        ensures cells { IfOk result (λ m. IsProductOf F.same F.zero F.sum F.product self.now other.now m) }
+        ensures cells { IfOk result
+            (λ m. IsProductOf F.same F.zero F.sum F.product self.now other.now m) }
     {
         let mut cells = Vec::new(alloc);
         for i in 0..self.rows {
@@ -186,7 +211,8 @@ impl<F: Drop> IndexMut<(usize, usize)> for Matrix<F> {
     fn index_mut(&mut self, index: (usize, usize)) -> &mut F
         requires { (index.0 < self.old.rows) × (index.1 < self.old.cols) }
         ensures* writes_back { sem 𝓛 (lends_cell F.row self.entry index result) }
-        ensures value { slice_get self.old.cells (index.0 * self.old.cols + index.1) ≡ Some result.now }
+        ensures value { slice_get self.old.cells (index.0 * self.old.cols + index.1)
+            ≡ Some result.now }
     {
         let i = index.0 * self.cols + index.1;
         &mut self.cells[i]
@@ -206,8 +232,8 @@ impl<F: Object> Matrix<F> {
         })
     }
 
-    /// Whether both have as many rows, as many columns, and in each place the same cell. Where calls
-    /// on cells are never refused, neither is this one.
+    /// Whether both have as many rows, as many columns, and in each place the same cell. Where
+    /// calls on cells are never refused, neither is this one.
     pub fn equals(&self, alloc: Global, other: &Self) -> Mem<bool>
         ensures ok { IfOk result (λ answer. IsTrue answer ↔ AreSame F.same self.now other.now) }
         ensures never { IsTrue F.NEVER_REFUSES → IsOk result }

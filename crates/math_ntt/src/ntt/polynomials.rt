@@ -1,6 +1,26 @@
 //! Vectors of polynomials.
 
-ghost use Rattle.std.specs.Prelude.{◌≡◌, ◌↔◌, ◌+◌, ◌*◌, ◌<◌, ◌≤◌, ◌^◌, ℕ, true, IsTrue, IsOk, IsSome, IfOk, IfSome, OnOk, length, min, replicate, take};
+ghost use Rattle.std.specs.Prelude.{
+  ◌≡◌,
+  ◌↔◌,
+  ◌+◌,
+  ◌*◌,
+  ◌<◌,
+  ◌≤◌,
+  ◌^◌,
+  ℕ,
+  true,
+  IsTrue,
+  IsOk,
+  IsSome,
+  IfOk,
+  IfSome,
+  OnOk,
+  length,
+  min,
+  replicate,
+  take,
+};
 ghost use Rattle.std.specs.Int.{IsNextPowerOfTwo, IsPowerOfTwo};
 ghost use Rattle.std.specs.Iterator.{YieldsFirstRef, item_count};
 ghost use Rattle.math_transforms.specs.CountedWork.{AddsAtMost};
@@ -38,9 +58,10 @@ impl<F: Drop> Model for PolynomialVector<F> {
 }
 
 impl<F: Additive> Matrix<F> {
-    /// The polynomials whose coefficients are the columns of this matrix, from the constant upwards,
-    /// filled up with zeros to N rows, where N is the least power of two that is `min_coefficients` or
-    /// more. Where `min_coefficients` is 0, or less than the number of rows, it is `None`.
+    /// The polynomials whose coefficients are the columns of this matrix, from the constant
+    /// upwards, filled up with zeros to N rows, where N is the least power of two that is
+    /// `min_coefficients` or more. Where `min_coefficients` is 0, or less than the number of rows,
+    /// it is `None`.
     ///
     /// Where it is `Some`, N and N times the number of columns have to be below 2^64.
     pub fn as_polynomials(
@@ -50,8 +71,10 @@ impl<F: Additive> Matrix<F> {
     ) -> Mem<Option<PolynomialVector<F>>>
         requires fits { AreEnough self.now min_coefficients → FitsPadded self.now min_coefficients }
         ensures some { IfOk result (λ answer. IsSome answer ↔ AreEnough self.now min_coefficients) }
-        ensures rows { IfOk result (λ answer. IfSome answer (λ v. IsNextPowerOfTwo min_coefficients v.rows)) }
-        ensures size { IfOk result (λ answer. IfSome answer (λ v. IsOfSize v v.rows self.now.cols)) }
+        ensures rows { IfOk result
+            (λ answer. IfSome answer (λ v. IsNextPowerOfTwo min_coefficients v.rows)) }
+        ensures size { IfOk result
+            (λ answer. IfSome answer (λ v. IsOfSize v v.rows self.now.cols)) }
         ensures polynomials { IfOk result (λ answer.
             IfSome answer (λ v. HaveSamePolynomials F.same F.zero v self.now)) }
     {
@@ -70,8 +93,8 @@ impl<F: Additive> Matrix<F> {
 }
 
 impl<F: Drop> PolynomialVector<F> {
-    /// The polynomials whose coefficients are the columns of the matrix, from the constant upwards. The
-    /// number of rows is a power of two.
+    /// The polynomials whose coefficients are the columns of the matrix, from the constant upwards.
+    /// The number of rows is a power of two.
     pub fn from_matrix(coefficients: Matrix<F>) -> Self
         requires { IsPowerOfTwo coefficients.rows }
         ensures { result ≡ coefficients }
@@ -114,8 +137,8 @@ impl<F: Object> PolynomialVector<F> {
         Ok(PolynomialVector { coefficients })
     }
 
-    /// Whether both have as many polynomials, as many coefficients of each, and in each place the same
-    /// coefficient. Where calls on coefficients are never refused, neither is this one.
+    /// Whether both have as many polynomials, as many coefficients of each, and in each place the
+    /// same coefficient. Where calls on coefficients are never refused, neither is this one.
     pub fn equals(&self, alloc: Global, other: &Self) -> Mem<bool>
         ensures ok { IfOk result (λ answer. IsTrue answer ↔ AreSame F.same self.now other.now) }
         ensures never { IsTrue F.NEVER_REFUSES → IsOk result }
@@ -125,11 +148,12 @@ impl<F: Object> PolynomialVector<F> {
 }
 
 impl<F: FieldNTT> PolynomialVector<F> {
-    /// The values of the polynomials at the powers of the root of order N, where N is the number of rows:
-    /// in each column cell j is the value of that column's polynomial at power j. All rows are filled.
+    /// The values of the polynomials at the powers of the root of order N, where N is the number of
+    /// rows: in each column cell j is the value of that column's polynomial at power j. All rows
+    /// are filled.
     ///
-    /// lg N is at most `F::MAX_LG_ROOT_ORDER`. Takes memory for a table of N elements and for a bitmap
-    /// of N bits; the values stand where the coefficients stood.
+    /// lg N is at most `F::MAX_LG_ROOT_ORDER`. Takes memory for a table of N elements and for a
+    /// bitmap of N bits; the values stand where the coefficients stood.
     pub fn evaluate(self, alloc: Global) -> Mem<EvaluationVector<F>>
         requires domain { HasDomain F.MAX_LG_ROOT_ORDER self.rows }
         ensures size { IfOk result (λ v. IsOfSize v.matrix self.rows self.cols) }
@@ -141,8 +165,8 @@ impl<F: FieldNTT> PolynomialVector<F> {
         Ok(out)
     }
 
-    /// As `evaluate`, and adds the work that was done: with c columns c N lg N / 2 butterflies, or at most
-    /// so many where it is refused, and no root product.
+    /// As `evaluate`, and adds the work that was done: with c columns c N lg N / 2 butterflies, or
+    /// at most so many where it is refused, and no root product.
     ///
     /// At entry `work` has at most 2^127 butterflies.
     pub fn evaluate_counted(self, alloc: Global, work: &mut Work) -> Mem<EvaluationVector<F>>
@@ -153,7 +177,8 @@ impl<F: FieldNTT> PolynomialVector<F> {
         ensures filled { IfOk result (λ v. v.filled ≡ replicate self.rows true) }
         ensures counted { OnOk result ((lg : ℕ) → self.rows ≡ 2 ^ lg
             → 2 * work.new.butterflies ≡ 2 * work.old.butterflies + self.cols * self.rows * lg) }
-        ensures bounded { (lg : ℕ) → self.rows ≡ 2 ^ lg → AddsAtMost (self.cols * self.rows * lg) work.old work.new }
+        ensures bounded { (lg : ℕ) → self.rows ≡ 2 ^ lg
+            → AddsAtMost (self.cols * self.rows * lg) work.old work.new }
     {
         let mut matrix = self.coefficients;
         let cols = matrix.cols;

@@ -1,17 +1,17 @@
 //! Recovery of polynomials from some of the rows of their values.
 //!
-//! Let the domain have N points, and let V be a polynomial that vanishes at exactly the points of the
-//! missing rows. Let f be the polynomial that fits the filled cells of a column: its coefficients from
-//! the number of filled rows on are zero, so that f V has at most N coefficients. On the domain the
-//! values of f V are the cells times the values of V, whatever the missing cells hold, since V is zero
-//! there. So f V is had by interpolation. On the domain it can't be divided by V, but on the coset of
-//! the domain by the shift V has no zero: there f V and V are evaluated, the quotients are values of f,
-//! and these are interpolated. Multiplying coefficient i by power i of the shift moves a polynomial to
-//! the coset, and by power i of its inverse back. `move_rows` does this step and the transforms before and
-//! after it.
+//! Let the domain have N points, and let V be a polynomial that vanishes at exactly the points of
+//! the missing rows. Let f be the polynomial that fits the filled cells of a column: its
+//! coefficients from the number of filled rows on are zero, so that f V has at most N coefficients.
+//! On the domain the values of f V are the cells times the values of V, whatever the missing cells
+//! hold, since V is zero there. So f V is had by interpolation. On the domain it can't be divided
+//! by V, but on the coset of the domain by the shift V has no zero: there f V and V are evaluated,
+//! the quotients are values of f, and these are interpolated. Multiplying coefficient i by power i
+//! of the shift moves a polynomial to the coset, and by power i of its inverse back. `move_rows`
+//! does this step and the transforms before and after it.
 //!
-//! One inversion serves all divisions. With no row filled the answer is zero, and with all it is what
-//! has the cells as its values: then there is no polynomial that vanishes, and each is one
+//! One inversion serves all divisions. With no row filled the answer is zero, and with all it is
+//! what has the cells as its values: then there is no polynomial that vanishes, and each is one
 //! interpolation.
 
 ghost use Rattle.std.specs.Prelude.{◌≡◌, ◌+◌, ◌*◌, ◌<◌, ◌≤◌, ◌^◌, ℕ, IfOk, OnOk, length};
@@ -19,10 +19,21 @@ ghost use Rattle.std.specs.List.{All};
 ghost use Rattle.math_theory.specs.Recovery.{count_true};
 ghost use Rattle.math_transforms.specs.CosetValues.{AreMovedValues};
 ghost use Rattle.math_transforms.specs.CountedWork.{AddsAtMost, AddsWithin};
-ghost use Rattle.math_transforms.specs.DomainValues.{matrix_of, AreValuesAtPowers, ArePowersByLevel, HasDomain};
+ghost use Rattle.math_transforms.specs.DomainValues.{
+  matrix_of,
+  AreValuesAtPowers,
+  ArePowersByLevel,
+  HasDomain,
+};
 ghost use Rattle.math_transforms.specs.Matrices.{IsOfSize};
 ghost use Rattle.math_transforms.specs.MissingPoints.{count_false};
-ghost use Rattle.math_ntt.specs.RecoveredRows.{AreDivided, AreQuotientsOfValues, AreRecovered, AreOnlyRecovered, IsExactWork};
+ghost use Rattle.math_ntt.specs.RecoveredRows.{
+  AreDivided,
+  AreQuotientsOfValues,
+  AreRecovered,
+  AreOnlyRecovered,
+  IsExactWork,
+};
 
 use super::evaluations::EvaluationVector;
 use super::matrix::Matrix;
@@ -41,9 +52,9 @@ use math_transforms::work::Work;
 use std::alloc::Global;
 
 impl<F: FieldNTT> EvaluationVector<F> {
-    /// In each column the polynomial with N coefficients, N being the number of rows, that has the cells
-    /// of the filled rows as its values, and whose coefficients from the number of filled rows on are
-    /// zero. It is the only one.
+    /// In each column the polynomial with N coefficients, N being the number of rows, that has the
+    /// cells of the filled rows as its values, and whose coefficients from the number of filled
+    /// rows on are zero. It is the only one.
     ///
     /// lg N is at most `F::MAX_LG_ROOT_ORDER`. Takes memory for about five columns of cells: the
     /// coefficients stand where the cells stood.
@@ -61,10 +72,10 @@ impl<F: FieldNTT> EvaluationVector<F> {
     /// As `recover`, and adds the work that was done.
     ///
     /// At entry `work` has at most 2^127 butterflies and at most 2^127 root products. Whatever the
-    /// outcome, at most N lg N (3 lg N + 3 c + 2) / 2 butterflies and 128 N root products are added, c
-    /// being the number of columns. Where no row or all rows are filled, c N lg N / 2 butterflies are,
-    /// and no root product. Where v rows are missing, some and not all, and lg N is at most 8, N lg N (3
-    /// c + 3) / 2 butterflies are, and v (v + 1) / 2 root products.
+    /// outcome, at most N lg N (3 lg N + 3 c + 2) / 2 butterflies and 128 N root products are
+    /// added, c being the number of columns. Where no row or all rows are filled, c N lg N / 2
+    /// butterflies are, and no root product. Where v rows are missing, some and not all, and lg N
+    /// is at most 8, N lg N (3 c + 3) / 2 butterflies are, and v (v + 1) / 2 root products.
     pub fn recover_counted(self, alloc: Global, work: &mut Work) -> Mem<PolynomialVector<F>>
         requires domain { HasDomain F.MAX_LG_ROOT_ORDER self.matrix.rows }
         requires room { work.old.butterflies ≤ 2 ^ 127 }
@@ -73,7 +84,8 @@ impl<F: FieldNTT> EvaluationVector<F> {
         ensures fits { IfOk result (λ v. AreRecovered F.Ring F.root self v) }
         ensures only { IfOk result (λ v. AreOnlyRecovered F.Ring F.root self v) }
         ensures most { (lg : ℕ) → self.matrix.rows ≡ 2 ^ lg
-            → AddsWithin (self.matrix.rows * lg * (3 * lg + 3 * self.matrix.cols + 2)) (128 * self.matrix.rows)
+            → AddsWithin (self.matrix.rows * lg * (3 * lg + 3 * self.matrix.cols + 2))
+            (128 * self.matrix.rows)
             work.old work.new }
         ensures exact { IfOk result (λ _. (lg : ℕ) → self.matrix.rows ≡ 2 ^ lg
             → IsExactWork lg self work.old work.new) }
@@ -114,9 +126,11 @@ fn recovered_cells<F: FieldNTT>(
     ensures fits { OnOk result (AreRecovered F.Ring F.root
         (record { matrix = matrix_of (2 ^ lg) cols cells.old; filled = points.now })
         (matrix_of (2 ^ lg) cols cells.new)) }
-    ensures most { AddsWithin (2 ^ lg * lg * (3 * lg + 3 * cols + 2)) (128 * 2 ^ lg) work.old work.new }
+    ensures most { AddsWithin (2 ^ lg * lg * (3 * lg + 3 * cols + 2))
+        (128 * 2 ^ lg) work.old work.new }
     ensures exact { OnOk result (IsExactWork lg
-        (record { matrix = matrix_of (2 ^ lg) cols cells.old; filled = points.now }) work.old work.new) }
+        (record { matrix = matrix_of (2 ^ lg) cols cells.old; filled = points.now }) work.old
+        work.new) }
 {
     let filled = points.count_non_vanishing() as usize;
     if filled == 0 {
@@ -156,9 +170,11 @@ fn interpolated<F: FieldNTT>(
     requires size { length cells.old ≡ 2 ^ lg * cols }
     requires room { 2 * work.old.butterflies + cols * 2 ^ lg * lg < 2 ^ 129 }
     ensures size { length cells.new ≡ length cells.old }
-    ensures values { OnOk result (AreValuesAtPowers F.Ring (F.root lg) (matrix_of (2 ^ lg) cols cells.new)
+    ensures values { OnOk result
+        (AreValuesAtPowers F.Ring (F.root lg) (matrix_of (2 ^ lg) cols cells.new)
         (matrix_of (2 ^ lg) cols cells.old)) }
-    ensures counted { OnOk result (2 * work.new.butterflies ≡ 2 * work.old.butterflies + cols * 2 ^ lg * lg) }
+    ensures counted { OnOk result
+        (2 * work.new.butterflies ≡ 2 * work.old.butterflies + cols * 2 ^ lg * lg) }
     ensures bounded { AddsAtMost (cols * 2 ^ lg * lg) work.old work.new }
 {
     let table = interpolation_table(alloc, lg)?;
@@ -182,11 +198,13 @@ fn moved_to_coset<F: FieldNTT>(
     requires size { length cells.old ≡ 2 ^ lg * cols }
     requires vanishing_size { length vanishing.old ≡ 2 ^ lg }
     requires evaluation { ArePowersByLevel F.Ring F.root lg evaluation.now }
-    requires interpolation { ArePowersByLevel F.Ring (λ l. F.inverse (F.root l)) lg interpolation.now }
+    requires interpolation { ArePowersByLevel F.Ring
+        (λ l. F.inverse (F.root l)) lg interpolation.now }
     requires room { 2 * work.old.butterflies + (cols + cols + 2) * 2 ^ lg * lg < 2 ^ 129 }
     ensures size { length cells.new ≡ length cells.old }
     ensures vanishing_size { length vanishing.new ≡ length vanishing.old }
-    ensures cells { OnOk result (AreMovedValues F.Ring (F.root lg) F.shift (2 ^ lg) cols cells.old cells.new) }
+    ensures cells { OnOk result
+        (AreMovedValues F.Ring (F.root lg) F.shift (2 ^ lg) cols cells.old cells.new) }
     ensures vanishing { OnOk result (AreMovedValues F.Ring (F.root lg) F.shift (2 ^ lg) 1
         vanishing.old vanishing.new) }
     ensures counted { OnOk result (2 * work.new.butterflies
@@ -217,8 +235,9 @@ fn moved_to_coset<F: FieldNTT>(
     Ok(())
 }
 
-/// The coefficients of the quotients in each column, from the values of the dividends and of the divisor on
-/// the coset. The values of the quotients are also divided by 2^lg, since the way back multiplies by it.
+/// The coefficients of the quotients in each column, from the values of the dividends and of the
+/// divisor on the coset. The values of the quotients are also divided by 2^lg, since the way back
+/// multiplies by it.
 fn quotients_from_coset<F: FieldNTT>(
     alloc: Global,
     cells: &mut [F],
@@ -232,12 +251,14 @@ fn quotients_from_coset<F: FieldNTT>(
     requires small { lg < 64 }
     requires size { length cells.old ≡ 2 ^ lg * cols }
     requires divisors { length divisors.now ≡ 2 ^ lg }
-    requires interpolation { ArePowersByLevel F.Ring (λ l. F.inverse (F.root l)) lg interpolation.now }
+    requires interpolation { ArePowersByLevel F.Ring
+        (λ l. F.inverse (F.root l)) lg interpolation.now }
     requires room { 2 * work.old.butterflies + cols * 2 ^ lg * lg < 2 ^ 129 }
     ensures size { length cells.new ≡ length cells.old }
     ensures quotients { OnOk result (AreQuotientsOfValues F.Ring (F.root lg) F.shift (2 ^ lg) cols
         cells.old divisors.now cells.new) }
-    ensures counted { OnOk result (2 * work.new.butterflies ≡ 2 * work.old.butterflies + cols * 2 ^ lg * lg) }
+    ensures counted { OnOk result
+        (2 * work.new.butterflies ≡ 2 * work.old.butterflies + cols * 2 ^ lg * lg) }
     ensures bounded { AddsAtMost (cols * 2 ^ lg * lg) work.old work.new }
 {
     let numerator = size_inverse(alloc, lg)?;
@@ -249,8 +270,8 @@ fn quotients_from_coset<F: FieldNTT>(
     Ok(())
 }
 
-/// The coefficients in each column of f V divided by V: the values of f V on the domain are the cells times
-/// those of V, both are moved to the coset, and there divided.
+/// The coefficients in each column of f V divided by V: the values of f V on the domain are the
+/// cells times those of V, both are moved to the coset, and there divided.
 fn divided<F: FieldNTT>(
     alloc: Global,
     cells: &mut [F],
@@ -266,7 +287,8 @@ fn divided<F: FieldNTT>(
     requires size { length cells.old ≡ 2 ^ lg * cols }
     requires vanishing_size { length vanishing.old ≡ 2 ^ lg }
     requires evaluation { ArePowersByLevel F.Ring F.root lg evaluation.now }
-    requires interpolation { ArePowersByLevel F.Ring (λ l. F.inverse (F.root l)) lg interpolation.now }
+    requires interpolation { ArePowersByLevel F.Ring
+        (λ l. F.inverse (F.root l)) lg interpolation.now }
     requires room { 2 * work.old.butterflies + (3 * cols + 3) * 2 ^ lg * lg < 2 ^ 129 }
     ensures size { length cells.new ≡ length cells.old }
     ensures divided { OnOk result (AreDivided F.Ring (F.root lg) F.shift (2 ^ lg) cols
@@ -312,7 +334,8 @@ fn recovered<F: FieldNTT>(
     ensures fits { OnOk result (AreRecovered F.Ring F.root
         (record { matrix = matrix_of (2 ^ lg) cols cells.old; filled = points.now })
         (matrix_of (2 ^ lg) cols cells.new)) }
-    ensures most { AddsWithin (2 ^ lg * lg * (3 * lg + 3 * cols + 2)) (128 * 2 ^ lg) work.old work.new }
+    ensures most { AddsWithin (2 ^ lg * lg * (3 * lg + 3 * cols + 2))
+        (128 * 2 ^ lg) work.old work.new }
     ensures butterflies { OnOk result (lg ≤ 8 → 2 * work.new.butterflies
         ≡ 2 * work.old.butterflies + 2 ^ lg * lg * (3 * cols + 3)) }
     ensures root_products { OnOk result (lg ≤ 8 → 2 * work.new.root_products

@@ -1,11 +1,13 @@
 //! Shards as bytes.
 //!
-//! A shard is its index, its `min` and its `total`, each as a length, and then the list of its cells: the
-//! shard 0 of 4, of which any 3 give the data back, with the one cell 3 is `00 03 04 01` and a word. What
-//! is read may be a shard of no data: the reader judges the number of cells, and none of the three numbers.
+//! A shard is its index, its `min` and its `total`, each as a length, and then the list of its
+//! cells: the shard 0 of 4, of which any 3 give the data back, with the one cell 3 is `00 03 04 01`
+//! and a word. What is read may be a shard of no data: the reader judges the number of cells, and
+//! none of the three numbers.
 
 ghost use Rattle.std.specs.Prelude.{◌≡◌, ◌<◌, ◌^◌, ◌++◌, length, take, OnOk};
-ghost use Rattle.math_shards.specs.ShardEncoding.{shard_spelling, AreSameShards, AdmitsShard, scan_shard, ShardGrows};
+ghost use Rattle.math_shards.specs.ShardEncoding.{shard_spelling, AreSameShards, AdmitsShard};
+ghost use Rattle.math_shards.specs.ShardEncoding.{scan_shard, ShardGrows};
 ghost use Rattle.math_shards.specs.ShardEncodingLaws.{shard_again, shard_apart};
 
 use super::Shard;
@@ -34,8 +36,8 @@ impl Read for Shard {
 
     /// Reads the index, `min`, `total`, and the list of the cells.
     ///
-    /// It refuses with the faults of each in this order, `InvalidLength` where there are more cells than
-    /// the greatest number among them. Any three numbers are read.
+    /// It refuses with the faults of each in this order, `InvalidLength` where there are more cells
+    /// than the greatest number among them. Any three numbers are read.
     #[tactic(auto, unfolding(crate::specs::ShardEncoding::scan_shard))]
     fn read_cfg(alloc: Global, input: &mut &[u8], cfg: &u32) -> Result<Shard, Error> {
         let mut rest = *input;
@@ -66,14 +68,14 @@ fn write_parts(alloc: Global, shard: &Shard, out: &mut Vec<u8>) -> Mem<()>
     write_len(alloc, shard.index, out)?;
     write_len(alloc, shard.min, out)?;
     write_len(alloc, shard.total, out)?;
-    write_list(alloc, &shard.cells, out)?;
-    Ok(())
+    write_list(alloc, &shard.cells, out)
 }
 
 impl Write for Shard {
     ghost fits = { λ s. length s.cells.items < 2 ^ 32 };
 
-    /// Writes the index, `min`, `total`, and the list of the cells, whose number has to be below 2^32.
+    /// Writes the index, `min`, `total`, and the list of the cells, whose number has to be below
+    /// 2^32.
     fn write(&self, alloc: Global, out: &mut Vec<u8>) -> Mem<()> {
         let start = out.len();
         let written = write_parts(alloc, self, out);

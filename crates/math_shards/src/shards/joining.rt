@@ -1,6 +1,8 @@
 //! Shards to data.
 
-ghost use Rattle.std.specs.Prelude.{◌≡◌, ◌↔◌, ◌+◌, ◌*◌, ◌<◌, ◌≤◌, ◌^◌, ◌++◌, ℕ, List, All, length, take, IsTrue, IsSome, IfOk, IfErr, IfSome, OnOk, MatchResult, ◌⊎◌};
+ghost use Rattle.std.specs.Prelude.{◌≡◌, ◌↔◌, ◌+◌, ◌*◌, ◌<◌, ◌≤◌, ◌^◌, ◌++◌, ℕ, List, All, length};
+ghost use Rattle.std.specs.Prelude.{take, IsTrue, IsSome, IfOk, IfErr, IfSome, OnOk, MatchResult};
+ghost use Rattle.std.specs.Prelude.{◌⊎◌};
 ghost use Rattle.std.specs.Int.{IsNextPowerOfTwo, IsPowerOfTwo};
 ghost use Rattle.std.specs.List.{AllZip};
 ghost use Rattle.math_base.specs.Elements.{same};
@@ -8,8 +10,11 @@ ghost use Rattle.math_base.specs.Packing.{words_of};
 ghost use Rattle.math_ntt.specs.Evaluations.{IsFilledAt};
 ghost use Rattle.math_transforms.specs.Matrices.{IsOfSize};
 ghost use Rattle.math_shards.specs.Shards.{counted, JoinTo};
-ghost use Rattle.math_shards.specs.Joining.{ArePolynomialsOf, HoldsIfFilled, HoldsOthers, HoldsShards, IsDue, IsDueBeside, IsMemory, IsSound, Matches, RefusesExactly};
-ghost use Rattle.math_shards.specs.declared.shards.Error.TheVariants.{TooFew, Mismatch, Index, Conflict, Inconsistent};
+ghost use Rattle.math_shards.specs.Joining.{ArePolynomialsOf, HoldsIfFilled, HoldsOthers};
+ghost use Rattle.math_shards.specs.Joining.{HoldsShards, IsDue, IsDueBeside, IsMemory, IsSound};
+ghost use Rattle.math_shards.specs.Joining.{Matches, RefusesExactly};
+ghost use Rattle.math_shards.specs.declared.shards.Error.TheVariants.{TooFew, Mismatch, Index};
+ghost use Rattle.math_shards.specs.declared.shards.Error.TheVariants.{Conflict, Inconsistent};
 
 use super::layout::{laid_out, polynomials};
 use super::{Error, Shard};
@@ -18,19 +23,19 @@ use math_base::fields::goldilocks::F;
 use math_ntt::ntt::{EvaluationVector, PolynomialVector};
 use std::alloc::{AllocError, Global};
 
-/// The data of which each of the shards is one. There are no others, and a shard that is handed in twice
-/// counts once.
+/// The data of which each of the shards is one. There are no others, and a shard that is handed in
+/// twice counts once.
 ///
-/// It refuses, in this order: no shard at all with `TooFew`; the first shard, as they are handed in, whose
-/// `min`, `total` or number of cells is not that of the first one, or not 1 <= `min` <= `total`, with
-/// `Mismatch`, and the first whose index is `total` or more with `Index`; unequal cells of one index with
-/// `Conflict`; fewer distinct indices than `min` with `TooFew`; and shards that are those of no data with
-/// `Inconsistent`. Where more than `min` shards are there, damage to one is so found, and where just `min`
-/// are there it is not.
+/// It refuses, in this order: no shard at all with `TooFew`; the first shard, as they are handed
+/// in, whose `min`, `total` or number of cells is not that of the first one, or not 1 <= `min` <=
+/// `total`, with `Mismatch`, and the first whose index is `total` or more with `Index`; unequal
+/// cells of one index with `Conflict`; fewer distinct indices than `min` with `TooFew`; and shards
+/// that are those of no data with `Inconsistent`. Where more than `min` shards are there, damage to
+/// one is so found, and where just `min` are there it is not.
 ///
-/// Takes memory for a few times N rows of as many cells as a shard has, where N is `total` rounded up to a
-/// power of two: who takes shards from strangers bounds `total` first. Nothing is allocated by a number
-/// that a shard claims of its data before the cells bear it out.
+/// Takes memory for a few times N rows of as many cells as a shard has, where N is `total` rounded
+/// up to a power of two: who takes shards from strangers bounds `total` first. Nothing is allocated
+/// by a number that a shard claims of its data before the cells bear it out.
 pub fn join(alloc: Global, shards: &[Shard]) -> Result<Vec<u64>, Error>
     ensures ok { IfOk result (λ words. JoinTo words.items shards.now) }
     ensures found { (words : List ℕ) → JoinTo words shards.now
@@ -41,11 +46,11 @@ pub fn join(alloc: Global, shards: &[Shard]) -> Result<Vec<u64>, Error>
     ensures conflict { RefusesExactly result shards.now Conflict }
     ensures inconsistent { RefusesExactly result shards.now Inconsistent }
 {
-    joined(alloc, shards)
+    recovered_data(alloc, shards)
 }
 
-/// What `join` answers.
-fn joined(alloc: Global, shards: &[Shard]) -> Result<Vec<u64>, Error>
+/// The data of the shards, or what is wrong with them.
+fn recovered_data(alloc: Global, shards: &[Shard]) -> Result<Vec<u64>, Error>
     ensures ok { IfOk result (λ words. JoinTo words.items shards.now) }
     ensures err { IfErr result (IsDue shards.now) }
 {
@@ -67,7 +72,8 @@ fn joined(alloc: Global, shards: &[Shard]) -> Result<Vec<u64>, Error>
     Ok(data)
 }
 
-/// Whether the numbers and the number of cells are those of the first shard, and such as shards have.
+/// Whether the numbers and the number of cells are those of the first shard, and such as shards
+/// have.
 fn matches(first: &Shard, shard: &Shard) -> bool
     ensures { IsTrue result ↔ Matches first.now shard.now }
 {
@@ -131,18 +137,20 @@ fn gathered(alloc: Global, shards: &[Shard], first: &Shard) -> Result<Evaluation
     }
     let mut values = EvaluationVector::empty(alloc, lg_of(points), cols)?;
     for shard in shards {
-        fill(alloc, &mut values, shard)?;
+        fill_row_of(alloc, &mut values, shard)?;
     }
     Ok(values)
 }
 
 /// Fills the row of the shard's index with its cells, unless it is filled with other ones.
-fn fill(alloc: Global, values: &mut EvaluationVector<F>, shard: &Shard) -> Result<(), Error>
+fn fill_row_of(alloc: Global, values: &mut EvaluationVector<F>, shard: &Shard) -> Result<(), Error>
     requires row { shard.now.index < values.old.matrix.rows }
     requires cells { length shard.now.cells.items ≡ values.old.matrix.cols }
-    ensures ok { OnOk result (IsFilledAt same values.old shard.now.index shard.now.cells.items values.new) }
+    ensures ok { OnOk result
+        (IsFilledAt same values.old shard.now.index shard.now.cells.items values.new) }
     ensures equal { OnOk result (HoldsIfFilled values.old shard.now) }
-    ensures err { IfErr result (λ e. IsMemory e ⊎ ((e ≡ Conflict) × HoldsOthers values.old shard.now)) }
+    ensures err { IfErr result
+        (λ e. IsMemory e ⊎ ((e ≡ Conflict) × HoldsOthers values.old shard.now)) }
 {
     let row = shard.index as usize;
     if values.is_filled(row) && !are_equal(values.row(row), &shard.cells) {
@@ -155,7 +163,8 @@ fn fill(alloc: Global, values: &mut EvaluationVector<F>, shard: &Shard) -> Resul
 /// The words that the first `min` rows of coefficients unpack to.
 fn words_in(alloc: Global, recovered: &PolynomialVector<F>, min: u32) -> Mem<Vec<u64>>
     requires { min ≤ recovered.now.rows }
-    ensures { IfOk result (λ words. words.items ≡ words_of (take (min * recovered.now.cols) recovered.now.cells)) }
+    ensures { IfOk result
+        (λ words. words.items ≡ words_of (take (min * recovered.now.cols) recovered.now.cells)) }
 {
     let mut elements = Vec::new(alloc);
     for row in recovered.coefficients_up_to(min as usize) {
@@ -166,11 +175,12 @@ fn words_in(alloc: Global, recovered: &PolynomialVector<F>, min: u32) -> Mem<Vec
     Ok(words)
 }
 
-/// The data that the first `min` rows of coefficients begin with, where so many words follow as the first
-/// one says.
+/// The data that the first `min` rows of coefficients begin with, where so many words follow as the
+/// first one says.
 fn data_in(alloc: Global, recovered: &PolynomialVector<F>, min: u32) -> Mem<Option<Vec<u64>>>
     requires { min ≤ recovered.now.rows }
-    ensures each_word { IfOk result (λ answer. IfSome answer (λ found. All (λ word. word < 2 ^ 64) found.items)) }
+    ensures each_word { IfOk result
+        (λ answer. IfSome answer (λ found. All (λ word. word < 2 ^ 64) found.items)) }
     ensures data { (words rest : List ℕ)
         → words_of (take (min * recovered.now.cols) recovered.now.cells) ≡ counted words ++ rest
         → IfOk result (λ answer. IsSome answer × IfSome answer (λ found. found.items ≡ words)) }
@@ -193,7 +203,8 @@ fn are_of(alloc: Global, recovered: &PolynomialVector<F>, data: &[u64], first: &
     requires within { first.now.min ≤ first.now.total }
     requires size { IsOfSize recovered.now recovered.now.rows (length first.now.cells.items) }
     requires rows { IsNextPowerOfTwo first.now.total recovered.now.rows }
-    ensures { IfOk result (λ answer. IsTrue answer ↔ ArePolynomialsOf «data».now first.now.min recovered.now) }
+    ensures { IfOk result
+        (λ answer. IsTrue answer ↔ ArePolynomialsOf «data».now first.now.min recovered.now) }
 {
     let rows = laid_out(alloc, data, first.min)?;
     if rows.cols() != first.cells.len() {

@@ -38,8 +38,8 @@ pub(super) fn laid_out(alloc: Global, data: &[u64], min: u32) -> Mem<Matrix<F>>
     Ok(matrix)
 }
 
-/// The columns of the rows as polynomials of N coefficients, where N is the least power of two that is
-/// `total` or more.
+/// The columns of the rows as polynomials of N coefficients, where N is the least power of two that
+/// is `total` or more.
 pub(super) fn polynomials(alloc: Global, rows: &Matrix<F>, total: u32) -> Mem<PolynomialVector<F>>
     requires some { 1 ≤ total }
     requires within { rows.now.rows ≤ total }

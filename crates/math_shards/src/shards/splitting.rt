@@ -9,13 +9,13 @@ use math_base::algebra::Mem;
 use math_base::fields::goldilocks::F;
 use std::alloc::Global;
 
-/// The shards of the data, one for each index below `total`, in the order of the indices. Any `min` of
-/// them give the data back.
+/// The shards of the data, one for each index below `total`, in the order of the indices. Any `min`
+/// of them give the data back.
 ///
-/// `min` is at least 1, and at most `total`. A shard has as many cells as the number of elements that the
-/// data and their count pack to, divided by `min` and rounded up. Takes memory for N rows of so many cells
-/// beside the shards, where N is `total` rounded up to a power of two; where a size is past what a `usize`
-/// can say, it refuses as if memory had run out.
+/// `min` is at least 1, and at most `total`. A shard has as many cells as the number of elements
+/// that the data and their count pack to, divided by `min` and rounded up. Takes memory for N rows
+/// of so many cells beside the shards, where N is `total` rounded up to a power of two; where a
+/// size is past what a `usize` can say, it refuses as if memory had run out.
 pub fn split(alloc: Global, data: &[u64], min: u32, total: u32) -> Mem<Vec<Shard>>
     requires some { 1 ≤ min }
     requires within { min ≤ total }

@@ -29,7 +29,8 @@ pub(super) fn present_points<P: IntoIterator<Item = u32> + Drop>(
 ) -> Mem<VanishingPoints>
 where
     P::IntoIter: Drop,
-    requires finite { IsFiniteIterable P.into_iter_gives P.IntoIter.can_next P.IntoIter.remaining indices }
+    requires finite { IsFiniteIterable P.into_iter_gives P.IntoIter.can_next P.IntoIter.remaining
+        indices }
     requires small { lg < 64 }
     requires covers { total ≤ 2 ^ lg }
     ensures size { IfOk result (λ points. length points ≡ 2 ^ lg) }

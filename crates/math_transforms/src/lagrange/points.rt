@@ -36,7 +36,8 @@ pub(super) fn gathered<F: Additive>(alloc: Global, items: &[F], places: &[u32]) 
     requires { All (λ place. place < length items.now) places.now }
     ensures count { IfOk result (λ v. length v.items ≡ length places.now) }
     ensures items { IfOk result (λ v. (k : ℕ) → k < length places.now
-        → F.same (slice_index_or v.items k F.zero) (slice_index_or items.now (slice_index_or places.now k 0) F.zero)) }
+        → F.same (slice_index_or v.items k F.zero)
+        (slice_index_or items.now (slice_index_or places.now k 0) F.zero)) }
 {
     let mut out = Vec::new(alloc);
     for place in places {
@@ -67,7 +68,8 @@ pub(super) fn differences<F: Ring>(alloc: Global, factor: &F, x: &F, points: &[F
 pub(super) fn scaled<F: Ring>(alloc: Global, items: Vec<F>, factor: &F) -> Mem<Vec<F>>
     ensures count { IfOk result (λ v. length v.items ≡ length items.items) }
     ensures each { IfOk result (λ v. (k : ℕ) → k < length items.items
-        → F.same (slice_index_or v.items k F.zero) (F.product (slice_index_or items.items k F.zero) factor.now)) }
+        → F.same (slice_index_or v.items k F.zero)
+        (F.product (slice_index_or items.items k F.zero) factor.now)) }
 {
     let mut out = items;
     multiply_row(alloc, &mut out, factor)?;
@@ -100,7 +102,8 @@ pub(super) fn size<F: Ring>(alloc: Global, lg: u8) -> Mem<F>
 
 /// x to the power 2^lg, by squaring, minus one.
 pub(super) fn power_minus_one<F: Ring>(alloc: Global, x: &F, lg: u8) -> Mem<F>
-    ensures { IfOk result (λ answer. F.same answer (F.sum (power F.one F.product x.now (2 ^ lg)) (F.negative F.one))) }
+    ensures { IfOk result (λ answer.
+        F.same answer (F.sum (power F.one F.product x.now (2 ^ lg)) (F.negative F.one))) }
 {
     let mut out = x.clone(alloc)?;
     for _done in 0..lg {

@@ -1,9 +1,24 @@
 //! Butterflies: the cells of two halves combined pair by pair.
 //!
-//! Power 0 of each root is one, so the first pair of two halves takes no product: in all levels together
-//! these are N - 1 of the N lg / 2 pairs of a column.
+//! Power 0 of each root is one, so the first pair of two halves takes no product: in all levels
+//! together these are N - 1 of the N lg / 2 pairs of a column.
 
-ghost use Rattle.std.specs.Prelude.{◌≡◌, ◌+◌, ◌*◌, ◌/◌, ◌<◌, ◌≤◌, ◌^◌, IsTrue, OnOk, length, take, drop, slice_index_or};
+ghost use Rattle.std.specs.Prelude.{
+  ◌≡◌,
+  ◌+◌,
+  ◌*◌,
+  ◌/◌,
+  ◌<◌,
+  ◌≤◌,
+  ◌^◌,
+  IsTrue,
+  OnOk,
+  OnErr,
+  length,
+  take,
+  drop,
+  slice_index_or,
+};
 ghost use Rattle.math_transforms.specs.CombinedCells.{IsCombined, AreCombined};
 ghost use Rattle.math_transforms.specs.CountedWork.{AddsAtMost};
 
@@ -11,7 +26,7 @@ use crate::work::Work;
 use math_base::algebra::{Additive, FieldNTT, Mem, Multiplicative, Object};
 use std::alloc::Global;
 
-// Puts the sum and the difference of two cells in their places.
+/// Puts the sum and the difference of two cells in their places.
 fn sum_and_difference<F: Additive>(alloc: Global, low: &mut F, high: &mut F) -> Mem<()>
     ensures sum { OnOk result (F.same low.new (F.sum low.old high.old)) }
     ensures difference { OnOk result (F.same high.new (F.sum low.old (F.negative high.old))) }
@@ -23,9 +38,9 @@ fn sum_and_difference<F: Additive>(alloc: Global, low: &mut F, high: &mut F) -> 
     Ok(())
 }
 
-// Combines a pair of cells by a power of the root: forward to low + high w and low - high w, and on the
-// way back to low + high and (low - high) w. `AT_ONE` says that the power is one: then no product is
-// taken. Counts one butterfly.
+/// Combines a pair of cells by a power of the root: forward to low + high w and low - high w, and
+/// on the way back to low + high and (low - high) w. `AT_ONE` says that the power is one: then no
+/// product is taken. Counts one butterfly.
 fn combine<F: FieldNTT, const FORWARD: bool, const AT_ONE: bool>(
     alloc: Global,
     low: &mut F,
@@ -35,7 +50,8 @@ fn combine<F: FieldNTT, const FORWARD: bool, const AT_ONE: bool>(
 ) -> Mem<()>
     requires room { work.old.butterflies + 1 < 2 ^ 128 }
     requires one { IsTrue AT_ONE → F.same w.now F.one }
-    ensures combined { OnOk result (IsCombined F.Ring FORWARD w.now low.old high.old low.new high.new) }
+    ensures combined { OnOk result
+        (IsCombined F.Ring FORWARD w.now low.old high.old low.new high.new) }
     ensures counted { work.new.butterflies ≡ work.old.butterflies + 1 }
     ensures root_products { work.new.root_products ≡ work.old.root_products }
 {
@@ -54,7 +70,7 @@ fn combine<F: FieldNTT, const FORWARD: bool, const AT_ONE: bool>(
     Ok(())
 }
 
-// Combines the cells of two rows, place by place, by one power.
+/// Combines the cells of two rows, place by place, by one power.
 fn combine_cells<F: FieldNTT, const FORWARD: bool, const AT_ONE: bool>(
     alloc: Global,
     low: &mut [F],
@@ -69,6 +85,7 @@ fn combine_cells<F: FieldNTT, const FORWARD: bool, const AT_ONE: bool>(
         low.old high.old low.new high.new) }
     ensures counted { OnOk result (work.new.butterflies ≡ work.old.butterflies + length low.old) }
     ensures bounded { AddsAtMost (2 * length low.old) work.old work.new }
+    ensures refused { OnErr result (work.old.butterflies < work.new.butterflies) }
 {
     for p in 0..low.len() {
         combine::<F, FORWARD, AT_ONE>(alloc, &mut low[p], &mut high[p], w, work)?;
@@ -76,8 +93,8 @@ fn combine_cells<F: FieldNTT, const FORWARD: bool, const AT_ONE: bool>(
     Ok(())
 }
 
-// Combines one row of each half by one power: `cols` pairs, from the place `first` on. Each row is a
-// slice of its own, so that no place within it has to be tested.
+/// Combines one row of each half by one power: `cols` pairs, from the place `first` on. Each row is
+/// a slice of its own, so that no place within it has to be tested.
 fn combine_row<F: FieldNTT, const FORWARD: bool, const AT_ONE: bool>(
     alloc: Global,
     low: &mut [F],
@@ -95,6 +112,7 @@ fn combine_row<F: FieldNTT, const FORWARD: bool, const AT_ONE: bool>(
         low.old high.old low.new high.new) }
     ensures counted { OnOk result (work.new.butterflies ≡ work.old.butterflies + cols) }
     ensures bounded { AddsAtMost (2 * cols) work.old work.new }
+    ensures refused { OnErr result (work.old.butterflies < work.new.butterflies) }
 {
     let last = first + cols;
     let (low, high) = (&mut low[first..last], &mut high[first..last]);
@@ -102,7 +120,7 @@ fn combine_row<F: FieldNTT, const FORWARD: bool, const AT_ONE: bool>(
     Ok(())
 }
 
-// Combines the rows of two halves, row i of each by power i. Power 0 is one.
+/// Combines the rows of two halves, row i of each by power i. Power 0 is one.
 fn combine_rows<F: FieldNTT, const FORWARD: bool>(
     alloc: Global,
     low: &mut [F],
@@ -119,8 +137,10 @@ fn combine_rows<F: FieldNTT, const FORWARD: bool>(
     ensures combined { OnOk result (AreCombined F.Ring FORWARD
         (λ p. slice_index_or powers.now (p / cols) F.zero) 0 (length powers.now * cols)
         low.old high.old low.new high.new) }
-    ensures counted { OnOk result (work.new.butterflies ≡ work.old.butterflies + length powers.now * cols) }
+    ensures counted { OnOk result
+        (work.new.butterflies ≡ work.old.butterflies + length powers.now * cols) }
     ensures bounded { AddsAtMost (2 * (length powers.now * cols)) work.old work.new }
+    ensures refused { OnErr result (work.old.butterflies < work.new.butterflies) }
 {
     combine_row::<F, FORWARD, true>(alloc, low, high, 0, cols, &powers[0], work)?;
     for i in 1..powers.len() {
@@ -129,7 +149,7 @@ fn combine_rows<F: FieldNTT, const FORWARD: bool>(
     Ok(())
 }
 
-// Combines the cells of two halves of one column, cell i of each by power i. Power 0 is one.
+/// Combines the cells of two halves of one column, cell i of each by power i. Power 0 is one.
 fn combine_column<F: FieldNTT, const FORWARD: bool>(
     alloc: Global,
     low: &mut [F],
@@ -145,8 +165,10 @@ fn combine_column<F: FieldNTT, const FORWARD: bool>(
     ensures combined { OnOk result (AreCombined F.Ring FORWARD
         (λ p. slice_index_or powers.now p F.zero) 0 (length powers.now)
         low.old high.old low.new high.new) }
-    ensures counted { OnOk result (work.new.butterflies ≡ work.old.butterflies + length powers.now) }
+    ensures counted { OnOk result
+        (work.new.butterflies ≡ work.old.butterflies + length powers.now) }
     ensures bounded { AddsAtMost (2 * length powers.now) work.old work.new }
+    ensures refused { OnErr result (work.old.butterflies < work.new.butterflies) }
 {
     combine::<F, FORWARD, true>(alloc, &mut low[0], &mut high[0], &powers[0], work)?;
     for p in 1..powers.len() {
@@ -155,7 +177,7 @@ fn combine_column<F: FieldNTT, const FORWARD: bool>(
     Ok(())
 }
 
-// Combines the two cells of one column of two rows, whose power is one.
+/// Combines the two cells of one column of two rows, whose power is one.
 pub(super) fn combine_pair<F: FieldNTT, const FORWARD: bool>(
     alloc: Global,
     cells: &mut [F],
@@ -175,7 +197,7 @@ pub(super) fn combine_pair<F: FieldNTT, const FORWARD: bool>(
     Ok(())
 }
 
-// Combines two halves of two cells of one column, cell i of each by power i. Power 0 is one.
+/// Combines two halves of two cells of one column, cell i of each by power i. Power 0 is one.
 pub(super) fn combine_two<F: FieldNTT, const FORWARD: bool>(
     alloc: Global,
     low: &mut [F],
@@ -188,19 +210,21 @@ pub(super) fn combine_two<F: FieldNTT, const FORWARD: bool>(
     requires powers { length powers.now ≡ 2 }
     requires room { work.old.butterflies + 2 < 2 ^ 128 }
     requires one { F.same (slice_index_or powers.now 0 F.zero) F.one }
-    ensures combined { OnOk result (AreCombined F.Ring FORWARD (λ p. slice_index_or powers.now p F.zero) 0 2
+    ensures combined { OnOk result
+        (AreCombined F.Ring FORWARD (λ p. slice_index_or powers.now p F.zero) 0 2
         low.old high.old low.new high.new) }
     ensures counted { OnOk result (work.new.butterflies ≡ work.old.butterflies + 2) }
     ensures bounded { AddsAtMost 4 work.old work.new }
+    ensures refused { OnErr result (work.old.butterflies < work.new.butterflies) }
 {
     combine::<F, FORWARD, true>(alloc, &mut low[0], &mut high[0], &powers[0], work)?;
     combine::<F, FORWARD, false>(alloc, &mut low[1], &mut high[1], &powers[1], work)?;
     Ok(())
 }
 
-// Combines two halves, row i of each by power i, of which power 0 is one. The loops count into a `Work` of
-// their own, which is joined to the caller's at their end, refused or not, so that the additions can be
-// summed.
+/// Combines two halves, row i of each by power i, of which power 0 is one. The loops count into a
+/// `Work` of their own, which is joined to the caller's at their end, refused or not, so that the
+/// additions can be summed.
 pub(super) fn combine_halves<F: FieldNTT, const FORWARD: bool>(
     alloc: Global,
     low: &mut [F],
@@ -217,8 +241,10 @@ pub(super) fn combine_halves<F: FieldNTT, const FORWARD: bool>(
     ensures combined { OnOk result (AreCombined F.Ring FORWARD
         (λ p. slice_index_or powers.now (p / cols) F.zero) 0 (length powers.now * cols)
         low.old high.old low.new high.new) }
-    ensures counted { OnOk result (work.new.butterflies ≡ work.old.butterflies + length powers.now * cols) }
+    ensures counted { OnOk result
+        (work.new.butterflies ≡ work.old.butterflies + length powers.now * cols) }
     ensures bounded { AddsAtMost (2 * (length powers.now * cols)) work.old work.new }
+    ensures refused { OnErr result (work.old.butterflies < work.new.butterflies) }
 {
     let mut counted = Work::new();
     let outcome = if cols == 1 {

@@ -1,9 +1,9 @@
 //! One column of four rows: the two lowest levels of a transform in one function.
 //!
-//! Most levels of one column are of few cells. Of the four butterflies here only one takes a product, and the
-//! cells stay in registers from one level to the next.
+//! Most levels of one column are of few cells. Of the four butterflies here only one takes a
+//! product, and the cells stay in registers from one level to the next.
 
-ghost use Rattle.std.specs.Prelude.{◌≡◌, ◌+◌, ◌*◌, ◌<◌, ◌≤◌, ◌^◌, OnOk, length};
+ghost use Rattle.std.specs.Prelude.{◌≡◌, ◌+◌, ◌*◌, ◌<◌, ◌≤◌, ◌^◌, OnOk, OnErr, length};
 ghost use Rattle.math_transforms.specs.CombinedCells.{AreTransformed, AreTransformedBack};
 ghost use Rattle.math_transforms.specs.CountedWork.{AddsAtMost};
 ghost use Rattle.math_transforms.specs.DomainValues.{matrix_of, ArePowersByLevel};
@@ -13,7 +13,7 @@ use crate::work::Work;
 use math_base::algebra::{FieldNTT, Mem};
 use std::alloc::Global;
 
-// Transforms the two halves, and combines them.
+/// Transforms the two halves, and combines them.
 pub(super) fn transform_four<F: FieldNTT>(
     alloc: Global,
     cells: &mut [F],
@@ -29,6 +29,7 @@ pub(super) fn transform_four<F: FieldNTT>(
         (matrix_of 4 1 cells.old) (matrix_of 4 1 cells.new)) }
     ensures counted { OnOk result (2 * work.new.butterflies ≡ 2 * work.old.butterflies + 8) }
     ensures bounded { AddsAtMost 8 work.old work.new }
+    ensures refused { OnErr result (work.old.butterflies < work.new.butterflies) }
 {
     let (low, high) = cells.split_at_mut(2);
     let (below, powers) = table.split_at(2);
@@ -38,7 +39,8 @@ pub(super) fn transform_four<F: FieldNTT>(
     Ok(())
 }
 
-// Undoes the combining of the two halves, and then the transform of each, but for a factor of two a level.
+/// Undoes the combining of the two halves, and then the transform of each, but for a factor of two
+/// a level.
 pub(super) fn untransform_four<F: FieldNTT>(
     alloc: Global,
     cells: &mut [F],
@@ -54,6 +56,7 @@ pub(super) fn untransform_four<F: FieldNTT>(
         (matrix_of 4 1 cells.old) (matrix_of 4 1 cells.new)) }
     ensures counted { OnOk result (2 * work.new.butterflies ≡ 2 * work.old.butterflies + 8) }
     ensures bounded { AddsAtMost 8 work.old work.new }
+    ensures refused { OnErr result (work.old.butterflies < work.new.butterflies) }
 {
     let (low, high) = cells.split_at_mut(2);
     let (below, powers) = table.split_at(2);

@@ -9,15 +9,17 @@ ghost use Rattle.math_transforms.specs.Matrices.{cell_of};
 use super::size_of;
 use math_base::algebra::Additive;
 
-// The number whose lg bits are those of i + 1 in the opposite order, where those of j are the bits of i.
-//
-// Counting up by one turns the ones below the lowest zero bit to zeros, and that zero to a one. In the
-// opposite order these are the highest bits: on the average two of them are looked at.
+/// The number whose lg bits are those of i + 1 in the opposite order, where those of j are the bits
+/// of i.
+///
+/// Counting up by one turns the ones below the lowest zero bit to zeros, and that zero to a one. In
+/// the opposite order these are the highest bits: on the average two of them are looked at.
 fn next_reversed(j: usize, lg: u8) -> usize
     requires small { lg < 64 }
     requires below { j < 2 ^ lg }
     ensures below { result < 2 ^ lg }
-    ensures next { (i : ℕ) → i + 1 < 2 ^ lg → j ≡ bit_reversed lg i → result ≡ bit_reversed lg (i + 1) }
+    ensures next { (i : ℕ) → i + 1 < 2 ^ lg → j ≡ bit_reversed lg i
+        → result ≡ bit_reversed lg (i + 1) }
 {
     if lg == 0 {
         return 0;
@@ -30,18 +32,21 @@ fn next_reversed(j: usize, lg: u8) -> usize
     }
 }
 
-// Exchanges two rows of `cols` cells.
+/// Exchanges two rows of `cols` cells.
 fn swap_rows<F: Additive>(cells: &mut [F], rows: usize, cols: usize, i: usize, j: usize)
     requires size { length cells.old ≡ rows * cols }
     requires first { i < rows }
     requires second { j < rows }
     requires apart { i ≢ j }
     ensures first { (k : ℕ) → k < cols
-        → cell_of F.zero (matrix_of rows cols cells.new) i k ≡ cell_of F.zero (matrix_of rows cols cells.old) j k }
+        → cell_of F.zero (matrix_of rows cols cells.new) i k
+        ≡ cell_of F.zero (matrix_of rows cols cells.old) j k }
     ensures second { (k : ℕ) → k < cols
-        → cell_of F.zero (matrix_of rows cols cells.new) j k ≡ cell_of F.zero (matrix_of rows cols cells.old) i k }
+        → cell_of F.zero (matrix_of rows cols cells.new) j k
+        ≡ cell_of F.zero (matrix_of rows cols cells.old) i k }
     ensures others { (r k : ℕ) → r ≢ i → r ≢ j → k < cols
-        → cell_of F.zero (matrix_of rows cols cells.new) r k ≡ cell_of F.zero (matrix_of rows cols cells.old) r k }
+        → cell_of F.zero (matrix_of rows cols cells.new) r k
+        ≡ cell_of F.zero (matrix_of rows cols cells.old) r k }
 {
     if cols == 1 {
         cells.swap(i, j);
@@ -52,12 +57,13 @@ fn swap_rows<F: Additive>(cells: &mut [F], rows: usize, cols: usize, i: usize, j
     }
 }
 
-// Puts 2^lg rows in bit-reversed order, from the first to the last: each pair of rows whose numbers have
-// each other's bits in the opposite order is exchanged once.
+/// Puts 2^lg rows in bit-reversed order, from the first to the last: each pair of rows whose
+/// numbers have each other's bits in the opposite order is exchanged once.
 fn reverse_one_by_one<F: Additive>(cells: &mut [F], cols: usize, lg: u8)
     requires small { lg < 64 }
     requires size { length cells.old ≡ 2 ^ lg * cols }
-    ensures { AreRowsReversed F.zero lg (matrix_of (2 ^ lg) cols cells.old) (matrix_of (2 ^ lg) cols cells.new) }
+    ensures { AreRowsReversed F.zero lg (matrix_of (2 ^ lg) cols cells.old)
+        (matrix_of (2 ^ lg) cols cells.new) }
 {
     let rows = size_of(lg);
     let mut j = 0;
@@ -69,7 +75,7 @@ fn reverse_one_by_one<F: Additive>(cells: &mut [F], cols: usize, lg: u8)
     }
 }
 
-// Four bits in the opposite order.
+/// Four bits in the opposite order.
 fn opposite_of_four(t: usize) -> usize
     requires { t < 16 }
     ensures { result ≡ bit_reversed 4 t }
@@ -77,8 +83,8 @@ fn opposite_of_four(t: usize) -> usize
     t % 2 * 8 + t / 2 % 2 * 4 + t / 4 % 2 * 2 + t / 8
 }
 
-// The row whose number has the bits of `middle`, before them the two higher bits of t, and after them its
-// two lower bits.
+/// The row whose number has the bits of `middle`, before them the two higher bits of t, and after
+/// them its two lower bits.
 fn row_around(quarter: usize, middle: usize, t: usize) -> usize
     requires four { t < 16 }
     requires middle { 4 * middle + 3 < quarter }
@@ -88,14 +94,15 @@ fn row_around(quarter: usize, middle: usize, t: usize) -> usize
     t / 4 * quarter + (4 * middle + t % 4)
 }
 
-// Puts 16 rows or more in bit-reversed order, sixteen at a time: those whose numbers have the same bits, but
-// for the two highest and the two lowest. They lie in four places by four, and so do the rows with which they are
-// exchanged, so that few pieces of memory are used at a time.
+/// Puts 16 rows or more in bit-reversed order, sixteen at a time: those whose numbers have the same
+/// bits, but for the two highest and the two lowest. They lie in four places by four, and so do the
+/// rows with which they are exchanged, so that few pieces of memory are used at a time.
 fn reverse_by_sixteens<F: Additive>(cells: &mut [F], cols: usize, lg: u8)
     requires many { 4 ≤ lg }
     requires small { lg < 64 }
     requires size { length cells.old ≡ 2 ^ lg * cols }
-    ensures { AreRowsReversed F.zero lg (matrix_of (2 ^ lg) cols cells.old) (matrix_of (2 ^ lg) cols cells.new) }
+    ensures { AreRowsReversed F.zero lg (matrix_of (2 ^ lg) cols cells.old)
+        (matrix_of (2 ^ lg) cols cells.new) }
 {
     let rows = size_of(lg);
     let quarter = size_of(lg - 2);
@@ -116,11 +123,12 @@ fn reverse_by_sixteens<F: Additive>(cells: &mut [F], cols: usize, lg: u8)
     }
 }
 
-// Puts 2^lg rows in bit-reversed order.
+/// Puts 2^lg rows in bit-reversed order.
 pub(super) fn reverse_rows<F: Additive>(cells: &mut [F], cols: usize, lg: u8)
     requires small { lg < 64 }
     requires size { length cells.old ≡ 2 ^ lg * cols }
-    ensures { AreRowsReversed F.zero lg (matrix_of (2 ^ lg) cols cells.old) (matrix_of (2 ^ lg) cols cells.new) }
+    ensures { AreRowsReversed F.zero lg (matrix_of (2 ^ lg) cols cells.old)
+        (matrix_of (2 ^ lg) cols cells.new) }
 {
     if lg < 4 {
         reverse_one_by_one(cells, cols, lg);

@@ -5,8 +5,7 @@ ghost use Rattle.std.specs.Int.{IsNextPowerOfTwo};
 ghost use Rattle.std.specs.Map.{keys_of, values_of};
 ghost use Rattle.std.specs.List.{AllZip, zip};
 ghost use Rattle.math_transforms.specs.RootWeights.{HasDomainOf};
-ghost use Rattle.commonware_math.specs.Interpolators.{InterpolatesAt};
-ghost use Rattle.commonware_math.specs.RootInterpolators.{pairs_below, pairs_at_powers, weighted_pairs, weight_at};
+ghost use Rattle.commonware_math.specs.RootInterpolators.{pairs_below, weighted_pairs, weight_at, InterpolatesAtPowers};
 
 use super::Interpolator;
 use math_base::algebra::{Additive, FieldNTT, Mem, Object};
@@ -22,8 +21,7 @@ impl<I: Ord + Drop, F: FieldNTT> Interpolator<I, F> {
         requires { HasDomainOf F.MAX_LG_ROOT_ORDER total.value }
         ensures keys { IfOk result (λ m. keys_of m ≡ keys_of (pairs_below total.value points)) }
         ensures weights { IfOk result (λ m. (lg : ℕ) → IsNextPowerOfTwo total.value (2 ^ lg)
-            → InterpolatesAt I.cmp F.Ring F.zero
-            (pairs_at_powers F.Ring (F.root lg) (pairs_below total.value points)) m) }
+            → InterpolatesAtPowers I.cmp F.Ring (F.root lg) F.zero (pairs_below total.value points) m) }
     {
         let zero = F::zero(alloc)?;
         let out = Self::roots_of_unity_at(alloc, total, points, &zero)?;
@@ -32,7 +30,8 @@ impl<I: Ord + Drop, F: FieldNTT> Interpolator<I, F> {
 
     /// The interpolator for the value at x, from the pairs of a key and the index of its point: point i
     /// is power i of the root of order N, which is `total` rounded up to a power of two. Keys whose
-    /// index is `total` or more are dropped. It takes time in O(N log N).
+    /// index is `total` or more are dropped; the points of the others differ, so their weights are the
+    /// only ones for the value at x. It takes time in O(N log N).
     ///
     /// lg N is at most `F::MAX_LG_ROOT_ORDER`.
     pub fn roots_of_unity_at(
@@ -44,8 +43,7 @@ impl<I: Ord + Drop, F: FieldNTT> Interpolator<I, F> {
         requires { HasDomainOf F.MAX_LG_ROOT_ORDER total.value }
         ensures keys { IfOk result (λ m. keys_of m ≡ keys_of (pairs_below total.value points)) }
         ensures weights { IfOk result (λ m. (lg : ℕ) → IsNextPowerOfTwo total.value (2 ^ lg)
-            → InterpolatesAt I.cmp F.Ring x.now
-            (pairs_at_powers F.Ring (F.root lg) (pairs_below total.value points)) m) }
+            → InterpolatesAtPowers I.cmp F.Ring (F.root lg) x.now (pairs_below total.value points) m) }
     {
         let (keys, indices) = points.into_map().into_parts();
         let weights = lagrange_coefficients_at(alloc, total, copied(alloc, &indices)?, x)?;

@@ -1,14 +1,21 @@
 //! Matrices as bytes.
 //!
 //! A matrix is its number of rows and its number of columns, each as a length, and then the list of
-//! its cells, row by row: the rows 1, 2 and 3, 0 over `F` are `02 02 04` and four words. The length of
-//! the list has to be rows times columns.
+//! its cells, row by row: the rows 1, 2 and 3, 0 over `F` are `02 02 04` and four words. The length
+//! of the list has to be rows times columns.
 
 ghost use Rattle.std.specs.Prelude.{◌≡◌, ◌++◌, ◌≤◌, length, take, IfOk, OnOk, OnErr};
 ghost use Rattle.math_codec.specs.Faults.{Agrees, OnMemory};
 ghost use Rattle.math_codec.specs.Lengths.{length_spelling};
 ghost use Rattle.math_transforms.specs.Matrices.{AreSame};
-ghost use Rattle.math_ntt.specs.MatrixEncoding.{matrix_spelling, AdmitsMatrix, FitsMatrix, scan_count, scan_matrix, MatrixGrows};
+ghost use Rattle.math_ntt.specs.MatrixEncoding.{
+  matrix_spelling,
+  AdmitsMatrix,
+  FitsMatrix,
+  scan_count,
+  scan_matrix,
+  MatrixGrows,
+};
 ghost use Rattle.math_ntt.specs.MatrixEncodingLaws.{matrix_again, matrix_apart};
 
 use super::Matrix;
@@ -18,15 +25,16 @@ use math_codec::codec::{
 };
 use std::alloc::Global;
 
-/// The number of rows and the number of columns, each as a length, and the list of the cells, row by
-/// row.
+/// The number of rows and the number of columns, each as a length, and the list of the cells, row
+/// by row.
 impl<F: Encoding + Drop> Encoding for Matrix<F> {
     ghost spelling = { λ m. matrix_spelling F.spelling m };
 
     ghost alike = { λ m n. AreSame F.alike m n };
 }
 
-/// Reads a length of at most `most` from the front of `input`, and moves `input` to what follows it.
+/// Reads a length of at most `most` from the front of `input`, and moves `input` to what follows
+/// it.
 #[tactic(auto, unfolding(crate::specs::MatrixEncoding::scan_count))]
 fn read_count(alloc: Global, input: &mut &[u8], most: u32) -> Result<u32, Error>
     ensures counted { IfOk result (λ n. n ≤ most) }
@@ -98,8 +106,8 @@ fn write_parts<F: Write + Drop>(alloc: Global, m: &Matrix<F>, out: &mut Vec<u8>)
 impl<F: Write + Drop> Write for Matrix<F> {
     ghost fits = { λ m. FitsMatrix F.fits m };
 
-    /// Writes the number of rows, the number of columns, and the list of the cells. These two numbers
-    /// and the number of cells have to be below 2^32.
+    /// Writes the number of rows, the number of columns, and the list of the cells. These two
+    /// numbers and the number of cells have to be below 2^32.
     fn write(&self, alloc: Global, out: &mut Vec<u8>) -> Mem<()> {
         let start = out.len();
         let written = write_parts(alloc, self, out);

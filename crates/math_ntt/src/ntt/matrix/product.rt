@@ -13,7 +13,8 @@ use std::alloc::Global;
 pub(super) fn of_row<F: Ring>(alloc: Global, row: &[F], other: &Matrix<F>) -> Mem<Vec<F>>
     requires { length row.now ≡ other.now.rows }
     ensures count { IfOk result (λ v. length v.items ≡ other.now.cols) }
-    ensures cells { IfOk result (λ v. (k : ℕ) → k < other.now.cols → F.same (get_or v.items k F.zero)
+    ensures cells { IfOk result
+        (λ v. (k : ℕ) → k < other.now.cols → F.same (get_or v.items k F.zero)
         (weighted_sum F.zero F.sum F.product row.now (column_of F.zero other.now k))) }
 {
     let mut sums = filled_up(alloc, Vec::new(alloc), other.cols)?;
@@ -23,8 +24,8 @@ pub(super) fn of_row<F: Ring>(alloc: Global, row: &[F], other: &Matrix<F>) -> Me
     Ok(sums)
 }
 
-/// Adds `factor` times each cell of the row to the sum in its place. Where it is refused, some of the
-/// sums may have changed.
+/// Adds `factor` times each cell of the row to the sum in its place. Where it is refused, some of
+/// the sums may have changed.
 fn add_multiple<F: Ring>(alloc: Global, sums: &mut [F], factor: &F, row: &[F]) -> Mem<()>
     requires { length row.now ≡ length sums.old }
     ensures sums { OnOk result ((k : ℕ) → k < length row.now → F.same (get_or sums.new k F.zero)

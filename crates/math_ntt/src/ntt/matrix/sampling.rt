@@ -11,7 +11,8 @@ use rand_core::{CryptoRng, Rng};
 use std::alloc::Global;
 
 impl<F: Random + Drop> Matrix<F> {
-    /// The matrix whose cells are the next samples of the source, row by row. The number of cells is below 2^64.
+    /// The matrix whose cells are the next samples of the source, row by row. The number of cells
+    /// is below 2^64.
     ///
     /// It refuses with `TooManyWords` where one of these samples is refused, or with `Memory`.
     pub fn rand<G: Rng + CryptoRng>(
@@ -25,7 +26,8 @@ impl<F: Random + Drop> Matrix<F> {
         ensures sampled { IfOk result (λ m.
             samples F.sample (rows * cols) (G.stream rng.old) ≡ (Some m.cells, G.stream rng.new)) }
         ensures refused { IfErr result (λ error.
-            error ≡ TooManyWords → samples F.sample (rows * cols) (G.stream rng.old) ≡ (None, G.stream rng.new)) }
+            error ≡ TooManyWords
+            → samples F.sample (rows * cols) (G.stream rng.old) ≡ (None, G.stream rng.new)) }
     {
         let mut cells = Vec::new(alloc);
         for _sampled in 0..rows * cols {

@@ -19,7 +19,7 @@ vanishing-requires-clause-some g c = rw c.set_non_vanishing.ensures (some-set c.
 pub gathered-requires : goal.gathered-requires
 gathered-requires g c =
     let size = ap length c.set_non_vanishing.ensures ∙ length-set c.args.present c.args.m true in
-    places-inside c.args.present c.args.places.now c.requires.places _ (ap length c.values-values.ensures ∙ (c.in_ok-column.ensures c.args.lg (size ∙ c.requires.size)).lengths ∙ size)
+    places-inside c.args.present c.args.places.now c.requires.places _ (ap length c.values-values.ensures ∙ (c.in_ok-column.ensures.vanishing c.args.lg (size ∙ c.requires.size)).lengths ∙ size)
 
 pub returns : goal.returns
 returns g c =
@@ -53,7 +53,7 @@ returns g c =
     let V =
     subst (λ (f : List Bool). IsVanishing g.F.Object.same zero g.F.Additive.sum g.F.Additive.negative g.F.Multiplicative.product g.F.Ring.one w f c.in_ok-column.field-0-0 column)
     c.set_non_vanishing.ensures
-    (c.in_ok-column.ensures lg (size ∙ h)) in
+    (c.in_ok-column.ensures.vanishing lg (size ∙ h)) in
     let vs = c.in_ok-values.values.items in
     let count : length places ≡ count_true filled = places-count filled places c.requires.places in
     let values : length vs ≡ count_true filled = c.in_ok-values.ensures.count ∙ count in

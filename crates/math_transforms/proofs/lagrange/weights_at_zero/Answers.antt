@@ -15,7 +15,7 @@ vanishing-requires-clause-some g c = omega (arith, c.requires.some, places-count
 pub gathered-requires : goal.gathered-requires
 gathered-requires g c =
     places-inside c.args.present.now c.args.places.now c.requires.places _
-    (ap length c.values.ensures ∙ (c.in_ok-at_zero.ensures c.args.lg c.requires.size).lengths)
+    (ap length c.values.ensures ∙ (c.in_ok-at_zero.ensures.vanishing c.args.lg c.requires.size).lengths)
 
 pub returns : goal.returns
 returns g c =
@@ -23,7 +23,7 @@ returns g c =
     let E = F.Object.equality in
     let filled = c.args.present.now in
     let places = c.args.places.now in
-    let V = c.in_ok-at_zero.ensures c.args.lg c.requires.size in
+    let V = c.in_ok-at_zero.ensures.vanishing c.args.lg c.requires.size in
     let count : length c.in_ok-values.values.items ≡ length places = c.in_ok-values.ensures.count in
     let some = places-count filled places c.requires.places in
     subst (λ (is : List ℕ). AreWeightsAt g.F.Object.same g.F.Additive.zero g.F.Additive.sum g.F.Multiplicative.product g.F.Ring.one c.args.x.now

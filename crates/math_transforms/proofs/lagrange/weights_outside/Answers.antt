@@ -19,10 +19,10 @@ vanishing-requires-clause-some g c = omega (arith, c.requires.some, places-count
 pub gathered-requires : goal.gathered-requires
 gathered-requires g c =
     places-inside c.args.present.now c.args.places.now c.requires.places _
-    (ap length c.values.ensures ∙ (c.in_ok-column.ensures c.args.lg c.requires.size).lengths)
+    (ap length c.values.ensures ∙ (c.in_ok-column.ensures.vanishing c.args.lg c.requires.size).lengths)
 
 pub value_at-requires : goal.value_at-requires
-value_at-requires g c = domain-of _ _ c.args.lg ((c.in_ok-column.ensures c.args.lg c.requires.size).lengths ∙ c.requires.size) c.requires.domain
+value_at-requires g c = domain-of _ _ c.args.lg ((c.in_ok-column.ensures.vanishing c.args.lg c.requires.size).lengths ∙ c.requires.size) c.requires.domain
 
 pub returns : goal.returns
 returns g c =
@@ -51,7 +51,7 @@ returns g c =
     let x = c.args.x.now in
     let h = c.requires.size in
     let o = F.FieldNTT.roots.order lg c.requires.domain in
-    let V = c.in_ok-column.ensures lg h in
+    let V = c.in_ok-column.ensures.vanishing lg h in
     let at_zero = c.in_ok-column.field-0-0 in
     let column = c.in_ok-column.column in
     let vx = c.in_ok-factor.factor in

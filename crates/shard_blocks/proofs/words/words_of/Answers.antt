@@ -22,6 +22,6 @@ returns c =
           let last = w.from_le_bytes-then-not-is_empty in
           let some = some_of_test (length rest) c.is_empty.result c.is_empty.ensures w.if-not-is_empty.true in
           rw (w.words-is, w.in_ok-push-3.ensures.items, chunks)
-          (packed_rest bytes rest last.result h some (omega (arith, count)) c.as_chunks.ensures.back (last.ensures ∙ ap (from_le_bytes w64) w.filled.ensures))
+          (packed_rest bytes rest last.result h some (omega (arith, count)) c.as_chunks.ensures.back (last.ensures ∙ ap (from_le_bytes w64) w.padded_to_eight.ensures))
       | else-not-is_empty w ↦ rw (w.words-is, chunks) (packed_whole bytes h (sym count ∙ eqb-true (length rest) 0 (sym c.is_empty.ensures ∙ w.if-not-is_empty.false)))
     ]

@@ -8,21 +8,21 @@ use Rattle.math_shards.proofs.shards.joining.gathered.Goals as goal
 pub empty-requires-clause-fits : goal.empty-requires-clause-fits
 empty-requires-clause-fits c = rw (← c.lg_of.ensures.value) (holds_where_some _ _ c.checked_mul.result (c.if-is_none.ensures) c.checked_mul.ensures)
 
-pub fill-requires-clause-row : goal.fill-requires-clause-row
-fill-requires-clause-row c =
+pub fill_row_of-requires-clause-row : goal.fill_row_of-requires-clause-row
+fill_row_of-requires-clause-row c =
     let h = c.loop-shard.invariant in
     let s = c.requires c.loop-shard.shard-index c.shard-item.result c.loop-shard-test.true in
     let inside = rw (← c.shard-item.is) at s in
     omega (arith, inside.1, inside.0.most, h.1, h.2.size.0, c.next_power_of_two-points.ensures.lower_bound)
 
-pub returns-in_err-fill-clause-err : goal.returns-in_err-fill-clause-err
-returns-in_err-fill-clause-err c =
+pub returns-in_err-fill_row_of-clause-err : goal.returns-in_err-fill_row_of-clause-err
+returns-in_err-fill_row_of-clause-err c =
     let h = c.loop-shard.invariant in
     let domain : c.args.first.now.total ≤ 2 ^ h.0 = omega (arith, c.next_power_of_two-points.ensures.lower_bound, h.1) in
     let wide : length c.args.first.now.cells.items ≡ c.len-cols.result = search rules in
-    let q = err_from_is_err_and c.from_residual-in_err-fill.result c.from_residual-in_err-fill.ensures.1 in
+    let q = err_from_is_err_and c.from_residual-in_err-fill_row_of.result c.from_residual-in_err-fill_row_of.ensures.1 in
     rw (q.1, q.2) (fault_at h.0 _ c.args.first.now c.args.shards.now domain wide c.requires
-    c.loop-shard.shard-index c.shard-item.result c.loop-shard.values h.2 c.loop-shard-test.true c.shard-item.is c.in_err-fill.field-0.0 c.in_err-fill.ensures.err)
+    c.loop-shard.shard-index c.shard-item.result c.loop-shard.values h.2 c.loop-shard-test.true c.shard-item.is c.in_err-fill_row_of.field-0.0 c.in_err-fill_row_of.ensures.err)
 
 pub loop-shard-init : goal.loop-shard-init
 loop-shard-init c =
@@ -41,7 +41,7 @@ loop-shard-preserved c =
       h.0,
       h.1,
       holds_more h.0 _ c.args.first.now c.args.shards.now domain wide c.requires
-          c.loop-shard.shard-index c.shard-item.result c.loop-shard.values c.fill.new.values h.2 c.loop-shard-test.true c.shard-item.is c.in_ok-fill.ensures.equal c.in_ok-fill.ensures.ok,
+          c.loop-shard.shard-index c.shard-item.result c.loop-shard.values c.fill_row_of.new.values h.2 c.loop-shard-test.true c.shard-item.is c.in_ok-fill_row_of.ensures.equal c.in_ok-fill_row_of.ensures.ok,
     )
 
 pub returns-clause-ok : goal.returns-clause-ok

@@ -8,7 +8,7 @@ use thiserror::Error;
 /// Why there is no answer.
 #[derive(Debug, Drop, Error)]
 pub enum Fault {
-    #[error("usage: share_secret deal T N SECRET | share_secret combine T INDEX:VALUE ..")]
+    #[error("usage: secretshares deal T N SECRET | secretshares combine T INDEX:VALUE ..")]
     Usage,
     #[error("refused: out of memory")]
     Memory(AllocError),

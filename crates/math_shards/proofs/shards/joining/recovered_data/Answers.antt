@@ -9,7 +9,7 @@ use Rattle.math_shards.proofs.DueErrors.{due_beside}
 use Rattle.math_shards.proofs.FilledShards.{filled_with_sound}
 use Rattle.math_shards.proofs.JoinedShards.{domain_is_small}
 use Rattle.math_shards.proofs.RecoveredData.{AreRecoveredFrom, join_of_recovered, inconsistent_due, recovered_of_join, words_of_join}
-use Rattle.math_shards.proofs.shards.joining.joined.Goals as goal
+use Rattle.math_shards.proofs.shards.joining.recovered_data.Goals as goal
 
 pub returns-in_err-check_numbers-clause-err : goal.returns-in_err-check_numbers-clause-err
 returns-in_err-check_numbers-clause-err c =

@@ -3,7 +3,7 @@ use Rattle.std.specs.List.{AllZip, remove}
 use Rattle.math_shards.specs.declared.shards.Shard.{Shard}
 use Rattle.math_shards.specs.ShardEncoding.{AreSameShards}
 use Rattle.shard_blocks.proofs.SameShards.{block_of_same, copies_backwards, others_copied}
-use Rattle.shard_blocks.proofs.mending.joined_without.Goals as goal
+use Rattle.shard_blocks.proofs.mending.block_without.Goals as goal
 
 pub returns-in-Ok-clause-some : goal.returns-in-Ok-clause-some
 returns-in-Ok-clause-some c =

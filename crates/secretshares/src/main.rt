@@ -1,5 +1,5 @@
-//! `share_secret deal T N SECRET` prints n shares of a number, any t of which give it back, one a line.
-//! `share_secret combine T INDEX:VALUE ..` prints the number that these shares give.
+//! `secretshares deal T N SECRET` prints n shares of a number, any t of which give it back, one a line.
+//! `secretshares combine T INDEX:VALUE ..` prints the number that these shares give.
 #![tactic(auto)]
 
 mod calls;

@@ -4,8 +4,8 @@ use Rattle.shard_blocks.specs.Blocks.{IsBlockDue}
 use Rattle.shard_blocks.specs.Mending.{HaveTwoToSpare}
 use Rattle.shard_blocks.proofs.BlockErrors.{due_of_block}
 use Rattle.shard_blocks.proofs.MendedShards.{called, mended_by_some, stays}
-use Rattle.shard_blocks.proofs.mending.mend.Goals as goal
-use Rattle.shard_blocks.proofs.mending.mend.Goals.{then-not-calls_for_mending-via-then-not-calls_for_mending, then-not-calls_for_mending-via-else-not-calls_for_mending+then-not-have_two_more}
+use Rattle.shard_blocks.proofs.mending.join_or_leave_one_out.Goals as goal
+use Rattle.shard_blocks.proofs.mending.join_or_leave_one_out.Goals.{then-not-calls_for_mending-via-then-not-calls_for_mending, then-not-calls_for_mending-via-else-not-calls_for_mending+then-not-have_two_more}
 
 pub returns-then-not-calls_for_mending-clause-err : goal.returns-then-not-calls_for_mending-clause-err
 returns-then-not-calls_for_mending-clause-err c =

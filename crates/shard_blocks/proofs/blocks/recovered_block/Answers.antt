@@ -2,7 +2,7 @@ use Rattle.std.proofs.Common.{List, ℕ, Err, sym, subst}
 use Rattle.std.proofs.lemmas.Result.{err_from_is_err_and}
 use Rattle.shard_blocks.specs.BlockWords.{IsBlockOf}
 use Rattle.shard_blocks.proofs.BlockErrors.{due_for_block, inconsistent_of_words}
-use Rattle.shard_blocks.proofs.blocks.joined.Goals as goal
+use Rattle.shard_blocks.proofs.blocks.recovered_block.Goals as goal
 
 pub returns-in_err-words-clause-err : goal.returns-in_err-words-clause-err
 returns-in_err-words-clause-err c =
