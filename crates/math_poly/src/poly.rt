@@ -68,6 +68,13 @@ impl<K: Drop> Poly<K> {
     {
         &self.coefficients[0]
     }
+
+    /// The stored coefficients, from the constant upwards.
+    pub fn coefficients(&self) -> &[K]
+        ensures { result.now ≡ self.now }
+    {
+        self.coefficients.as_slice()
+    }
 }
 
 /// `Poly(a + b X^1 + c X^2)`.

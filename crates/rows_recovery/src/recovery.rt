@@ -22,8 +22,8 @@ pub fn run<R: Element>(
     match call {
         "recover" => recover(alloc, arguments, answer)?,
         "recover_counted" => recover_counted(alloc, arguments, answer)?,
-        "recover-ones" => recover_ones(alloc, arguments, answer)?,
-        "recover-words" => recover_words(alloc, arguments, answer)?,
+        "recover_ones" => recover_ones(alloc, arguments, answer)?,
+        "recover_words" => recover_words(alloc, arguments, answer)?,
         "recover_ones_within" => recover_within(alloc, arguments, answer)?,
         "recover_each_set" => recover_each_set::<R>(alloc, arguments, answer)?,
         _ => return Ok(false),
@@ -213,7 +213,7 @@ fn lg_and_rule(text: &str) -> Result<(u64, Rule), Fault> {
     Ok((lg, rule_in(words, 1 << lg)?))
 }
 
-/// `recover-ones LG RULE`: the rows of coefficients of one column, filled with one by the rule.
+/// `recover_ones LG RULE`: the rows of coefficients of one column, filled with one by the rule.
 fn recover_ones<R: Element>(
     alloc: Global,
     arguments: &str,
@@ -355,7 +355,7 @@ fn fill_words<R: Element>(
     Ok(())
 }
 
-/// `recover-words LG RULE`: two columns of words of splitmix64, whose state begins at LG times 2^32, in the
+/// `recover_words LG RULE`: two columns of words of splitmix64, whose state begins at LG times 2^32, in the
 /// rows that are filled, and the hash FNV-1a of all coefficients.
 fn recover_words<R: Element>(
     alloc: Global,
