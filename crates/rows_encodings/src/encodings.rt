@@ -61,11 +61,15 @@ fn put_poly(alloc: Global, p: &Poly<F>, text: &mut String) -> Mem<()> {
     Ok(())
 }
 
-/// Adds a matrix, as it is written in rows.
+/// Adds a matrix, as it is written in rows. Without columns there may be 2^32 - 1 rows of nothing,
+/// which are passed over.
 fn put_matrix(m: &Matrix<F>, text: &mut String) -> Mem<()> {
     put(text, m.rows() as u64)?;
     put(text, m.cols() as u64)?;
     text.push_str(" :")?;
+    if m.cols() == 0 {
+        return Ok(());
+    }
     for row in m.iter() {
         for x in row {
             put_element(text, *x)?;

@@ -67,6 +67,9 @@ impl<F: Read + Drop> Read for Matrix<F> {
     /// It refuses with the faults of each in this order, `InvalidLength` where a count is above the
     /// greatest one among them, and then with `Invalid` where the list does not have rows times
     /// columns cells.
+    ///
+    /// A matrix without columns may have as many rows as the greatest count, and no byte stands for
+    /// them: who goes over the rows of a matrix from outside bounds their number by that count.
     #[tactic(auto, unfolding(crate::specs::MatrixEncoding::scan_matrix))]
     fn read_cfg(alloc: Global, input: &mut &[u8], cfg: &(u32, F::Cfg)) -> Result<Matrix<F>, Error> {
         let mut rest = *input;

@@ -41,7 +41,8 @@ loop-shard-preserved c =
       h.0,
       h.1,
       holds_more h.0 _ c.args.first.now c.args.shards.now domain wide c.requires
-          c.loop-shard.shard-index c.shard-item.result c.loop-shard.values c.fill_row_of.new.values h.2 c.loop-shard-test.true c.shard-item.is c.in_ok-fill_row_of.ensures.equal c.in_ok-fill_row_of.ensures.ok,
+          c.loop-shard.shard-index c.shard-item.result c.loop-shard.values c.fill_row_of.new.values
+          h.2 c.loop-shard-test.true c.shard-item.is c.in_ok-fill_row_of.ensures.equal c.in_ok-fill_row_of.ensures.ok,
     )
 
 pub returns-clause-ok : goal.returns-clause-ok
