@@ -1,7 +1,8 @@
 /* commonware-math for C: polynomials over the Goldilocks field, in the caller's memory.
  *
  * An element of the field is a whole number below P = 2^64 - 2^32 + 1, in a uint64_t. Every word that is
- * handed in as one is tested, but for those of rows that are not filled: P or more gives CWM_OUT_OF_RANGE. Coefficients go from the constant upwards.
+ * handed in as one is tested, but for those of rows that are not filled: P or more gives CWM_OUT_OF_RANGE.
+ * Coefficients go from the constant upwards.
  *
  * Rows of cells lie one behind the other: cell (i, k) is cells[i * cols + k], and each column is a
  * polynomial of its own. A domain has N = 2^lg points, lg at most 32: point i is power i of the root of
