@@ -8,7 +8,9 @@ use math_samples::boxed::Boxed;
 use math_samples::elements::Element;
 use math_samples::quotients::Quotient;
 use math_samples::sources::Listed;
-use shared_secret::{CombineError, DealError, Share, combine, deal, deal_committed, verify};
+use shared_secret::{
+    CombineError, DealError, Share, combine, combine_corrected, deal, deal_committed, verify,
+};
 use std::alloc::Global;
 use std::test::Fail;
 
@@ -73,6 +75,31 @@ fn three_of_five<R: Element + Random>(alloc: Global) -> Result<[bool; 4], Fail> 
     ])
 }
 
+/// Seven shares of 12, any three of which combine to it, and the first few of them one too great: whether 12 is found
+/// and these are told, or nothing where there is no answer.
+fn corrected<R: Element + Random>(alloc: Global, spoiled: usize) -> Result<Option<bool>, Fail> {
+    let mut dealt = deal(
+        alloc,
+        R::from_number(alloc, 12)?,
+        3,
+        7,
+        &mut Listed::new(&[7, 9]),
+    )
+    .ok()
+    .ok_or("shares")?;
+    let one = R::one(alloc)?;
+    for share in dealt.iter_mut().take(spoiled) {
+        share.value.add_assign(alloc, &one)?;
+    }
+    match combine_corrected(alloc, 3, &dealt).ok().ok_or("an answer")? {
+        Some(found) => {
+            let is_told = found.wrong.iter().copied().eq(0..spoiled);
+            Ok(Some(is(alloc, &found.secret, 12)? && is_told))
+        }
+        None => Ok(None),
+    }
+}
+
 /// Shares of these indices, each with the value one.
 fn ones<R: Element>(alloc: Global, indices: &[u32]) -> Result<Vec<Share<R>>, Fail> {
     let mut out = Vec::new(alloc);
@@ -114,6 +141,20 @@ fn shares_combine(rt: HostRuntime) -> Result<(), Fail> {
     assert_eq!(rt; three_of_five::<F>(alloc)?, [true, true, true, true]);
     assert_eq!(rt; three_of_five::<Boxed<F>>(alloc)?, [true, true, true, true]);
     assert_eq!(rt; three_of_five::<Quotient>(alloc)?, [true, true, true, true]);
+    Ok(())
+}
+
+#[test]
+fn shares_corrected(rt: HostRuntime) -> Result<(), Fail> {
+    let alloc = rt.alloc();
+    for spoiled in 0..3 {
+        assert_eq!(rt; corrected::<F>(alloc, spoiled)?, Some(true));
+        assert_eq!(rt; corrected::<Boxed<F>>(alloc, spoiled)?, Some(true));
+        assert_eq!(rt; corrected::<Quotient>(alloc, spoiled)?, Some(true));
+    }
+    assert_eq!(rt; corrected::<F>(alloc, 3)?, None);
+    assert_eq!(rt; corrected::<Boxed<F>>(alloc, 3)?, None);
+    assert_eq!(rt; corrected::<Quotient>(alloc, 3)?, None);
     Ok(())
 }
 

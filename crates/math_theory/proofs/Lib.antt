@@ -4,5 +4,6 @@ pub mod classes
 pub mod polynomials
 pub mod interpolation
 pub mod recovery
+pub mod decoding
 pub mod domains
 pub mod transforms

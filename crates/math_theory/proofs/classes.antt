@@ -4,3 +4,4 @@ pub mod RingUpToSame
 pub mod PlainEquality
 pub mod CarriedRingLaws
 pub mod FractionLaws
+pub mod ClassesOfProducts

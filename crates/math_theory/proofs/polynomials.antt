@@ -6,5 +6,8 @@ pub mod ScaledPoint
 pub mod WeightedPowers
 pub mod Roots
 pub mod RootProducts
+pub mod Products
+pub mod Division
+pub mod CarriedDivision
 pub mod CarriedRoots
 pub mod BuiltPolynomials

@@ -5,10 +5,12 @@ pub mod Rings
 pub mod ModuleLaws
 pub mod Sums
 pub mod Coefficients
+pub mod Division
 pub mod RootProducts
 pub mod Interpolation
 pub mod Recovery
 pub mod RecoveryOnCoset
+pub mod Decoding
 pub mod Spaces
 pub mod OverRing
 pub mod Domains

@@ -2,6 +2,8 @@
 use Rattle.std.specs.Prelude.{◌≡◌, ℕ, List, Bool}
 use Rattle.math_theory.specs.Rings.{CommutativeRing, Field}
 use Rattle.math_theory.specs.Coefficients as Coefficients
+use Rattle.math_theory.specs.Decoding as Decoding
+use Rattle.math_theory.specs.Division as Division
 use Rattle.math_theory.specs.Interpolation as Interpolation
 use Rattle.math_theory.specs.Powers as Powers
 use Rattle.math_theory.specs.Recovery as Recovery
@@ -51,6 +53,12 @@ module _ {A : Type 0} (R : CommutativeRing A) where
   abbrev pub polynomial_dilation : A → List A → List A
   polynomial_dilation s a = Coefficients.polynomial_dilation R.product R.one R.product s a
 
+  abbrev pub HasExactDegree : List A → ℕ → Type 0
+  HasExactDegree a n = Division.HasExactDegree (λ (x y : A). x ≡ y) R.zero a n
+
+  abbrev pub IsDivision : ℕ → List A → List A → List A → List A → Type 0
+  IsDivision n p d q r = Division.IsDivision (λ (x y : A). x ≡ y) R.zero R.sum R.product n p d q r
+
   abbrev pub root_product : A → List A → A
   root_product r roots = RootProducts.root_product R.sum R.negative R.product R.one r roots
 
@@ -77,6 +85,18 @@ module _ {A : Type 0} (R : CommutativeRing A) where
 
   abbrev pub DividesOnCoset : A → A → ℕ → List A → List A → List A → Type 0
   DividesOnCoset w s n v g q = RecoveryOnCoset.DividesOnCoset (λ (x y : A). x ≡ y) R.zero R.sum R.product R.one w s n v g q
+
+  abbrev pub IsDividedDownTo : ℕ → List A → List A → List A → List A → Type 0
+  IsDividedDownTo i p d q left = Division.IsDividedDownTo (λ (x y : A). x ≡ y) R.zero R.sum R.product i p d q left
+
+  abbrev pub IsKept : List A → List A → List A → List A → Type 0
+  IsKept points values r v = Decoding.IsKept (λ (x y : A). x ≡ y) R.zero R.sum R.product R.one points values r v
+
+  abbrev pub AgreesOutside : List A → List A → List ℕ → List A → Type 0
+  AgreesOutside points values places a = Decoding.AgreesOutside (λ (x y : A). x ≡ y) R.zero R.sum R.product R.one points values places a
+
+  abbrev pub IsWithinRadius : List A → List A → ℕ → List A → Type 0
+  IsWithinRadius points values count a = Decoding.IsWithinRadius (λ (x y : A). x ≡ y) R.zero R.sum R.product R.one points values count a
 
 -- the product of (x - y) / (p - y) over the other points y
 abbrev pub lagrange_weight : {A : Type 0} → Field A → A → A → List A → A

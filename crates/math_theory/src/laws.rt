@@ -1,5 +1,6 @@
 //! The main theorems, by subject.
 
+pub mod decoding;
 pub mod domains;
 pub mod interpolation;
 pub mod recovery;

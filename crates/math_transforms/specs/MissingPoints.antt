@@ -36,10 +36,10 @@ piece_value R n Everywhere r = R.sum (power R.one R.product r n) (R.negative R.o
 piece_value R n (Somewhere p) r = value_in_ring R p.items r
 
 -- a piece has at most n coefficients
-abbrev pub HasLength : {A : Type 0} → ℕ → Piece A → Type 0
-HasLength n Nowhere = Unit {0}
-HasLength n Everywhere = Unit {0}
-HasLength n (Somewhere p) = vec_len p ≤ n
+abbrev pub HasAtMost : {A : Type 0} → ℕ → Piece A → Type 0
+HasAtMost n Nowhere = Unit {0}
+HasAtMost n Everywhere = Unit {0}
+HasAtMost n (Somewhere p) = vec_len p ≤ n
 
 -- a piece vanishes at all points
 abbrev pub IsEverywhere : {A : Type 0} → Piece A → Type 0

@@ -40,7 +40,7 @@ ghost use Rattle.math_transforms.specs.MissingPoints.{
   every,
   missing_product,
   piece_value,
-  HasLength,
+  HasAtMost,
   IsEverywhere,
   IsMerged,
   IsVanishing,
@@ -186,7 +186,7 @@ fn chunk<F: FieldNTT>(
     requires covers { 2 ^ lg * stride ≡ length points.now }
     requires fits { length points.now < 2 ^ 64 }
     requires room { work.old.root_products + 2 ^ 16 < 2 ^ 128 }
-    ensures length { IfOk result (λ piece. HasLength (2 ^ lg) piece) }
+    ensures length { IfOk result (λ piece. HasAtMost (2 ^ lg) piece) }
     ensures vanishes { IfOk result (λ piece.
         VanishesAtFalse F.Ring (F.root lg) (every start stride (2 ^ lg) points.now)
         (piece_value F.Ring (2 ^ lg) piece)) }
@@ -370,13 +370,13 @@ fn merged<F: FieldNTT>(
     requires domain { lg ≤ F.MAX_LG_ROOT_ORDER }
     requires small { lg < 64 }
     requires positive { 0 < lg }
-    requires left { HasLength (2 ^ (lg - 1)) left }
-    requires right { HasLength (2 ^ (lg - 1)) right }
+    requires left { HasAtMost (2 ^ (lg - 1)) left }
+    requires right { HasAtMost (2 ^ (lg - 1)) right }
     requires evaluation { ArePowersByLevel F.Ring F.root lg evaluation.now }
     requires interpolation { ArePowersByLevel F.Ring
         (λ l. F.inverse (F.root l)) lg interpolation.now }
     requires room { 2 * work.old.butterflies + 3 * 2 ^ lg * lg < 2 ^ 129 }
-    ensures length { IfOk result (λ piece. HasLength (2 ^ lg) piece) }
+    ensures length { IfOk result (λ piece. HasAtMost (2 ^ lg) piece) }
     ensures merged { IfOk result (λ piece. IsMerged F.Ring (F.inverse (F.root lg))
         (piece_value F.Ring (2 ^ (lg - 1)) left) (piece_value F.Ring (2 ^ (lg - 1)) right)
         (piece_value F.Ring (2 ^ lg) piece)) }
@@ -458,7 +458,7 @@ fn tree<F: FieldNTT>(
         (λ l. F.inverse (F.root l)) lg interpolation.now }
     requires room { 2 * work.old.butterflies + 2 ^ lg * lg * (3 * lg - 1) < 2 ^ 129 }
     requires product_room { work.old.root_products + 128 * 2 ^ lg + 2 ^ 16 < 2 ^ 128 }
-    ensures length { IfOk result (λ piece. HasLength (2 ^ lg) piece) }
+    ensures length { IfOk result (λ piece. HasAtMost (2 ^ lg) piece) }
     ensures vanishes { IfOk result (λ piece.
         VanishesAtFalse F.Ring (F.root lg) (every start stride (2 ^ lg) points.now)
         (piece_value F.Ring (2 ^ lg) piece)) }

@@ -1,5 +1,6 @@
 //! The calls that rows name: each module runs those of one subject.
 
+mod combinations;
 mod interpolation;
 mod root_weights;
 
@@ -13,7 +14,7 @@ use rows_base::fault::Fault;
 use rows_base::{algebra, goldilocks, maps};
 use rows_encodings::{encodings, sampling};
 use rows_ntt::{bitmaps, matrices, vectors};
-use rows_poly::{groups, polynomials};
+use rows_poly::{decoding, groups, polynomials};
 use rows_recovery::{recovery, transforms};
 use std::alloc::Global;
 
@@ -43,6 +44,8 @@ fn at_any<R: Element>(alloc: Global, row: Row<'_>, answer: &mut Answer<R>) -> Re
     Ok(
         algebra::run(alloc, call, arguments, answer)?
             || polynomials::run(alloc, call, arguments, answer)?
+            || decoding::run(alloc, call, arguments, answer)?
+            || combinations::run(alloc, call, arguments, answer)?
             || interpolation::run(alloc, call, arguments, answer)?
             || matrices::run(alloc, call, arguments, answer)?
             || vectors::run(alloc, call, arguments, answer)?

@@ -15,7 +15,7 @@ use rows_base::fault::Fault;
 use rows_base::goldilocks::put_element;
 use rows_base::words::{bytes, element, number, numbers, parted, short};
 use rows_ntt::matrices::matrix;
-use rows_poly::polynomials::{polynomial, stored};
+use rows_poly::polynomials::polynomial;
 use std::alloc::Global;
 
 /// Runs a call of this module; `false` where it is none.
@@ -54,8 +54,8 @@ fn plain_range(text: &str) -> Result<LengthRange, Fault> {
 }
 
 /// Adds the numbers of the coefficients.
-fn put_poly(alloc: Global, p: &Poly<F>, text: &mut String) -> Mem<()> {
-    for x in stored(alloc, p)?.iter() {
+fn put_poly(p: &Poly<F>, text: &mut String) -> Mem<()> {
+    for x in p.coefficients() {
         put_element(text, *x)?;
     }
     Ok(())
@@ -101,7 +101,7 @@ fn decode_poly(alloc: Global, arguments: &str, text: &mut String) -> Result<(), 
     let (range, all) = parted(arguments, '@')?;
     let cfg = (range_of(range)?, ());
     let all = bytes(alloc, all)?;
-    put_poly(alloc, &decode::<Poly<F>>(alloc, &all, &cfg)?, text)?;
+    put_poly(&decode::<Poly<F>>(alloc, &all, &cfg)?, text)?;
     Ok(())
 }
 
@@ -131,7 +131,7 @@ fn take_lists(alloc: Global, cfg: &str, input: &mut &[u8], text: &mut String) ->
 /// Reads a `poly` with the range of its length.
 fn take_poly(alloc: Global, cfg: &str, input: &mut &[u8], text: &mut String) -> Result<(), Fault> {
     let cfg = (range_of(cfg)?, ());
-    put_poly(alloc, &Poly::<F>::read_cfg(alloc, input, &cfg)?, text)?;
+    put_poly(&Poly::<F>::read_cfg(alloc, input, &cfg)?, text)?;
     Ok(())
 }
 

@@ -1,14 +1,12 @@
 //! Polynomials.
 
 use math_base::algebra::{Additive, Mem, Object, Space};
-use math_codec::codec::{LengthRange, decode, write_list};
 use math_poly::poly::Poly;
 use math_samples::elements::Element;
 use rows_base::answer::{Answer, put, put_firsts};
 use rows_base::fault::Fault;
 use rows_base::words::{element, elements, numbers, parted};
 use std::alloc::Global;
-use std::cell::RefCell;
 
 /// Runs a call of this module; `false` where it is none.
 pub fn run<R: Element>(
@@ -33,28 +31,13 @@ pub fn run<R: Element>(
     Ok(true)
 }
 
-/// The polynomial with n stored coefficients, which are the numbers below n.
-fn counting(alloc: Global, n: usize) -> Result<Poly<u64>, Fault> {
-    let mut numbers = Vec::new(alloc);
-    for i in 0..n as u64 {
-        numbers.push(i)?;
-    }
-    if numbers.len() > u32::MAX as usize {
-        return Err(Fault::OutOfRange("2^32 coefficients"));
-    }
-    let mut bytes = Vec::new(alloc);
-    write_list(alloc, &numbers, &mut bytes)?;
-    Ok(decode(alloc, &bytes, &(LengthRange::at_most(u32::MAX), ()))?)
-}
-
 /// The polynomial whose coefficients are the words, from the constant upwards.
 pub fn polynomial<R: Element>(alloc: Global, text: &str) -> Result<Poly<R>, Fault> {
     let coefficients = elements::<R>(alloc, text)?;
-    let places = counting(alloc, coefficients.len())?;
-    Ok(places.translate(alloc, |i: &u64| match coefficients.get(*i as usize) {
-        Some(coefficient) => coefficient.clone(alloc),
-        None => R::zero(alloc),
-    })?)
+    if coefficients.is_empty() || coefficients.len() > u32::MAX as usize {
+        return Err(Fault::OutOfRange("no coefficient, or 2^32"));
+    }
+    Ok(Poly::from_coefficients(coefficients))
 }
 
 /// The polynomials of a text, with `;` between them.
@@ -66,21 +49,9 @@ pub fn polynomials<R: Element>(alloc: Global, text: &str) -> Result<Vec<Poly<R>>
     Ok(out)
 }
 
-/// Copies of the stored coefficients.
-pub fn stored<R: Object>(alloc: Global, p: &Poly<R>) -> Mem<Vec<R>> {
-    let seen = RefCell::new(Vec::new(alloc));
-    p.translate(alloc, |coefficient: &R| {
-        if let Ok(mut seen) = seen.try_borrow_mut() {
-            seen.push(coefficient.clone(alloc)?)?;
-        }
-        Ok(())
-    })?;
-    Ok(seen.into_inner())
-}
-
 /// Adds the stored coefficients.
 pub fn put_stored<R: Element>(alloc: Global, p: &Poly<R>, answer: &mut Answer<R>) -> Mem<()> {
-    answer.copies(alloc, &stored(alloc, p)?)
+    answer.copies(alloc, p.coefficients())
 }
 
 /// `eval C .. @ X`, `eval_msm C .. @ X`: the value at X.

@@ -16,6 +16,8 @@ pub enum Fault {
     Deal(DealError),
     #[error("refused: {0}")]
     Combine(CombineError),
+    #[error("refused: too many of the shares are wrong")]
+    Wrong,
     #[error("refused: {0}")]
     Io(io::Error),
 }

@@ -15,13 +15,13 @@ use shard_format::header::Header;
 /// It refuses where too few are there, and where the shards of a block give no data.
 pub fn join(rt: &HostRuntime, file: &str, out: &str, force: bool) -> Result<(), Fault> {
     let mut files = Vec::new(rt.alloc());
-    let done = joined(rt, file, out, force, &mut files);
-    tell(rt, &files)?;
+    let done = restore_file(rt, file, out, force, &mut files);
+    print_unsound_files(rt, &files)?;
     done
 }
 
 /// Names on standard error each file with which something is wrong.
-fn tell(rt: &HostRuntime, files: &[ShardFile]) -> Result<(), Fault> {
+fn print_unsound_files(rt: &HostRuntime, files: &[ShardFile]) -> Result<(), Fault> {
     for shard in files {
         if !shard.is_sound() {
             let line = line_of(rt, shard)?;
@@ -32,7 +32,7 @@ fn tell(rt: &HostRuntime, files: &[ShardFile]) -> Result<(), Fault> {
 }
 
 /// Restores the file, and notes what is wrong at the files.
-fn joined(
+fn restore_file(
     rt: &HostRuntime,
     file: &str,
     out: &str,
@@ -71,7 +71,7 @@ fn fill(
         let size = restored.left.min(u64::from(split.block)) as u32;
         let bytes = block_in(rt.alloc(), files, split, number, size)?;
         restored.write(rt.alloc(), &bytes)?;
-        progress.tell(rt, restored.left);
+        progress.print_percentage(rt, restored.left);
         number = number.saturating_add(1);
     }
     Ok(())
@@ -102,7 +102,7 @@ struct Findings {
 
 impl Findings {
     /// Notes that a block is refused. Where memory ran out nothing is found.
-    fn note(&mut self, fault: Fault) -> Result<(), Fault> {
+    fn add_refused_block(&mut self, fault: Fault) -> Result<(), Fault> {
         if matches!(fault, Fault::Memory(_)) {
             return Err(fault);
         }
@@ -115,7 +115,7 @@ impl Findings {
 }
 
 /// Joins each block, and notes what is wrong.
-fn tried(rt: &HostRuntime, split: &Header, files: &mut [ShardFile]) -> Result<Findings, Fault>
+fn try_blocks(rt: &HostRuntime, split: &Header, files: &mut [ShardFile]) -> Result<Findings, Fault>
     requires some { 1 ≤ split.now.min }
     requires block { 1 ≤ split.now.block }
 {
@@ -129,11 +129,11 @@ fn tried(rt: &HostRuntime, split: &Header, files: &mut [ShardFile]) -> Result<Fi
     while left > 0 {
         let size = left.min(u64::from(split.block)) as u32;
         if let Err(fault) = block_in(rt.alloc(), files, split, findings.blocks, size) {
-            findings.note(fault)?;
+            findings.add_refused_block(fault)?;
         }
         findings.blocks = findings.blocks.saturating_add(1);
         left -= u64::from(size);
-        progress.tell(rt, left);
+        progress.print_percentage(rt, left);
     }
     Ok(findings)
 }
@@ -145,11 +145,11 @@ pub fn check(rt: &HostRuntime, file: &str) -> Result<(String, bool), Fault> {
     let split = match gather(rt, file, &mut files) {
         Ok(split) => split,
         Err(fault) => {
-            tell(rt, &files)?;
+            print_unsound_files(rt, &files)?;
             return Err(fault);
         }
     };
-    let findings = tried(rt, &split, &mut files)?;
+    let findings = try_blocks(rt, &split, &mut files)?;
     let mut text = String::new(rt.alloc());
     list(rt, file, &split, &files, &mut text)?;
     let (min, total, length) = (split.min, split.total, split.length);

@@ -24,7 +24,7 @@ impl Progress {
     }
 
     /// Tells how much is done where so many bytes are left, if that makes another percent.
-    pub fn tell(&mut self, rt: &HostRuntime, left: u64) {
+    pub fn print_percentage(&mut self, rt: &HostRuntime, left: u64) {
         if !self.is_told {
             return;
         }

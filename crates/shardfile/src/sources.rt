@@ -66,14 +66,14 @@ impl ShardFile {
         match shard_in(alloc, file, split, self.number, number, bytes)? {
             Ok(shard) => Ok(Some(shard)),
             Err(why) => {
-                self.note(number, why);
+                self.add_lost_block(number, why);
                 Ok(None)
             }
         }
     }
 
     /// Notes that its shard of a block is not used.
-    fn note(&mut self, block: u64, why: &'static str) {
+    fn add_lost_block(&mut self, block: u64, why: &'static str) {
         if self.lost == 0 {
             self.first_lost = block;
             self.why = why;
@@ -98,7 +98,10 @@ fn bytes_at(
 }
 
 /// The open file and its header, or what is wrong.
-fn opened(rt: &HostRuntime, name: &str) -> Result<Result<(File, Header), &'static str>, Fault> {
+fn open_shard_file(
+    rt: &HostRuntime,
+    name: &str,
+) -> Result<Result<(File, Header), &'static str>, Fault> {
     let Ok(metadata) = fs::metadata(rt, name) else {
         return Ok(Err("cannot be looked at"));
     };
@@ -122,7 +125,7 @@ fn opened(rt: &HostRuntime, name: &str) -> Result<Result<(File, Header), &'stati
 /// The file with the name of this shard.
 fn shard_file(rt: &HostRuntime, file: &str, number: u32) -> Result<ShardFile, Fault> {
     let name = shard_name(rt, file, number)?;
-    let (source, fault) = match opened(rt, name.as_str())? {
+    let (source, fault) = match open_shard_file(rt, name.as_str())? {
         Ok(source) => (Some(source), None),
         Err(fault) => (None, Some(fault)),
     };
@@ -328,6 +331,6 @@ fn note_at(files: &mut [ShardFile], places: &[usize], position: usize, number: u
         return;
     };
     if let Some(file) = files.get_mut(*place) {
-        file.note(number, "it does not fit the others");
+        file.add_lost_block(number, "it does not fit the others");
     }
 }

@@ -21,7 +21,7 @@ pub fn split(rt: &HostRuntime, min: u32, total: u32, file: &str, force: bool) ->
     requires some { 1 ≤ min }
     requires within { min ≤ total }
 {
-    let (mut source, length) = opened(rt, file)?;
+    let (mut source, length) = open_source(rt, file)?;
     check_beyond(rt, file, total)?;
     let block = (Header::largest_block(min, total) / 4).max(1);
     let header = Header {
@@ -42,7 +42,7 @@ pub fn split(rt: &HostRuntime, min: u32, total: u32, file: &str, force: bool) ->
 }
 
 /// The regular file with this name, and its length.
-fn opened(rt: &HostRuntime, file: &str) -> Result<(File, u64), Fault> {
+fn open_source(rt: &HostRuntime, file: &str) -> Result<(File, u64), Fault> {
     let metadata = match fs::metadata(rt, file) {
         Ok(metadata) => metadata,
         Err(error) => return Err(Fault::File(owned(rt, file)?, error)),
@@ -86,7 +86,7 @@ fn fill(
         let bytes = bytes_of(rt, source, file, size as usize)?;
         let shards = split_block(rt.alloc(), &bytes, split.min, split.total)?;
         files.write(rt.alloc(), &shards, size)?;
-        progress.tell(rt, files.left);
+        progress.print_percentage(rt, files.left);
     }
     check_end(rt, source, file)
 }

@@ -36,7 +36,7 @@ module _ {A : Type 0} (R : RingOf A) (E : IsEquality R.same) (G : IsGroup R.same
   abbrev ArePointsOf : List (Share A) → List A → Type 0
   ArePointsOf shares xs = AllZip (λ share x. R.same x (point R share.index)) shares xs
 
-  alike_points : (shares : List (Share A)) (xs : List A) → ArePointsOf shares xs → AllZip R.same xs (points R shares)
+  pub alike_points : (shares : List (Share A)) (xs : List A) → ArePointsOf shares xs → AllZip R.same xs (points R shares)
   alike_points [] [] h = tt
   alike_points [] (x ∷ xs) h = absurd h
   alike_points (s ∷ shares) [] h = absurd h

@@ -3,3 +3,4 @@ pub mod PairsByPlace
 pub mod DealtShares
 pub mod CombinedShares
 pub mod DealingSteps
+pub mod CorrectedShares

@@ -1,2 +1,3 @@
 pub mod Shares
 pub mod ShareLaws
+pub mod CorrectedShares

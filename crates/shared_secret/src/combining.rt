@@ -46,7 +46,10 @@ pub fn combine<F: Field>(alloc: Global, t: u32, shares: &[Share<F>]) -> Result<F
 }
 
 /// The points of the indices, in order; none is zero, and no two are the same.
-fn distinct_points<F: Field>(alloc: Global, shares: &[Share<F>]) -> Result<Vec<F>, CombineError>
+pub(super) fn distinct_points<F: Field>(
+    alloc: Global,
+    shares: &[Share<F>],
+) -> Result<Vec<F>, CombineError>
     ensures points { IfOk result (λ xs. AllZip (λ share x. F.same x (point F.Ring share.index)) shares.now xs.items) }
     ensures nonzero { IfOk result (λ xs. All (λ x. ¬ (F.same x F.zero)) xs.items) }
     ensures apart { IfOk result (λ xs. AreApart F.same xs.items) }
@@ -93,7 +96,7 @@ fn by_place<T: Drop>(alloc: Global, items: Vec<T>) -> Mem<Vec<(usize, T)>>
 }
 
 /// Copies of the values, in order.
-fn copied_values<T: Object>(alloc: Global, shares: &[Share<T>]) -> Mem<Vec<T>>
+pub(super) fn copied_values<T: Object>(alloc: Global, shares: &[Share<T>]) -> Mem<Vec<T>>
     ensures { IfOk result (λ copies. AllZip (λ share copy. T.same copy share.value) shares.now copies.items) }
 {
     let mut out = Vec::with_capacity(alloc, shares.len())?;

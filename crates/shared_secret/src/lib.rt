@@ -7,6 +7,7 @@
 #![tactic(auto)]
 
 mod combining;
+mod correcting;
 mod dealing;
 mod error;
 pub mod laws;
@@ -14,6 +15,7 @@ mod shares;
 mod verifying;
 
 pub use combining::combine;
+pub use correcting::{Corrected, combine_corrected};
 pub use dealing::{deal, deal_committed, shares_of};
 pub use error::{CombineError, DealError};
 pub use shares::{Share, point};

@@ -20,12 +20,13 @@ use std::process::ExitCode;
 use std::{env, io};
 use sweeps_base::refusals;
 use sweeps_base::table::{Table, Texts};
-use sweeps_poly::{combinations, commitments, interpolation, polynomials};
+use sweeps_poly::{combinations, commitments, decoding, interpolation, polynomials};
 
 /// The sweeps at any field with the domain of four points.
 fn at_any<R: Element>(alloc: Global, table: &mut Table<'_>) -> Mem<()> {
     table.sweep::<polynomials::Given<R>>(alloc, &polynomials::NAMES)?;
     table.sweep::<combinations::Given<R>>(alloc, &combinations::NAMES)?;
+    table.sweep::<decoding::Given<R>>(alloc, &decoding::NAMES)?;
     table.sweep::<transforms::Given<R>>(alloc, &transforms::NAMES)?;
     table.sweep::<interpolation::Given<R>>(alloc, &interpolation::NAMES)
 }

@@ -5,14 +5,23 @@ use commonware_math::fields::goldilocks::F;
 use commonware_math::poly::Poly;
 use math_samples::boxed::Boxed;
 use math_samples::sources::Listed;
-use shared_secret::{CombineError, DealError, Share, combine, deal, deal_committed, verify};
+use shared_secret::{
+    CombineError, Corrected, DealError, Share, combine, combine_corrected, deal, deal_committed,
+    verify,
+};
 use std::alloc::{AllocError, Global};
 use sweeps_base::handed::Handed;
 use sweeps_base::table::Calls;
 use sweeps_base::values::number;
 
 /// What is swept.
-pub const NAMES: [&str; 4] = ["deal", "deal_committed", "combine", "verify"];
+pub const NAMES: [&str; 5] = [
+    "deal",
+    "deal_committed",
+    "combine",
+    "combine_corrected",
+    "verify",
+];
 
 /// Shares, and the commitment to their polynomial.
 type Committed = (Vec<Share<Boxed<F>>>, Poly<Boxed<F>>);
@@ -30,6 +39,7 @@ pub enum Answer {
     Shares(Option<Vec<Share<Boxed<F>>>>),
     Committed(Option<Committed>),
     Secret(Option<Boxed<F>>),
+    Corrected(Option<Corrected<Boxed<F>>>),
     Truth(bool),
 }
 
@@ -51,6 +61,15 @@ fn committed(alloc: Global, secret: Boxed<F>) -> Mem<Option<Committed>> {
 fn combined(alloc: Global, shares: &[Share<Boxed<F>>]) -> Mem<Option<Boxed<F>>> {
     match combine(alloc, 2, shares) {
         Ok(secret) => Ok(Some(secret)),
+        Err(CombineError::Memory(refused)) => Err(refused),
+        Err(_) => Ok(None),
+    }
+}
+
+/// The secret of the shares, any two of which combine to it, and which of them are wrong: none.
+fn corrected(alloc: Global, shares: &[Share<Boxed<F>>]) -> Mem<Option<Corrected<Boxed<F>>>> {
+    match combine_corrected(alloc, 2, shares) {
+        Ok(found) => Ok(found),
         Err(CombineError::Memory(refused)) => Err(refused),
         Err(_) => Ok(None),
     }
@@ -78,6 +97,7 @@ impl Calls for Given {
             ))?),
             "deal_committed" => Answer::Committed(committed(alloc, self.secret.take()?)?),
             "combine" => Answer::Secret(combined(alloc, shares)?),
+            "combine_corrected" => Answer::Corrected(corrected(alloc, shares)?),
             "verify" => Answer::Truth(verify(
                 alloc,
                 shares.first().ok_or(AllocError)?,

@@ -3,5 +3,6 @@
 
 pub mod combinations;
 pub mod commitments;
+pub mod decoding;
 pub mod interpolation;
 pub mod polynomials;

@@ -1,0 +1,17 @@
+-- Two remainders of Euclid's algorithm in turn, each with its factor.
+use Rattle.std.specs.Prelude.{◌≡◌, ◌+◌, ◌-◌, ◌<◌, List, length}
+use Rattle.math_theory.specs.Decoding.{IsKept}
+use Rattle.math_theory.specs.Division.{HasExactDegree}
+
+-- the values of r and of r' are those of v and of v' times the values given; r' has fewer coefficients than r, and v than v'; the degrees of r, of
+-- r' and of v' are as great as their lengths let them, and those of r and of v' have the number of points as their sum
+pub record AreRemainders {A : Type 0} (same : A → A → Type 0) (zero : A) (sum : A → A → A) (product : A → A → A) (one : A)
+    (points values r v r' v' : List A) : Type 0 where
+  pub kept : IsKept same zero sum product one points values r v
+  pub kept' : IsKept same zero sum product one points values r' v'
+  pub degree : HasExactDegree same zero r (length r - 1)
+  pub degree' : 0 < length r' → HasExactDegree same zero r' (length r' - 1)
+  pub factor : HasExactDegree same zero v' (length v' - 1)
+  pub shorter : length r' < length r
+  pub longer : length v < length v'
+  pub degrees : length v' + length r ≡ length points + 2

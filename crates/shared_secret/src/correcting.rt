@@ -1,0 +1,70 @@
+//! Combining of shares of which some are wrong.
+
+ghost use Rattle.std.specs.Prelude.{◌≡◌, ◌<◌, List, length, IfOk, IfErr, IfSome, IfNone};
+ghost use Rattle.math_theory.specs.Interpolation.{SomeAreSame};
+ghost use Rattle.math_base.specs.Polynomials.{value_in_ring};
+ghost use Rattle.shared_secret.specs.CorrectedShares.{AreWithinRadius, IsCorrected};
+ghost use Rattle.shared_secret.specs.Shares.{AreCombinable, HasZeroIndex, points};
+ghost use Rattle.shared_secret.specs.declared.error.CombineError.TheVariants.{TooFewShares, ZeroIndex, RepeatedIndex};
+
+use crate::combining::{copied_values, distinct_points};
+use crate::error::CombineError;
+use crate::shares::Share;
+use commonware_math::algebra::{Field, Mem, Ring};
+use math_decoding::decoding::{Decoded, decode};
+use std::alloc::Global;
+
+/// A secret, and by rising number the places of the shares that were wrong.
+#[derive(Debug, Drop)]
+pub struct Corrected<F: Drop> {
+    pub secret: F,
+    pub wrong: Vec<usize>,
+}
+
+/// Combines n shares, in any order, of which at most (n - t) / 2 are wrong, to the secret, and says which are wrong.
+///
+/// The secret is the constant of the polynomial of t coefficients that has all but at most (n - t) / 2 of the shares;
+/// there is one at most. It answers `None` exactly where there is none. Where more shares are wrong, that may be so, or
+/// they may fit another polynomial, whose constant is then answered.
+///
+/// It refuses as `combine` does.
+pub fn combine_corrected<F: Field>(
+    alloc: Global,
+    t: u32,
+    shares: &[Share<F>],
+) -> Result<Option<Corrected<F>>, CombineError>
+    ensures combinable { IfOk result (λ _. AreCombinable F.Ring t shares.now) }
+    ensures found { IfOk result (λ answer. IfSome answer (λ c.
+        IsCorrected F.Ring t shares.now c.secret c.wrong.items)) }
+    ensures none { IfOk result (λ answer. IfNone answer ((p : List F) → ¬ (AreWithinRadius F.Ring t p shares.now))) }
+    ensures few { IfErr result (λ error. error ≡ TooFewShares → length shares.now < t) }
+    ensures zero { IfErr result (λ error. error ≡ ZeroIndex → HasZeroIndex F.Ring shares.now) }
+    ensures repeated { IfErr result (λ error. error ≡ RepeatedIndex
+        → SomeAreSame F.same (points F.Ring shares.now)) }
+{
+    if shares.len() < t as usize {
+        return Err(CombineError::TooFewShares);
+    }
+    let points = distinct_points(alloc, shares)?;
+    let values = copied_values(alloc, shares)?;
+    let Some(found) = decode(alloc, &points, &values, t as usize)? else {
+        return Ok(None);
+    };
+    let secret = constant(alloc, &found.coefficients)?;
+    Ok(Some(Corrected {
+        secret,
+        wrong: found.wrong,
+    }))
+}
+
+/// The value at zero.
+fn constant<F: Ring>(alloc: Global, p: &[F]) -> Mem<F>
+    ensures { IfOk result (λ c. F.same c (value_in_ring F.Ring p.now F.zero)) }
+{
+    if p.len() == 0 {
+        let zero = F::zero(alloc)?;
+        return Ok(zero);
+    }
+    let constant = p[0].clone(alloc)?;
+    Ok(constant)
+}
