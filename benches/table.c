@@ -80,7 +80,7 @@ static uint64_t *some(size_t n) {
 static void line(const char *work, int lg, size_t cols, double time, double parts, const char *part, double *base) {
   double each = time * 1e9 / parts;
   if (*base == 0) *base = each;
-  printf("%-18s %4d %6zu %14.4f ms %10.3f ns a %-12s %8.2f\n", work, lg, cols, time * 1e3, each, part, each / *base);
+  printf("%-19s %4d %6zu %14.4f ms %10.3f ns a %-12s %8.2f\n", work, lg, cols, time * 1e3, each, part, each / *base);
 }
 
 /* the least time of some tries of `call` over a copy of n words */
@@ -115,7 +115,7 @@ static void transforms(size_t cols) {
   for (int lg = 10; lg <= 22; lg += 2) {
     size_t rows = (size_t)1 << lg, n = rows * cols;
     if (n > MOST_CELLS) {
-      printf("%-18s %4d %6zu    left out: more than 2^25 cells\n", "evaluate", lg, cols);
+      printf("%-19s %4d %6zu    left out: more than 2^25 cells\n", "evaluate", lg, cols);
       continue;
     }
     uint64_t *a = some(n), *b = words(n), *c = words(n);
@@ -151,6 +151,72 @@ static void recoveries(size_t cols) {
     line("recover, third", lg, cols, time, (double)rows * lg * (3 * lg + 3 * (double)cols + 2) / 2, "butterfly", &base);
     if (memcmp(a, c, n * sizeof *a) != 0) fail("recover");
     free(a), free(b), free(c), free(filled);
+  }
+}
+
+/* as recoveries, by the call that corrects wrong rows: none is wrong, or in the first column one */
+static void corrections(size_t cols, int spoiled) {
+  const char *work = spoiled ? "correct, one wrong" : "correct, none wrong";
+  double base = 0, time;
+  for (int lg = 8; lg <= (spoiled ? 12 : 20); lg += 2) {
+    size_t rows = (size_t)1 << lg, n = rows * cols, m = 0, count, written = 0, last = 0;
+    uint8_t *filled = malloc(rows);
+    size_t *wrong = malloc(rows * sizeof *wrong);
+    if (filled == NULL || wrong == NULL) fail("malloc");
+    for (size_t i = 0; i < rows; i++) m += filled[i] = word() % 3 != 0;
+    count = m - 2;
+    uint64_t *a = some(n), *b = words(n), *c = words(n);
+    memset(a + count * cols, 0, (n - count * cols) * sizeof *a);
+    memcpy(b, a, n * sizeof *a);
+    need("evaluate", cwm_evaluate(b, n, cols));
+    for (size_t i = 0; i < rows; i++) {
+      if (filled[i]) last = i;
+      else memset(b + i * cols, 255, cols * sizeof *b);
+    }
+    if (spoiled) b[last * cols] ^= 1;
+    LEAST(time, c, b, n, need("correct", cwm_correct(c, n, cols, filled, rows, count, wrong, rows, &written)));
+    line(work, lg, cols, time, spoiled ? (double)m * (double)m : (double)rows * lg * (3 * lg + 3 * (double)cols + 2) / 2,
+         spoiled ? "pair" : "butterfly", &base);
+    if (memcmp(a, c, n * sizeof *a) != 0 || written != (size_t)spoiled || (spoiled && wrong[0] != last)) fail("correct");
+    free(a), free(b), free(c), free(filled), free(wrong);
+  }
+}
+
+/* a product in the field as the library's, for the plain loop that decoding is compared with */
+static uint64_t product(uint64_t a, uint64_t b) {
+  unsigned __int128 x = (unsigned __int128)a * b;
+  uint64_t low = (uint64_t)x, high = (uint64_t)(x >> 64), top = high >> 32, t = low - top;
+  if (low < top) t -= UINT64_C(0xffffffff);
+  uint64_t middle = (high & UINT64_C(0xffffffff)) * UINT64_C(0xffffffff), out = t + middle;
+  if (out < middle) out += UINT64_C(0xffffffff);
+  return out >= CWM_MODULUS ? out - CWM_MODULUS : out;
+}
+
+/* so many products, each taken from one of n words */
+static void subtract_products(uint64_t *c, const uint64_t *a, const uint64_t *b, size_t n, size_t products) {
+  for (size_t i = 0; i < products / n; i++) {
+    for (size_t j = 0; j < n; j++) {
+      uint64_t p = product(a[j], b[i % n]);
+      c[j] = c[j] - p + (c[j] < p ? CWM_MODULUS : 0);
+    }
+  }
+}
+
+/* n values of which an eighth is wrong, and as many products with a difference each in a plain loop */
+static void decodings(void) {
+  double base = 0, plain = 0, time;
+  for (size_t n = 64; n <= 1024; n *= 4) {
+    size_t k = n / 4 * 3, e = n / 8, written = 0, wrong[128], products = 2 * n * (n + 1) + 2 * e * n + k * (e + 1) + n * k;
+    uint64_t *points = some(n), *f = some(k), *v = words(n), *c = words(n), *out = words(k);
+    for (size_t i = 0; i < n; i++) v[i] = value(f, k, 1, points[i]);
+    for (size_t i = 0; i < e; i++) v[8 * i + 3] ^= 1;
+    LEAST(time, c, v, n, need("decode", cwm_decode(points, n, c, n, out, k, wrong, 128, &written)));
+    if (written != e || wrong[0] != 3 || memcmp(out, f, k * sizeof *f) != 0) fail("decode");
+    line("decode, 1/8 wrong", (int)n, 1, time, (double)products, "product", &base);
+    LEAST(time, c, v, n, subtract_products(c, points, v, n, products));
+    line("as many products", (int)n, 1, time, (double)products, "product", &plain);
+    if (c[0] == 0 && c[1] == 0) fail("as many products");
+    free(points), free(f), free(v), free(c), free(out);
   }
 }
 
@@ -235,13 +301,17 @@ static void shards(const char *split, const char *join, uint32_t min, int from) 
 
 int main(int argc, char **argv) {
   if (argc > 1) seconds = atoi(argv[1]);
-  printf("%-18s %4s %6s %17s %28s %8s\n", "work", "lg", "cols", "time", "for one", "growth");
+  printf("%-19s %4s %6s %17s %28s %8s\n", "work", "lg", "cols", "time", "for one", "growth");
   evals();
   transforms(1);
   transforms(8);
   transforms(64);
   recoveries(1);
   recoveries(16);
+  corrections(1, 0);
+  corrections(16, 0);
+  corrections(1, 1);
+  decodings();
   weights();
   encodings();
   shards("split, 8 of 16", "join, 8 of 16", 8, 10);

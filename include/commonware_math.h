@@ -36,15 +36,16 @@ enum cwm_status {
   CWM_OUT_OF_MEMORY = 1,   /* malloc gave none */
   CWM_OUT_OF_RANGE = 2,    /* a word is P or more, or a byte that says whether a row is filled is neither 0 nor 1 */
   CWM_WRONG_SIZE = 3,      /* a number of words, rows or columns is none that the call takes, or there is no room */
-  CWM_TOO_FEW = 4,         /* fewer than `min` distinct indices of shards are there */
+  CWM_TOO_FEW = 4,         /* fewer than `min` distinct indices of shards are there, or fewer filled rows than coefficients */
   CWM_MISMATCH = 5,        /* not 1 <= min <= total */
   CWM_WRONG_INDEX = 6,     /* an index is not below the total, or of weights not above the one before it */
   CWM_CONFLICT = 7,        /* two shards have one index and unequal words */
-  CWM_INCONSISTENT = 8,    /* there are no data that have each of the shards */
+  CWM_INCONSISTENT = 8,    /* nothing fits: there are no data that have each of the shards, or no polynomials near the values */
   CWM_END_OF_BUFFER = 9,   /* the bytes end within a polynomial */
   CWM_INVALID_VARINT = 10, /* the bytes begin with no length */
   CWM_INVALID_LENGTH = 11, /* the length is zero */
-  CWM_EXTRA_DATA = 12      /* bytes follow the polynomial */
+  CWM_EXTRA_DATA = 12,     /* bytes follow the polynomial */
+  CWM_REPEATED = 13        /* a point is there twice */
 };
 
 /* How many bytes hold the text of any status and a zero behind it. */
@@ -76,6 +77,27 @@ uint32_t cwm_interpolate(uint64_t *cells, size_t n, size_t cols);
  * CWM_WRONG_SIZE. A byte of `filled` that is neither 0 nor 1, or a word of P or more in a filled row:
  * CWM_OUT_OF_RANGE. */
 uint32_t cwm_recover(uint64_t *cells, size_t n, size_t cols, const uint8_t *filled, size_t rows);
+
+/* As cwm_recover, where some of the filled rows are wrong, and nobody knows which. A row is wrong if one of its
+ * cells is. Puts in place of the cells the coefficients of polynomials of at most `count` coefficients that have
+ * the values of all m filled rows but at most (m - count) / 2, rounded down: then they are the only ones. Writes the
+ * numbers of these rows, rising, over the first of the `room` places of `wrong`, and how many they are into
+ * *written. Where there are no such polynomials: CWM_INCONSISTENT. Where more rows are wrong than that, they may
+ * fit other polynomials, which are then given.
+ * n, cols, rows and words as for cwm_recover. room is rows / 2 or more, else CWM_WRONG_SIZE. count is at most the
+ * number of filled rows, else CWM_TOO_FEW. With no wrong row it takes the time of cwm_recover; with some, time
+ * grows with their number and with m^2. */
+uint32_t cwm_correct(uint64_t *cells, size_t n, size_t cols, const uint8_t *filled, size_t rows, size_t count, size_t *wrong,
+                     size_t room, size_t *written);
+
+/* At each of n points stands a value, and some of the values are wrong. Writes the k coefficients of the polynomial
+ * that has all of the values but at most (n - k) / 2, rounded down: then it is the only one. Writes the places of
+ * these values, rising, over the first of the `room` places of `wrong`, and how many they are into *written. Where
+ * there is no such polynomial: CWM_INCONSISTENT. Where more values are wrong than that, they may fit another one.
+ * m is n, k is at most n, and room is (n - k) / 2 or more, else CWM_WRONG_SIZE. A word of P or more:
+ * CWM_OUT_OF_RANGE. A point that is there twice: CWM_REPEATED. Time grows with n^2. */
+uint32_t cwm_decode(const uint64_t *points, size_t n, const uint64_t *values, size_t m, uint64_t *coefficients, size_t k,
+                    size_t *wrong, size_t room, size_t *written);
 
 /* Writes for each of the n points a weight: the sum of the values at the points, each times its weight,
  * is the value at x, for every polynomial of at most n coefficients. Where x is one of the points, the

@@ -8,7 +8,7 @@
 #include <stdlib.h>
 #include <string.h>
 
-enum { ROWS = 512, COLS = 3, POINTS = 20, WORDS = 40, MIN = 3, TOTAL = 7, SHARD = 14 };
+enum { ROWS = 512, COLS = 3, POINTS = 20, WORDS = 40, MIN = 3, TOTAL = 7, SHARD = 14, FEW = 3, SMALL = 16 };
 
 /* All that the calls are given. */
 struct given {
@@ -16,7 +16,8 @@ struct given {
   uint8_t filled[ROWS], bytes[8 * POINTS + 5];
   uint32_t indices[POINTS];
   uint64_t data[WORDS], shards[TOTAL * SHARD];
-  size_t count;
+  uint64_t values[POINTS], coefficients[FEW], rows[SMALL];
+  size_t wrong[POINTS], count;
 };
 
 static struct given now, before, answer;
@@ -34,6 +35,11 @@ static uint32_t join(void) {
   return cwm_join(now.indices, MIN + 1, MIN, TOTAL, now.shards, (MIN + 1) * SHARD, now.data, WORDS, &now.count);
 }
 
+static uint32_t decode(void) {
+  return cwm_decode(now.points, POINTS, now.values, POINTS, now.coefficients, FEW, now.wrong, POINTS, &now.count);
+}
+static uint32_t correct(void) { return cwm_correct(now.rows, SMALL, 1, now.filled, SMALL, FEW, now.wrong, POINTS, &now.count); }
+
 static const struct {
   const char *name;
   uint32_t (*call)(void);
@@ -42,16 +48,19 @@ static const struct {
     {"cwm_eval", eval, 1},         {"cwm_evaluate", evaluate, 1},       {"cwm_interpolate", interpolate, 1},
     {"cwm_recover", recover, 1},   {"cwm_weights", weights, 1},         {"cwm_weights_at_roots", weights_at_roots, 1},
     {"cwm_split", split, 1},       {"cwm_join", join, 1},               {"cwm_encode_poly", encode_poly, 1},
-    {"cwm_decode_poly", decode_poly, 0},
+    {"cwm_decode_poly", decode_poly, 0}, {"cwm_decode", decode, 1},     {"cwm_correct", correct, 1},
 };
 
-/* Words below P, a third of the rows missing, three coefficients in bytes, and shards with rising indices. */
+/* Words below P, a third of the rows missing, three coefficients in bytes, shards with rising indices, and values and rows
+ * of constants of which one is wrong. */
 static int make(void) {
   for (int i = 0; i < ROWS * COLS; i++) before.cells[i] = (uint64_t)i * 0x9e3779b97f4a7c15 % CWM_MODULUS;
   for (int i = 0; i < ROWS; i++) before.filled[i] = i % 3 != 0;
   for (int i = 0; i < POINTS; i++) before.points[i] = 7 + 3 * i, before.weights[i] = 9, before.indices[i] = i;
   for (int i = 0; i < WORDS; i++) before.data[i] = (uint64_t)i << 50;
   before.bytes[0] = 3;
+  for (int i = 0; i < POINTS; i++) before.values[i] = 5 + (i == 4);
+  for (int i = 0; i < SMALL; i++) before.rows[i] = 5 + (i == 4);
   size_t n = 0;
   return cwm_shard_sizes(WORDS, MIN, TOTAL, &n) == CWM_DONE && n == SHARD
          && cwm_split(before.data, WORDS, MIN, TOTAL, before.shards, TOTAL * SHARD) == CWM_DONE;

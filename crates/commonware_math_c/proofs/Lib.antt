@@ -1,5 +1,7 @@
 pub mod WordElements
+pub mod WordDecodings
 pub mod WordMatrices
+pub mod WordCorrections
 pub mod WrittenWords
 pub mod ReadWords
 pub mod BlockValues

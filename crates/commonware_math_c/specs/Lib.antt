@@ -4,3 +4,5 @@ pub mod WordRows
 pub mod WordWeights
 pub mod WordEncodings
 pub mod WordShards
+pub mod WordDecodings
+pub mod WordCorrections

@@ -4,7 +4,7 @@ use Rattle.math_codec.specs.Faults as faults
 use Rattle.math_shards.specs.declared.shards.Error as shards
 use Rattle.math_shards.specs.declared.shards.Error.TheVariants as errors
 use Rattle.commonware_math_c.specs.declared.status.Status.{Status}
-use Rattle.commonware_math_c.specs.declared.status.Status.TheVariants.{Done, OutOfMemory, OutOfRange, WrongSize, TooFew, Mismatch, WrongIndex, Conflict, Inconsistent, EndOfBuffer, InvalidVarint, InvalidLength, ExtraData}
+use Rattle.commonware_math_c.specs.declared.status.Status.TheVariants.{Done, OutOfMemory, OutOfRange, WrongSize, TooFew, Mismatch, WrongIndex, Conflict, Inconsistent, EndOfBuffer, InvalidVarint, InvalidLength, ExtraData, Repeated}
 
 -- the number of a status
 abbrev pub code_of : Status → ℕ
@@ -21,6 +21,7 @@ code_of EndOfBuffer = 9
 code_of InvalidVarint = 10
 code_of InvalidLength = 11
 code_of ExtraData = 12
+code_of Repeated = 13
 
 -- the call did what it says
 abbrev pub done : ℕ
@@ -38,6 +39,10 @@ out_of_range = 2
 abbrev pub wrong_size : ℕ
 wrong_size = 3
 
+-- fewer distinct indices of shards are there than `min`, or fewer rows are filled than coefficients are asked for
+abbrev pub too_few : ℕ
+too_few = 4
+
 -- `min` and `total` are not such as shards have
 abbrev pub mismatch : ℕ
 mismatch = 5
@@ -45,6 +50,14 @@ mismatch = 5
 -- an index is not below the total, or of weights not above the one before it
 abbrev pub wrong_index : ℕ
 wrong_index = 6
+
+-- there is no answer that fits: no data that have each of the shards, or no polynomial near the values
+abbrev pub inconsistent : ℕ
+inconsistent = 8
+
+-- a point is there twice
+abbrev pub repeated : ℕ
+repeated = 13
 
 -- the status of a read that meets this fault, or none
 abbrev pub status_of_read : Result (Unit {0}) faults.Fault → ℕ
@@ -58,11 +71,11 @@ status_of_read (Err (faults.ExtraData n)) = 12
 -- the status of shards that give no data back, by what is wrong with them
 abbrev pub status_of_shards : shards.Error → ℕ
 status_of_shards (errors.Memory e) = out_of_memory
-status_of_shards errors.TooFew = 4
+status_of_shards errors.TooFew = too_few
 status_of_shards errors.Mismatch = mismatch
 status_of_shards errors.Index = wrong_index
 status_of_shards errors.Conflict = 7
-status_of_shards errors.Inconsistent = 8
+status_of_shards errors.Inconsistent = inconsistent
 
 -- the text of a status
 abbrev pub text_of : ℕ → List ℕ
@@ -71,13 +84,14 @@ text_of n =
     if n == 1 then codes "out of memory" else
     if n == 2 then codes "out of range" else
     if n == 3 then codes "wrong size" else
-    if n == 4 then codes "too few shards" else
+    if n == 4 then codes "too few" else
     if n == 5 then codes "mismatch" else
     if n == 6 then codes "wrong index" else
     if n == 7 then codes "unequal shards of one index" else
-    if n == 8 then codes "shards of no data" else
+    if n == 8 then codes "nothing fits" else
     if n == 9 then codes "end of buffer" else
     if n == 10 then codes "invalid varint" else
     if n == 11 then codes "invalid length" else
     if n == 12 then codes "extra data" else
+    if n == 13 then codes "repeated point" else
     codes "no status"

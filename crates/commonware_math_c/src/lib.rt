@@ -5,18 +5,24 @@
 //! a pointer and a length, and a `Global` takes no place among the arguments.
 #![tactic(auto)]
 
-ghost use Rattle.std.specs.Prelude.{◌≡◌, ◌≢◌, ◌<◌, ◌≤◌, ◌-◌, ◌*◌, ◌++◌, ◌⊎◌, ℕ, List, length, replicate, All};
+ghost use Rattle.std.specs.Prelude.{◌≡◌, ◌≢◌, ◌<◌, ◌≤◌, ◌-◌, ◌+◌, ◌*◌, ◌++◌, ◌⊎◌, ℕ, List, length, replicate, All};
 ghost use Rattle.math_numbers.specs.Goldilocks.{P};
-ghost use Rattle.math_base.specs.Elements.{number, residue};
+ghost use Rattle.math_theory.specs.Interpolation.{AreApart};
+ghost use Rattle.math_theory.specs.Recovery.{count_true};
+ghost use Rattle.math_base.specs.Elements.{number, residue, same};
 ghost use Rattle.math_base.specs.Polynomials.{value_in_ring};
-ghost use Rattle.commonware_math_c.specs.Statuses.{done, out_of_memory, out_of_range, wrong_size, mismatch, wrong_index, status_of_read, status_of_shards, text_of};
+ghost use Rattle.commonware_math_c.specs.Statuses.{done, inconsistent, out_of_memory, out_of_range, repeated, too_few, wrong_size, mismatch, wrong_index, status_of_read, status_of_shards, text_of};
+ghost use Rattle.commonware_math_c.specs.WordCorrections.{AreCorrectedWords, HaveNearRows};
+ghost use Rattle.commonware_math_c.specs.WordDecodings.{AreDecodedWords, HasDecodingSizes, HasNearWords};
 ghost use Rattle.commonware_math_c.specs.WordElements.{AreElements, elements, goldilocks};
-ghost use Rattle.commonware_math_c.specs.WordRows.{AreWordValues, AreRecoveredWords, AreFilledElements, HasRows, HasRowsFor};
+ghost use Rattle.commonware_math_c.specs.WordRows.{AreWordValues, AreRecoveredWords, AreFilledElements, HasRows, HasRowsFor, truth};
 ghost use Rattle.commonware_math_c.specs.WordWeights.{AreRising, AreWordWeights, AreWordWeightsAtRoots};
 ghost use Rattle.commonware_math_c.specs.WordShards.{AreRefused, AreRowsOf, AreWordsOfShards, DoJoinTo, HaveShardSizes, IsSplit};
 ghost use Rattle.math_shards.specs.declared.shards.Error.{Error};
 ghost use Rattle.commonware_math_c.specs.WordEncodings.{IsCoefficientCount, IsEncodedBy, StandInFront, polynomial_spelling, scan_polynomial};
 
+mod corrections;
+mod decodings;
 mod elements;
 mod polynomials;
 mod rows;
@@ -26,6 +32,8 @@ mod values;
 mod weights;
 
 use commonware_math::fields::goldilocks::MODULUS;
+use corrections::correct_words;
+use decodings::{are_decoding_sizes, decode_words};
 use elements::{are_elements, elements_below};
 use polynomials::is_coefficient_count;
 use rows::{are_filled_elements, are_marks, lg_of_rows, lg_of_these_rows};
@@ -129,6 +137,45 @@ pub extern "C" fn cwm_recover(alloc: Global, cells: &mut [u64], cols: usize, fil
     }
 }
 
+/// Puts the coefficients of the only polynomials that fit all filled rows but so few in place of the cells, in each
+/// column, and writes these rows.
+#[unsafe(no_mangle)]
+pub extern "C" fn cwm_correct(
+    alloc: Global,
+    cells: &mut [u64],
+    cols: usize,
+    filled: &[u8],
+    count: usize,
+    wrong: &mut [usize],
+    written: &mut usize,
+) -> u32
+    ensures corrected { result ≡ done
+        → AreCorrectedWords cols count cells.old filled.now cells.new wrong.old wrong.new written.new }
+    ensures kept { result ≢ done
+        → (cells.new ≡ cells.old) × (wrong.new ≡ wrong.old) × (written.new ≡ written.old) }
+    ensures none { result ≡ inconsistent → ¬ (HaveNearRows cols count cells.old filled.now) }
+    ensures few { result ≡ too_few → count_true (truth filled.now) < count }
+    ensures range { result ≡ out_of_range
+        → ¬ (All (λ b. b ≤ 1) filled.now × AreFilledElements cols cells.old filled.now) }
+    ensures size { result ≡ wrong_size → ¬ (HasRowsFor (length cells.old) cols (length filled.now)
+        × (length filled.now ≤ 2 * length wrong.old + 1)) }
+    ensures statuses { (result ≤ too_few) ⊎ (result ≡ inconsistent) }
+{
+    let Some(lg) = lg_of_these_rows(cells.len(), cols, filled.len()) else {
+        return Status::WrongSize.code();
+    };
+    if filled.len() / 2 > wrong.len() {
+        return Status::WrongSize.code();
+    }
+    if !are_marks(filled) || !are_filled_elements(cells, cols, filled) {
+        return Status::OutOfRange.code();
+    }
+    match correct_words(alloc, cells, lg, cols, filled, count, wrong, written) {
+        Ok(status) => status.code(),
+        Err(_) => Status::OutOfMemory.code(),
+    }
+}
+
 /// Writes the weights by which the values at the points give the value at x.
 #[unsafe(no_mangle)]
 pub extern "C" fn cwm_weights(alloc: Global, points: &[u64], x: u64, weights: &mut [u64]) -> u32
@@ -180,6 +227,40 @@ pub extern "C" fn cwm_weights_at_roots(
     }
     match weights::at_roots(alloc, nonzero, indices, x, weights) {
         Ok(()) => Status::Done.code(),
+        Err(_) => Status::OutOfMemory.code(),
+    }
+}
+
+/// Writes the coefficients of the only polynomial that differs from so few of the values at the points, and the places
+/// at which it does.
+#[unsafe(no_mangle)]
+pub extern "C" fn cwm_decode(
+    alloc: Global,
+    points: &[u64],
+    values: &[u64],
+    coefficients: &mut [u64],
+    wrong: &mut [usize],
+    count: &mut usize,
+) -> u32
+    ensures decoded { result ≡ done
+        → AreDecodedWords points.now values.now coefficients.new wrong.old wrong.new count.new }
+    ensures kept { result ≢ done
+        → (coefficients.new ≡ coefficients.old) × (wrong.new ≡ wrong.old) × (count.new ≡ count.old) }
+    ensures none { result ≡ inconsistent → ¬ (HasNearWords points.now values.now (length coefficients.old)) }
+    ensures repeated { result ≡ repeated → ¬ (AreApart same (elements points.now)) }
+    ensures range { result ≡ out_of_range → ¬ (AreElements points.now × AreElements values.now) }
+    ensures size { result ≡ wrong_size → ¬ (HasDecodingSizes (length points.now) (length values.now)
+        (length coefficients.old) (length wrong.old)) }
+    ensures statuses { (result ≤ wrong_size) ⊎ ((result ≡ inconsistent) ⊎ (result ≡ repeated)) }
+{
+    if !are_decoding_sizes(points.len(), values.len(), coefficients.len(), wrong.len()) {
+        return Status::WrongSize.code();
+    }
+    if !are_elements(points) || !are_elements(values) {
+        return Status::OutOfRange.code();
+    }
+    match decode_words(alloc, points, values, coefficients, wrong, count) {
+        Ok(status) => status.code(),
         Err(_) => Status::OutOfMemory.code(),
     }
 }

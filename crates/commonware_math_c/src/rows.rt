@@ -92,7 +92,7 @@ fn matrix_of(cells: Vec<F>, rows: usize, cols: usize) -> Matrix<F>
 }
 
 /// The words as a matrix of elements.
-fn matrix(alloc: Global, cells: &[u64], rows: usize, cols: usize) -> Mem<Matrix<F>>
+pub fn matrix(alloc: Global, cells: &[u64], rows: usize, cols: usize) -> Mem<Matrix<F>>
     requires { length cells.now ≡ rows * cols }
     ensures { IfOk result (λ m. m ≡ word_matrix rows cols cells.now) }
 {
@@ -136,7 +136,7 @@ pub fn interpolate(alloc: Global, cells: &mut [u64], items: Vec<F>, lg: u8, cols
 }
 
 /// A point for each byte, true where the byte is 1.
-fn points(alloc: Global, lg: u8, bytes: &[u8]) -> Mem<VanishingPoints>
+pub fn points(alloc: Global, lg: u8, bytes: &[u8]) -> Mem<VanishingPoints>
     requires small { lg ≤ 32 }
     requires count { length bytes.now ≡ 2 ^ lg }
     ensures { IfOk result (λ points. points ≡ truth bytes.now) }

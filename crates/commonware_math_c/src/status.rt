@@ -18,7 +18,7 @@ pub enum Status {
     OutOfRange = 2,
     /// A number of words, rows or columns is none that the call takes, or there is no room for the answer.
     WrongSize = 3,
-    /// Fewer than `min` distinct indices of shards are there.
+    /// Fewer than `min` distinct indices of shards are there, or fewer filled rows than coefficients.
     TooFew = 4,
     /// Not 1 <= `min` <= `total`.
     Mismatch = 5,
@@ -26,7 +26,7 @@ pub enum Status {
     WrongIndex = 6,
     /// Two shards have one index and unequal cells.
     Conflict = 7,
-    /// There are no data that have each of the shards.
+    /// There is no answer that fits: no data that have each of the shards, or no polynomial near the values.
     Inconsistent = 8,
     /// The bytes end within a polynomial.
     EndOfBuffer = 9,
@@ -36,6 +36,8 @@ pub enum Status {
     InvalidLength = 11,
     /// Bytes follow the polynomial.
     ExtraData = 12,
+    /// A point is there twice.
+    Repeated = 13,
 }
 
 impl Status {
@@ -87,15 +89,16 @@ fn text(status: u32) -> &'static str
         1 => "out of memory",
         2 => "out of range",
         3 => "wrong size",
-        4 => "too few shards",
+        4 => "too few",
         5 => "mismatch",
         6 => "wrong index",
         7 => "unequal shards of one index",
-        8 => "shards of no data",
+        8 => "nothing fits",
         9 => "end of buffer",
         10 => "invalid varint",
         11 => "invalid length",
         12 => "extra data",
+        13 => "repeated point",
         _ => "no status",
     }
 }

@@ -9,3 +9,8 @@ pub mod RecoverySteps
 pub mod OneColumn
 pub mod RecoveredWholes
 pub mod RecoveredFromValues
+pub mod MarkedRows
+pub mod NarrowedColumns
+pub mod CorrectionSteps
+pub mod CorrectionStates
+pub mod CopiedRecoveries

@@ -7,3 +7,5 @@ pub mod Evaluations
 pub mod MatrixPlaces
 pub mod RecoveredRows
 pub mod RecoveredValues
+pub mod CorrectedRows
+pub mod NarrowedRows

@@ -1,10 +1,12 @@
 //! Bitmaps of points, matrices, and vectors of polynomials and of their values at a domain.
 
+mod correction;
 mod evaluations;
 mod matrix;
 mod polynomials;
 mod recovery;
 
+pub use correction::Corrected;
 pub use evaluations::EvaluationVector;
 pub use math_transforms::columns::{EvaluationColumn, PolynomialColumn};
 pub use math_transforms::lagrange::{lagrange_coefficients, lagrange_coefficients_at};

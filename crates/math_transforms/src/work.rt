@@ -1,6 +1,6 @@
 //! The work of counted calls.
 
-ghost use Rattle.std.specs.Prelude.{◌≡◌, ◌+◌, ◌<◌, ◌^◌};
+ghost use Rattle.std.specs.Prelude.{◌≡◌, ◌+◌, ◌-◌, ◌<◌, ◌≤◌, ◌^◌, min};
 
 use std::marker::Model;
 
@@ -81,5 +81,18 @@ impl Work {
     {
         self.butterflies += other.butterflies;
         self.root_products += other.root_products;
+    }
+
+    /// Adds the work of the other. A count that comes to 2^128 or more becomes 2^128 - 1.
+    pub fn saturating_add(&mut self, other: Work)
+        ensures butterflies { self.new.butterflies
+            ≡ min (self.old.butterflies + other.butterflies) (2 ^ 128 - 1) }
+        ensures root_products { self.new.root_products
+            ≡ min (self.old.root_products + other.root_products) (2 ^ 128 - 1) }
+        ensures no_fewer { (self.old.butterflies ≤ self.new.butterflies)
+            × (self.old.root_products ≤ self.new.root_products) }
+    {
+        self.butterflies = self.butterflies.saturating_add(other.butterflies);
+        self.root_products = self.root_products.saturating_add(other.root_products);
     }
 }

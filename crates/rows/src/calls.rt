@@ -15,7 +15,7 @@ use rows_base::{algebra, goldilocks, maps};
 use rows_encodings::{encodings, sampling};
 use rows_ntt::{bitmaps, matrices, vectors};
 use rows_poly::{decoding, groups, polynomials};
-use rows_recovery::{recovery, transforms};
+use rows_recovery::{correction, recovery, transforms};
 use std::alloc::Global;
 
 /// Runs a call that adds words alone; `false` where it is none.
@@ -51,6 +51,7 @@ fn at_any<R: Element>(alloc: Global, row: Row<'_>, answer: &mut Answer<R>) -> Re
             || vectors::run(alloc, call, arguments, answer)?
             || transforms::run(alloc, call, arguments, answer)?
             || recovery::run(alloc, call, arguments, answer)?
+            || correction::run(alloc, call, arguments, answer)?
             || root_weights::run(alloc, call, arguments, answer)?
             || of_words(alloc, row, &mut answer.text)?,
     )

@@ -147,7 +147,7 @@ fn row_counts<R: Element>(alloc: Global, polynomials: &PolynomialVector<R>) -> M
 
 /// Adds the rows of coefficients up to the last one that is not zero, with `;` between them, and how many
 /// rows of zeros follow.
-fn put_rows<R: Element>(
+pub(crate) fn put_rows<R: Element>(
     alloc: Global,
     polynomials: &PolynomialVector<R>,
     answer: &mut Answer<R>,
@@ -163,7 +163,7 @@ fn put_rows<R: Element>(
 }
 
 /// The rows of values of `LG COLUMNS ROW: CELL .. ; ..`.
-fn listed<R: Element>(alloc: Global, text: &str) -> Result<Values<R>, Fault> {
+pub(crate) fn listed<R: Element>(alloc: Global, text: &str) -> Result<Values<R>, Fault> {
     let (lg, rest) = parted(text.trim(), ' ')?;
     let (cols, rows) = rest.split_once(' ').unwrap_or((rest, ""));
     let mut values = Values::empty(alloc, number(lg)?, number(cols)?)?;

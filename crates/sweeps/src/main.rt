@@ -44,6 +44,7 @@ fn run(alloc: Global, table: &mut Table<'_>) -> Mem<()> {
     table.sweep::<commitments::Given<Boxed<F>>>(alloc, &commitments::NAMES)?;
     table.sweep::<shares::Given>(alloc, &shares::NAMES)?;
     transforms::counts_of_refused_evaluations(alloc, table)?;
+    decoding::decoding_of_64(alloc, table)?;
     table.set_type("quotients", Texts::Apart, false);
     at_any::<Quotient>(alloc, table)?;
     table.sweep::<commitments::Given<Quotient>>(alloc, &commitments::NAMES)?;

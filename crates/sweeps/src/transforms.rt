@@ -3,7 +3,7 @@
 use commonware_math::algebra::Mem;
 use commonware_math::fields::goldilocks::F;
 use commonware_math::ntt::{
-    EvaluationColumn, EvaluationVector, Matrix, PolynomialColumn, PolynomialVector,
+    Corrected, EvaluationColumn, EvaluationVector, Matrix, PolynomialColumn, PolynomialVector,
     VanishingPoints, Work,
 };
 use math_samples::boxed::Boxed;
@@ -15,7 +15,7 @@ use sweeps_base::table::{Calls, Table};
 use sweeps_base::values::{Values, elements, evaluated, has_domain, matrix, polynomials};
 
 /// What is swept.
-pub const NAMES: [&str; 11] = [
+pub const NAMES: [&str; 12] = [
     "Matrix::init",
     "Matrix::mul",
     "Matrix::clone",
@@ -27,13 +27,14 @@ pub const NAMES: [&str; 11] = [
     "EvaluationColumn::interpolate",
     "EvaluationVector::recover",
     "EvaluationVector::recover_counted",
+    "EvaluationVector::correct",
 ];
 
 /// What is swept with 512 rows.
 pub const LARGE: &str = "EvaluationVector::recover_counted with 512 rows";
 
 /// Cells, and a matrix of them; four rows of two columns, of which the first is filled; a column; and rows of one
-/// column, of which the first half is missing.
+/// column, of which the first half is missing; four rows of one column, of which one is wrong.
 #[derive(Debug, Drop)]
 pub struct Given<R: Element> {
     taken_cells: Handed<Vec<R>>,
@@ -42,6 +43,7 @@ pub struct Given<R: Element> {
     values: Values<R>,
     column: Handed<EvaluationColumn<R>>,
     missing: Handed<Values<R>>,
+    wrong: Handed<Values<R>>,
 }
 
 /// What the calls answer; `None` where more work was counted than its bound.
@@ -55,6 +57,7 @@ pub enum Answer<R: Element> {
     Vanishing((R, EvaluationColumn<R>)),
     Column(PolynomialColumn<R>),
     Recovered(Option<PolynomialVector<R>>),
+    Corrected(Option<Corrected<R>>),
 }
 
 /// The product of two matrices of two rows of two cells.
@@ -112,6 +115,8 @@ impl<R: Element> Calls for Given<R> {
         };
         let mut values = Values::empty(alloc, 2, 2)?;
         values.fill(alloc, 0, &elements::<R>(alloc, &[1, 2])?)?;
+        let mut wrong = Values::ones(alloc, 2, 0..4)?;
+        wrong.fill(alloc, 3, &elements::<R>(alloc, &[2])?)?;
         Ok(Given {
             taken_cells: Handed::new(elements(alloc, &[1, 2, 3])?),
             cells: elements(alloc, &[3, 5])?,
@@ -119,6 +124,7 @@ impl<R: Element> Calls for Given<R> {
             values,
             column: Handed::new(vanishing(alloc)?.1),
             missing: Handed::new(Values::ones(alloc, lg, filled)?),
+            wrong: Handed::new(wrong),
         })
     }
 
@@ -130,6 +136,7 @@ impl<R: Element> Calls for Given<R> {
             values,
             column,
             missing,
+            wrong,
         } = self;
         match name {
             "EvaluationVector::fill_row" => {
@@ -154,6 +161,9 @@ impl<R: Element> Calls for Given<R> {
             )),
             "EvaluationVector::recover_counted" => {
                 Ok(Answer::Recovered(missing.take()?.recovered_within(alloc, 44, 512)?))
+            }
+            "EvaluationVector::correct" => {
+                Ok(Answer::Corrected(wrong.take()?.corrected(alloc, 1)?))
             }
             LARGE => Ok(Answer::Recovered(
                 missing.take()?.recovered_within(alloc, 73_728, 65_536)?,

@@ -10,7 +10,7 @@ ghost use Rattle.math_transforms.specs.RootWeights.{HasDomainOf};
 
 use commonware_math::algebra::Mem;
 use commonware_math::codec::{LengthRange, decode, write_list};
-use commonware_math::ntt::{EvaluationVector, Matrix, PolynomialVector, Work};
+use commonware_math::ntt::{Corrected, EvaluationVector, Matrix, PolynomialVector, Work};
 use commonware_math::poly::Poly;
 use math_samples::elements::Element;
 use std::alloc::{AllocError, Global};
@@ -194,5 +194,13 @@ impl<R: Element> Values<R> {
             return Err(AllocError);
         }
         self.vector.recover(alloc)
+    }
+
+    /// The polynomials of so many coefficients, and the rows that are wrong.
+    pub fn corrected(self, alloc: Global, count: usize) -> Mem<Option<Corrected<R>>> {
+        if !has_domain::<R>(self.rows) || count > self.vector.filled_rows() {
+            return Err(AllocError);
+        }
+        self.vector.correct(alloc, count)
     }
 }

@@ -1,12 +1,15 @@
 //! Sweeps of calls on polynomials as lists: division, and decoding.
 
 use commonware_math::algebra::{Field, Mem};
+use commonware_math::fields::goldilocks::F;
 use math_decoding::decoding::{Decoded, decode};
 use math_decoding::division::{degree, divide};
 use math_decoding::points::are_distinct;
+use math_samples::boxed::Boxed;
 use math_samples::elements::Element;
 use std::alloc::{AllocError, Global};
-use sweeps_base::table::Calls;
+use sweeps_base::refusals::{has_come, refuse};
+use sweeps_base::table::{Calls, Table};
 use sweeps_base::values::elements;
 
 /// What is swept.
@@ -36,7 +39,7 @@ fn divided<R: Field>(alloc: Global, p: &[R], d: &[R]) -> Mem<(Vec<R>, Vec<R>)> {
     divide(alloc, p, d)
 }
 
-/// The polynomial of three coefficients, where the points are distinct, and as many as values.
+/// The polynomial of three coefficients, where the points are distinct, and as many as values, three at least.
 fn decoded<R: Field>(alloc: Global, points: &[R], values: &[R]) -> Mem<Option<Decoded<R>>> {
     if points.len() < 3 || points.len() != values.len() || !are_distinct(alloc, points)? {
         return Err(AllocError);
@@ -69,4 +72,28 @@ impl<R: Element> Calls for Given<R> {
             _ => Err(AllocError),
         }
     }
+}
+
+/// Of 64 boxed values 30 are wrong, as many as can be. A product of boxed elements takes memory, and so does the copy that
+/// is multiplied or the sum that it goes into: fewer than 10 m^2 allocations, and so at most 5 m^2 products. The
+/// allocation of this number is refused.
+pub fn decoding_of_64(alloc: Global, table: &mut Table<'_>) -> Mem<()> {
+    let name = "boxed decoding of 64 values with allocation 40960 refused";
+    if !table.wants(name) || !table.refuses() {
+        return Ok(());
+    }
+    let mut points = Vec::new(alloc);
+    let mut values = Vec::new(alloc);
+    for n in 0..64u64 {
+        points.push(Boxed::<F>::from_number(alloc, n)?)?;
+        let spoiled = n % 2 == 1 && n < 60;
+        values.push(Boxed::<F>::from_number(alloc, if spoiled { n } else { 100 })?)?;
+    }
+    refuse(alloc, 40_960);
+    let answer = decoded(alloc, &points, &values);
+    let met = has_come(alloc);
+    let Some(found) = answer? else {
+        return table.add_line(name, false);
+    };
+    table.add_line(name, !met && found.wrong.len() == 30)
 }

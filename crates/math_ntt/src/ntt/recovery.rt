@@ -107,7 +107,7 @@ impl<F: FieldNTT> EvaluationVector<F> {
 }
 
 /// The coefficients that fit the cells, whatever rows are filled.
-fn recovered_cells<F: FieldNTT>(
+pub(super) fn recovered_cells<F: FieldNTT>(
     alloc: Global,
     cells: &mut [F],
     cols: usize,

@@ -30,7 +30,7 @@ use math_base::algebra::{FieldNTT, Mem, Object, Ring};
 use std::alloc::Global;
 
 /// n factors: factor i is `start` times power i of the ratio.
-fn geometric<F: Ring>(alloc: Global, start: F, ratio: &F, n: usize) -> Mem<Vec<F>>
+pub fn geometric<F: Ring>(alloc: Global, start: F, ratio: &F, n: usize) -> Mem<Vec<F>>
     ensures count { IfOk result (λ v. length v.items ≡ n) }
     ensures factors { IfOk result (λ v. (i : ℕ) → i < n → F.same (slice_index_or v.items i F.zero)
         (F.product start (power F.one F.product ratio.now i))) }

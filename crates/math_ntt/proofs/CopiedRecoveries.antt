@@ -1,0 +1,125 @@
+-- From what is recovered of copies of cells, and counted apart, to the cells and to the work of the caller.
+use Rattle.std.proofs.Common.{◌≡◌, ◌∙◌, ℕ, suc, ◌+◌, ◌-◌, ◌*◌, ◌/◌, ◌^◌, ◌<◌, ◌≤◌, List, Bool, length, min, subst, sym, arith}
+use Rattle.std.proofs.lemmas.List.Elements.{AllZip-get_or, length_all_zip}
+use Rattle.std.proofs.lemmas.Nat.{mul-add-lt}
+use Rattle.std.specs.List.{AllZip}
+use Rattle.math_theory.specs.Laws.{IsEquality}
+use Rattle.math_base.specs.Members.{RingOf}
+use Rattle.math_transforms.specs.CountedWork.{WorkOf, AddsWithin}
+use Rattle.math_transforms.specs.DomainValues.{matrix_of}
+use Rattle.math_transforms.specs.Matrices.{MatrixOf}
+use Rattle.math_transforms.proofs.DomainSteps.{column-cell}
+use Rattle.math_transforms.proofs.MatrixRows.{length-column}
+use Rattle.math_transforms.proofs.PowersOfTwo.{power_of_two-same, power_of_two-word}
+use Rattle.math_ntt.specs.RecoveredRows.{AreRecovered, IsExactWork}
+use Rattle.math_ntt.proofs.RecoveryCounts.{whole-bound, whole-room}
+
+-- from v to w the work x is added, as far as it fits
+pub record IsAdded (v x w : WorkOf) : Type 0 where
+  pub butterflies : w.butterflies ≡ min (v.butterflies + x.butterflies) (2 ^ 128 - 1)
+  pub root_products : w.root_products ≡ min (v.root_products + x.root_products) (2 ^ 128 - 1)
+  pub no_fewer : v.butterflies ≤ w.butterflies
+  pub no_fewer_products : v.root_products ≤ w.root_products
+
+-- no work
+pub record IsNone (z : WorkOf) : Type 0 where
+  pub butterflies : z.butterflies ≡ 0
+  pub root_products : z.root_products ≡ 0
+
+pub added-within : (b p : ℕ) (z x v w : WorkOf) → IsNone z → AddsWithin b p z x → IsAdded v x w → AddsWithin b p v w
+added-within b p z x v w n h a = record {
+  no_fewer = a.no_fewer;
+  no_more = omega (arith, a.butterflies, h.no_more, n.butterflies);
+  no_fewer_products = a.no_fewer_products;
+  no_more_products = omega (arith, a.root_products, h.no_more_products, n.root_products);
+}
+
+-- where there is room, all is added
+all-butterflies : (lg c : ℕ) (z x v w : WorkOf) → lg < 64 → 2 ^ lg * c < 2 ^ 64 → IsNone z → AddsWithin (2 ^ lg * lg * (3 * lg + 3 * c + 2)) (128 * 2 ^ lg) z x → IsAdded v x w
+    → v.butterflies ≤ 2 ^ 127 → w.butterflies ≡ v.butterflies + x.butterflies
+all-butterflies lg c z x v w small fits n h a room =
+    let most : 2 ^ lg * lg * (3 * lg + 3 * c + 2) < 2 ^ 100 = rw (whole-bound lg c) at (whole-room lg c small fits) in
+    omega (arith, a.butterflies, h.no_more, n.butterflies, most, room)
+
+all-root_products : (lg b : ℕ) (z x v w : WorkOf) → lg < 64 → IsNone z → AddsWithin b (128 * 2 ^ lg) z x → IsAdded v x w
+    → v.root_products ≤ 2 ^ 127 → w.root_products ≡ v.root_products + x.root_products
+all-root_products lg b z x v w small n h a room =
+    omega (arith, a.root_products, h.no_more_products, n.root_products, power_of_two-word lg small, room)
+
+module _ {A : Type 0} where
+  pub added-exact : (lg c : ℕ) (cells : List A) (m : MatrixOf A) (filled : List Bool) (z x v w : WorkOf) → m.rows ≡ 2 ^ lg → c ≡ m.cols → lg < 64 → 2 ^ lg * c < 2 ^ 64 → IsNone z
+      → AddsWithin (2 ^ lg * lg * (3 * lg + 3 * c + 2)) (128 * 2 ^ lg) z x → IsAdded v x w → IsExactWork lg (record { matrix = matrix_of (2 ^ lg) c cells; filled = filled }) z x
+      → v.butterflies ≤ 2 ^ 127 → v.root_products ≤ 2 ^ 127 → IsExactWork lg (record { matrix = m; filled = filled }) v w
+  added-exact lg c cells m filled z x v w rows cols small fits n h a exact room product_room =
+      let b : w.butterflies ≡ v.butterflies + x.butterflies = all-butterflies lg c z x v w small fits n h a room in
+      let p : w.root_products ≡ v.root_products + x.root_products = all-root_products lg (2 ^ lg * lg * (3 * lg + 3 * c + 2)) z x v w small n h a product_room in
+      rw (rows, ← cols) (record {
+        none_or_all = λ o. let (s, t) = exact.none_or_all o in (omega (arith, s, b, n.butterflies), omega (arith, t, p, n.root_products));
+        some = λ i j l. let (s, t) = exact.some i j l in (omega (arith, s, b, n.butterflies), omega (arith, t, p, n.root_products));
+      })
+
+  module _ (R : RingOf A) (E : IsEquality R.same) (root : ℕ → A) (lg c : ℕ) (filled : List Bool) (cells copies new : List A) where
+    abbrev IsRecovered : ℕ → List A → Type 0
+    IsRecovered rows xs = AreRecovered R root (record { matrix = matrix_of rows c xs; filled = filled }) (matrix_of rows c new)
+
+    at_power : length cells ≡ c * 2 ^ lg → AllZip R.same copies cells → IsRecovered (2 ^ lg) copies → IsRecovered (2 ^ lg) cells
+    at_power full copied h lg' k e l =
+        let fits = h lg' k e l in
+        record {
+          agrees = λ j b t.
+              let below : j < 2 ^ lg = omega (arith, b, length-column R.zero (matrix_of (2 ^ lg) c cells) k) in
+              let place : j * c + k < c * 2 ^ lg = mul-add-lt j c k (2 ^ lg) below l in
+              let many : length copies ≡ length cells = length_all_zip R.same copies cells copied in
+              rw (column-cell R.zero (2 ^ lg) c k j cells below l)
+              (E.transitive _ _ _ (rw (column-cell R.zero (2 ^ lg) c k j copies below l) at (fits.agrees j (omega (arith, below, length-column R.zero (matrix_of (2 ^ lg) c copies) k)) t))
+              (AllZip-get_or R.same copies cells (j * c + k) R.zero R.zero copied (omega (arith, place, full, many))));
+          zero_from = fits.zero_from;
+        }
+
+    -- what fits the copies fits the cells of the matrix
+    pub copied-fits : (rows : ℕ) (m : MatrixOf A) → matrix_of rows c cells ≡ m → rows ≡ 2 ^ lg → length cells ≡ rows * c → AllZip R.same copies cells → IsRecovered (2 ^ lg) copies
+        → AreRecovered R root (record { matrix = m; filled = filled }) (matrix_of rows c new)
+    copied-fits rows m view e full copied h =
+        let size : length cells ≡ c * 2 ^ lg = full ∙ (rw e (omega arith)) in
+        subst (λ n. AreRecovered R root (record { matrix = n; filled = filled }) (matrix_of rows c new)) view
+        (subst (λ r. IsRecovered r cells) (sym e) (at_power size copied h))
+
+-- the work of the recoveries until c of m rows are left: of one, of one more, and of all
+pub adds-once : (b p m : ℕ) (v w : WorkOf) → AddsWithin b p v w → AddsWithin ((1 + (m - m)) * b) ((1 + (m - m)) * p) v w
+adds-once b p m v w h = let e : m - m ≡ 0 = omega arith in rw e (record {
+  no_fewer = h.no_fewer;
+  no_more = omega (arith, h.no_more);
+  no_fewer_products = h.no_fewer_products;
+  no_more_products = omega (arith, h.no_more_products);
+})
+
+one-more : (t s b : ℕ) → suc t ≤ s → t * b + b ≤ s * b
+one-more t s b l = grind (arith, l)
+
+pub adds-more : (b p m c d : ℕ) (u v w : WorkOf) → d < c → c ≤ m → AddsWithin ((1 + (m - c)) * b) ((1 + (m - c)) * p) u v → AddsWithin b p v w
+    → AddsWithin ((1 + (m - d)) * b) ((1 + (m - d)) * p) u w
+adds-more b p m c d u v w l e h k = record {
+  no_fewer = omega (arith, h.no_fewer, k.no_fewer);
+  no_more = omega (arith, h.no_more, k.no_more, one-more (1 + (m - c)) (1 + (m - d)) b (omega (arith, l, e)));
+  no_fewer_products = omega (arith, h.no_fewer_products, k.no_fewer_products);
+  no_more_products = omega (arith, h.no_more_products, k.no_more_products, one-more (1 + (m - c)) (1 + (m - d)) p (omega (arith, l, e)));
+}
+
+no-more : (t s b : ℕ) → t ≤ s → t * b ≤ s * b
+no-more t s b l = grind (arith, l)
+
+pub adds-few : (b p m c count : ℕ) (v w : WorkOf) → c ≤ m → m + count ≤ c + c → AddsWithin ((1 + (m - c)) * b) ((1 + (m - c)) * p) v w
+    → AddsWithin (((m - count) / 2 + 1) * b) (((m - count) / 2 + 1) * p) v w
+adds-few b p m c count v w l few h =
+    let t : 1 + (m - c) ≤ (m - count) / 2 + 1 = omega (arith, l, few) in
+    record {
+      no_fewer = h.no_fewer;
+      no_more = omega (arith, h.no_more, no-more (1 + (m - c)) ((m - count) / 2 + 1) b t);
+      no_fewer_products = h.no_fewer_products;
+      no_more_products = omega (arith, h.no_more_products, no-more (1 + (m - c)) ((m - count) / 2 + 1) p t);
+    }
+
+-- the bound for any lg of which the number of rows is the power
+pub several-at_any : (rows cols lg t : ℕ) (v w : WorkOf) → rows ≡ 2 ^ lg → AddsWithin (t * (2 ^ lg * lg * (3 * lg + 3 * cols + 2))) (t * (128 * 2 ^ lg)) v w
+    → (m : ℕ) → rows ≡ 2 ^ m → AddsWithin (t * (rows * m * (3 * m + 3 * cols + 2))) (t * (128 * rows)) v w
+several-at_any rows cols lg t v w e h m f = rw (← power_of_two-same lg m (sym e ∙ f), e) h

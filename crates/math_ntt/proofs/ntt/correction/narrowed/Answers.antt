@@ -1,0 +1,92 @@
+use Rattle.std.proofs.Common.{◌≡◌, ◌∙◌, ◌*◌, ◌^◌, ◌<◌, length, get_or, ap, sym, arith}
+use Rattle.std.proofs.lemmas.Nat.{mul-add-lt}
+use Rattle.math_theory.proofs.domains.CarriedDomains.{powers_apart-same}
+use Rattle.math_transforms.proofs.Members.{ring_members}
+use Rattle.math_transforms.proofs.PresentIndices.{length-places}
+use Rattle.math_transforms.specs.Matrices.{MatrixOf}
+use Rattle.math_ntt.specs.Evaluations.{EvaluationsOf}
+use Rattle.math_ntt.proofs.NarrowedColumns.{StandFor, stands, rows-below, distinct, narrowed-some, narrowed-none}
+use Rattle.math_ntt.proofs.ntt.correction.narrowed.Goals as goal
+
+pub cells_at-requires : goal.cells_at-requires
+cells_at-requires g c =
+    rw (c.deref.ensures.value, c.deref-2.ensures.value)
+    (λ k d l. let b : get_or c.in_ok-rows.rows.items k d < 2 ^ c.args.lg = rows-below c.args.filled.now (2 ^ c.args.lg) c.in_ok-rows.rows.items c.in_ok-rows.ensures c.requires.marks k d l in
+    omega (arith, b, c.in_ok-powers.ensures.count))
+
+pub cells_at-requires-2 : goal.cells_at-requires-2
+cells_at-requires-2 g c =
+    rw (c.deref-3.ensures.value, c.deref-4.ensures.value)
+    (λ k d l. let b : get_or c.in_ok-rows.rows.items k d < 2 ^ c.args.lg = rows-below c.args.filled.now (2 ^ c.args.lg) c.in_ok-rows.rows.items c.in_ok-rows.ensures c.requires.marks k d l in
+    let rows : c.matrix.inside.rows ≡ 2 ^ c.args.lg = ap (λ (m : MatrixOf g.row.F.Denot). m.rows) c.matrix.view_is ∙ c.requires.rows in
+    let cols : c.matrix.inside.cols ≡ c.args.matrix.now.cols = ap (λ (m : MatrixOf g.row.F.Denot). m.cols) c.matrix.view_is in
+    let place = mul-add-lt (get_or c.in_ok-rows.rows.items k d) c.matrix.inside.cols c.args.column (2 ^ c.args.lg) b (omega (arith, cols, c.requires.column)) in
+    let size : length c.matrix.inside.cells.items ≡ c.matrix.inside.cols * 2 ^ c.args.lg = c.matrix.invariant ∙ (rw rows (omega arith)) in
+    omega (arith, place, size))
+
+pub decode-requires-clause-apart : goal.decode-requires-clause-apart
+decode-requires-clause-apart g c =
+    let R = ring_members g.F.Multiplicative.product g.F.Debug.debug_output g.F.Object.same g.F.Object.NEVER_REFUSES g.F.Additive.zero g.F.Additive.sum g.F.Additive.negative g.F.Ring.one in
+    let F = g.met.F in
+    let w = g.F.FieldNTT.root c.args.lg in
+    let filled = c.args.filled.now in
+    let xs = c.in_ok-points.points.items in
+    let vs = c.in_ok-values.values.items in
+    let rows = c.in_ok-rows.rows.items in
+    let e : EvaluationsOf g.row.F.Denot = record { matrix = c.args.matrix.now; filled = filled } in
+    let stand : StandFor R F.Object.equality F.Additive.group F.Multiplicative.commutes F.Ring.ring w e c.args.column xs vs =
+    stands R F.Object.equality F.Additive.group F.Multiplicative.commutes F.Ring.ring w c.args.matrix.now filled c.args.column (2 ^ c.args.lg) c.matrix.inside.cols c.matrix.inside.cells.items
+    c.in_ok-powers.powers.items xs vs rows (ap (λ (m : MatrixOf g.row.F.Denot). m.cols) c.matrix.view_is) (ap (λ (m : MatrixOf g.row.F.Denot). m.cells) c.matrix.view_is)
+    c.in_ok-rows.ensures c.requires.marks c.in_ok-powers.ensures.powers
+    (c.in_ok-points.ensures.count ∙ ap length c.deref-2.ensures.value) (c.in_ok-values.ensures.count ∙ ap length c.deref-4.ensures.value)
+    (rw (c.deref.ensures.value, c.deref-2.ensures.value) at c.in_ok-points.ensures.cells) (rw (c.deref-3.ensures.value, c.deref-4.ensures.value) at c.in_ok-values.ensures.cells) in
+    rw c.deref-5.ensures.value
+    (distinct R F.Object.equality F.Additive.group F.Multiplicative.commutes F.Ring.ring w e c.args.column xs vs stand (2 ^ c.args.lg) c.requires.marks
+    (powers_apart-same F.Object.equality F.Additive.group F.Multiplicative.commutes F.Ring.ring w (2 ^ c.args.lg) (F.FieldNTT.roots.order c.args.lg c.requires.domain)))
+
+pub decode-requires-clause-count : goal.decode-requires-clause-count
+decode-requires-clause-count g c =
+    rw c.deref-5.ensures.value
+    (omega (arith, c.requires.count, c.in_ok-points.ensures.count, ap length c.deref-2.ensures.value, ap length c.in_ok-rows.ensures, length-places c.args.filled.now))
+
+pub returns-in_default-clause-none : goal.returns-in_default-clause-none
+returns-in_default-clause-none g c =
+    let R = ring_members g.F.Multiplicative.product g.F.Debug.debug_output g.F.Object.same g.F.Object.NEVER_REFUSES g.F.Additive.zero g.F.Additive.sum g.F.Additive.negative g.F.Ring.one in
+    let F = g.met.F in
+    let w = g.F.FieldNTT.root c.args.lg in
+    let filled = c.args.filled.now in
+    let xs = c.in_ok-points.points.items in
+    let vs = c.in_ok-values.values.items in
+    let rows = c.in_ok-rows.rows.items in
+    let e : EvaluationsOf g.row.F.Denot = record { matrix = c.args.matrix.now; filled = filled } in
+    let stand : StandFor R F.Object.equality F.Additive.group F.Multiplicative.commutes F.Ring.ring w e c.args.column xs vs =
+    stands R F.Object.equality F.Additive.group F.Multiplicative.commutes F.Ring.ring w c.args.matrix.now filled c.args.column (2 ^ c.args.lg) c.matrix.inside.cols c.matrix.inside.cells.items
+    c.in_ok-powers.powers.items xs vs rows (ap (λ (m : MatrixOf g.row.F.Denot). m.cols) c.matrix.view_is) (ap (λ (m : MatrixOf g.row.F.Denot). m.cells) c.matrix.view_is)
+    c.in_ok-rows.ensures c.requires.marks c.in_ok-powers.ensures.powers
+    (c.in_ok-points.ensures.count ∙ ap length c.deref-2.ensures.value) (c.in_ok-values.ensures.count ∙ ap length c.deref-4.ensures.value)
+    (rw (c.deref.ensures.value, c.deref-2.ensures.value) at c.in_ok-points.ensures.cells) (rw (c.deref-3.ensures.value, c.deref-4.ensures.value) at c.in_ok-values.ensures.cells) in
+    narrowed-none R F.Object.equality F.Additive.group F.Multiplicative.commutes F.Ring.ring w e c.args.column xs vs stand c.args.count (rw (c.in_default.is, c.deref-5.ensures.value, c.deref-6.ensures.value) at c.in_ok-decoded.ensures.none)
+
+pub without-requires-clause-rows : goal.without-requires-clause-rows
+without-requires-clause-rows g c =
+    rw c.deref-7.ensures.value (rows-below c.args.filled.now (2 ^ c.args.lg) c.in_ok-rows.rows.items c.in_ok-rows.ensures c.requires.marks)
+
+pub returns-clause-some : goal.returns-clause-some
+returns-clause-some g c =
+    let R = ring_members g.F.Multiplicative.product g.F.Debug.debug_output g.F.Object.same g.F.Object.NEVER_REFUSES g.F.Additive.zero g.F.Additive.sum g.F.Additive.negative g.F.Ring.one in
+    let F = g.met.F in
+    let w = g.F.FieldNTT.root c.args.lg in
+    let filled = c.args.filled.now in
+    let xs = c.in_ok-points.points.items in
+    let vs = c.in_ok-values.values.items in
+    let rows = c.in_ok-rows.rows.items in
+    let e : EvaluationsOf g.row.F.Denot = record { matrix = c.args.matrix.now; filled = filled } in
+    let stand : StandFor R F.Object.equality F.Additive.group F.Multiplicative.commutes F.Ring.ring w e c.args.column xs vs =
+    stands R F.Object.equality F.Additive.group F.Multiplicative.commutes F.Ring.ring w c.args.matrix.now filled c.args.column (2 ^ c.args.lg) c.matrix.inside.cols c.matrix.inside.cells.items
+    c.in_ok-powers.powers.items xs vs rows (ap (λ (m : MatrixOf g.row.F.Denot). m.cols) c.matrix.view_is) (ap (λ (m : MatrixOf g.row.F.Denot). m.cells) c.matrix.view_is)
+    c.in_ok-rows.ensures c.requires.marks c.in_ok-powers.ensures.powers
+    (c.in_ok-points.ensures.count ∙ ap length c.deref-2.ensures.value) (c.in_ok-values.ensures.count ∙ ap length c.deref-4.ensures.value)
+    (rw (c.deref.ensures.value, c.deref-2.ensures.value) at c.in_ok-points.ensures.cells) (rw (c.deref-3.ensures.value, c.deref-4.ensures.value) at c.in_ok-values.ensures.cells) in
+    narrowed-some R F.Object.equality F.Additive.group F.Multiplicative.commutes F.Ring.ring w e c.args.column xs vs stand c.args.count c.in-Some.decoded.coefficients.items c.in-Some.decoded.wrong.items c.in_ok-left.left
+    (c.in_ok-left.ensures.size ∙ sym c.requires.marks) (rw (c.in-Some.is, c.deref-5.ensures.value, c.deref-6.ensures.value) at c.in_ok-decoded.ensures.found)
+    (rw (c.deref-7.ensures.value, c.deref-8.ensures.value, c.in_ok-rows.ensures) at c.in_ok-left.ensures.filled)

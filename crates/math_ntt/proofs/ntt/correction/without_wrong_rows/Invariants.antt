@@ -1,0 +1,24 @@
+use Rattle.std.proofs.Common.{◌≡◌, ◌+◌, ◌-◌, ◌*◌, ◌^◌, ◌≤◌}
+use Rattle.math_theory.specs.Recovery.{count_true}
+use Rattle.math_base.specs.Members.{RingOf}
+use Rattle.math_transforms.specs.CountedWork.{AddsWithin}
+use Rattle.math_transforms.proofs.Members.{ring_members}
+use Rattle.math_ntt.specs.Evaluations.{EvaluationsOf}
+use Rattle.math_ntt.specs.RecoveredRows.{IsExactWork}
+use Rattle.math_ntt.proofs.CorrectionStates.{IsState}
+use Rattle.math_ntt.proofs.ntt.correction.without_wrong_rows.Given as goal
+
+-- the rows that are not left are wrong for every answer, and the polynomials are what is recovered from those that are left
+abbrev pub invariant-loop-polynomials : goal.invariant-loop-polynomials
+invariant-loop-polynomials g l =
+    let R : RingOf g.row.F.Denot = ring_members g.F.Multiplicative.product g.F.Debug.debug_output g.F.Object.same g.F.Object.NEVER_REFUSES g.F.Additive.zero g.F.Additive.sum g.F.Additive.negative g.F.Ring.one in
+    let e : EvaluationsOf g.row.F.Denot = record { matrix = l.matrix; filled = l.fn.filled } in
+    let recoveries = 1 + (count_true e.filled - count_true l.left) in
+    record {
+      state : IsState R g.F.FieldNTT.root l.lg e l.count l.left l.polynomials;
+      work : AddsWithin (recoveries * (2 ^ l.lg * l.lg * (3 * l.lg + 3 * e.matrix.cols + 2))) (recoveries * (128 * 2 ^ l.lg)) l.fn.work l.work;
+      exact : count_true l.left ≡ count_true e.filled → l.fn.work.butterflies ≤ 2 ^ 127 → l.fn.work.root_products ≤ 2 ^ 127 → IsExactWork l.lg e l.fn.work l.work;
+    }
+
+abbrev pub decreases-loop-polynomials : goal.decreases-loop-polynomials
+decreases-loop-polynomials g l = count_true l.left

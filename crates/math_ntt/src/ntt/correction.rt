@@ -1,0 +1,371 @@
+//! Recovery of polynomials from rows of which some are wrong.
+//!
+//! Of m filled rows at most (m - k) / 2 are wrong, where a row is wrong if any of its cells is, and
+//! the polynomials have at most k coefficients. There are such polynomials at most once, since two
+//! would agree at k rows or more. They are recovered as if no row were wrong. A column that then
+//! has a coefficient other than zero from k on is decoded by itself; the rows at which it
+//! differs from what is decoded are wrong for every answer, so they are dropped, and what is left is
+//! recovered again. Where more rows than (m - k) / 2 are dropped in all, there is no answer.
+
+ghost use Rattle.std.specs.Prelude.{
+  ◌≡◌,
+  ◌↔◌,
+  ◌+◌,
+  ◌-◌,
+  ◌*◌,
+  ◌/◌,
+  ◌<◌,
+  ◌≤◌,
+  ◌^◌,
+  ℕ,
+  List,
+  [],
+  true,
+  false,
+  IfOk,
+  IfSome,
+  IfNone,
+  length,
+  not,
+  slice_index_or,
+};
+ghost use Rattle.std.specs.List.{All, Contains, filter};
+ghost use Rattle.math_theory.specs.Powers.{power};
+ghost use Rattle.math_theory.specs.Recovery.{count_true, filled_places};
+ghost use Rattle.math_transforms.specs.CountedWork.{AddsWithin};
+ghost use Rattle.math_transforms.specs.DomainValues.{HasDomain};
+ghost use Rattle.math_transforms.specs.Matrices.{cell_of, IsOfSize};
+ghost use Rattle.math_ntt.specs.CorrectedRows.{AreWithinRadius, IsCorrected};
+ghost use Rattle.math_ntt.specs.NarrowedRows.{IsNarrowed, IsNear};
+ghost use Rattle.math_ntt.specs.RecoveredRows.{AreRecovered, IsExactWork};
+
+use super::evaluations::EvaluationVector;
+use super::matrix::Matrix;
+use super::polynomials::PolynomialVector;
+use super::recovery::recovered_cells;
+use math_base::algebra::{Additive, FieldNTT, Mem, Object, Ring};
+use math_decoding::decoding::decode;
+use math_transforms::cells::copies;
+use math_transforms::transform::coset::geometric;
+use math_transforms::transform::{lg_of, size_of};
+use math_transforms::vanishing_points::VanishingPoints;
+use math_transforms::work::Work;
+use std::alloc::Global;
+
+/// Polynomials, and by rising number the filled rows that differ from their values.
+#[derive(Debug, Drop)]
+pub struct Corrected<F: Drop> {
+    pub polynomials: PolynomialVector<F>,
+    pub wrong: Vec<usize>,
+}
+
+impl<F: FieldNTT> EvaluationVector<F> {
+    /// In each column the polynomial with N coefficients, N being the number of rows, whose
+    /// coefficients from `count` on are zero and which has the cells of all filled rows but some as
+    /// its values, and these wrong rows. They are the same rows for all columns, and at most
+    /// (m - count) / 2 of the m filled ones: then these are the only such polynomials. It answers
+    /// `None` exactly where there are none. Where more rows are wrong, that may be so, or the rows
+    /// may fit other polynomials, which are then answered.
+    ///
+    /// lg N is at most `F::MAX_LG_ROOT_ORDER`, and `count` is at most the number of filled rows.
+    /// Takes memory for a copy of the cells beside that of `recover`, and for a column that is wrong
+    /// for some lists of m elements.
+    pub fn correct(self, alloc: Global, count: usize) -> Mem<Option<Corrected<F>>>
+        requires domain { HasDomain F.MAX_LG_ROOT_ORDER self.matrix.rows }
+        requires count { count ≤ count_true self.filled }
+        ensures found { IfOk result (λ answer. IfSome answer (λ c.
+            (lg : ℕ) → self.matrix.rows ≡ 2 ^ lg
+            → IsCorrected F.Ring (F.root lg) self count c.polynomials c.wrong.items)) }
+        ensures none { IfOk result (λ answer. IfNone answer (
+            (lg : ℕ) → self.matrix.rows ≡ 2 ^ lg → (a : ℕ → List F)
+            → ¬ (AreWithinRadius F.Ring (F.root lg) self count a))) }
+    {
+        let mut work = Work::new();
+        let out = self.correct_counted(alloc, count, &mut work)?;
+        Ok(out)
+    }
+
+    /// As `correct`, and adds the work of the transforms: that of at most (m - count) / 2 + 1
+    /// recoveries of m filled rows, whatever the outcome, and exactly that of one recovery where no
+    /// row is wrong.
+    ///
+    /// At entry `work` has at most 2^127 butterflies and at most 2^127 root products. A count that
+    /// comes to 2^128 stays at 2^128 - 1.
+    pub fn correct_counted(
+        self,
+        alloc: Global,
+        count: usize,
+        work: &mut Work,
+    ) -> Mem<Option<Corrected<F>>>
+        requires domain { HasDomain F.MAX_LG_ROOT_ORDER self.matrix.rows }
+        requires count { count ≤ count_true self.filled }
+        requires room { work.old.butterflies ≤ 2 ^ 127 }
+        requires product_room { work.old.root_products ≤ 2 ^ 127 }
+        ensures found { IfOk result (λ answer. IfSome answer (λ c.
+            (lg : ℕ) → self.matrix.rows ≡ 2 ^ lg
+            → IsCorrected F.Ring (F.root lg) self count c.polynomials c.wrong.items)) }
+        ensures none { IfOk result (λ answer. IfNone answer (
+            (lg : ℕ) → self.matrix.rows ≡ 2 ^ lg → (a : ℕ → List F)
+            → ¬ (AreWithinRadius F.Ring (F.root lg) self count a))) }
+        ensures most { (lg : ℕ) → self.matrix.rows ≡ 2 ^ lg
+            → let recoveries = (count_true self.filled - count) / 2 + 1 in
+            AddsWithin (recoveries * (self.matrix.rows * lg * (3 * lg + 3 * self.matrix.cols + 2)))
+            (recoveries * (128 * self.matrix.rows))
+            work.old work.new }
+        ensures exact { IfOk result (λ answer. IfSome answer (λ c. c.wrong.items ≡ []
+            → (lg : ℕ) → self.matrix.rows ≡ 2 ^ lg → IsExactWork lg self work.old work.new)) }
+    {
+        let EvaluationVector { matrix, filled } = self;
+        let lg = lg_of(matrix.rows);
+        let out = without_wrong_rows(alloc, &matrix, filled, count, lg, work)?;
+        Ok(out)
+    }
+}
+
+/// The polynomials, and the wrong rows.
+fn without_wrong_rows<F: FieldNTT>(
+    alloc: Global,
+    matrix: &Matrix<F>,
+    filled: VanishingPoints,
+    count: usize,
+    lg: u8,
+    work: &mut Work,
+) -> Mem<Option<Corrected<F>>>
+    requires domain { lg ≤ F.MAX_LG_ROOT_ORDER }
+    requires small { lg < 64 }
+    requires rows { matrix.now.rows ≡ 2 ^ lg }
+    requires full { length matrix.now.cells ≡ matrix.now.rows * matrix.now.cols }
+    requires marks { length filled ≡ 2 ^ lg }
+    requires count { count ≤ count_true filled }
+    requires room { work.old.butterflies ≤ 2 ^ 127 }
+    requires product_room { work.old.root_products ≤ 2 ^ 127 }
+    ensures found { IfOk result (λ answer. IfSome answer (λ c.
+        (l : ℕ) → matrix.now.rows ≡ 2 ^ l → IsCorrected F.Ring (F.root l)
+        (record { matrix = matrix.now; filled = filled }) count c.polynomials c.wrong.items)) }
+    ensures none { IfOk result (λ answer. IfNone answer (
+        (l : ℕ) → matrix.now.rows ≡ 2 ^ l → (a : ℕ → List F)
+        → ¬ (AreWithinRadius F.Ring (F.root l)
+        (record { matrix = matrix.now; filled = filled }) count a))) }
+    ensures most { let recoveries = (count_true filled - count) / 2 + 1 in
+        AddsWithin (recoveries * (2 ^ lg * lg * (3 * lg + 3 * matrix.now.cols + 2)))
+        (recoveries * (128 * 2 ^ lg)) work.old work.new }
+    ensures exact { IfOk result (λ answer. IfSome answer (λ c. c.wrong.items ≡ []
+        → (l : ℕ) → matrix.now.rows ≡ 2 ^ l
+        → IsExactWork l (record { matrix = matrix.now; filled = filled }) work.old work.new)) }
+{
+    let rows = filled_rows(alloc, &filled)?;
+    let most = (rows.len() - count) / 2;
+    let mut left = filled;
+    let mut polynomials = recovered_copy(alloc, matrix, &left, lg, work)?;
+    while let Some(column) = long_column(alloc, &polynomials, count)? {
+        let Some(less) = narrowed(alloc, matrix, &left, column, count, lg)? else {
+            return Ok(None);
+        };
+        if rows.len() - less.count_non_vanishing() as usize > most {
+            return Ok(None);
+        }
+        left = less;
+        polynomials = recovered_copy(alloc, matrix, &left, lg, work)?;
+    }
+    let wrong = rows_dropped(alloc, &rows, &left)?;
+    Ok(Some(Corrected {
+        polynomials: PolynomialVector {
+            coefficients: polynomials,
+        },
+        wrong,
+    }))
+}
+
+/// How many rows there are.
+fn row_count(filled: &VanishingPoints) -> u64
+    ensures { result ≡ length filled.now }
+{
+    1 << filled.lg_size()
+}
+
+/// The rows that are filled, by rising number.
+fn filled_rows(alloc: Global, filled: &VanishingPoints) -> Mem<Vec<usize>>
+    ensures { IfOk result (λ rows. rows.items ≡ filled_places filled.now) }
+{
+    let mut out = Vec::new(alloc);
+    for i in 0..row_count(filled) {
+        if filled.get(i) {
+            out.push(i as usize)?;
+        }
+    }
+    Ok(out)
+}
+
+/// What is recovered from a copy of the cells. The work is added up to 2^128 - 1.
+fn recovered_copy<F: FieldNTT>(
+    alloc: Global,
+    matrix: &Matrix<F>,
+    filled: &VanishingPoints,
+    lg: u8,
+    work: &mut Work,
+) -> Mem<Matrix<F>>
+    requires domain { lg ≤ F.MAX_LG_ROOT_ORDER }
+    requires small { lg < 64 }
+    requires rows { matrix.now.rows ≡ 2 ^ lg }
+    requires marks { length filled.now ≡ 2 ^ lg }
+    ensures size { IfOk result (λ v. IsOfSize v matrix.now.rows matrix.now.cols) }
+    ensures fits { IfOk result (λ v. AreRecovered F.Ring F.root
+        (record { matrix = matrix.now; filled = filled.now }) v) }
+    ensures most { AddsWithin (2 ^ lg * lg * (3 * lg + 3 * matrix.now.cols + 2))
+        (128 * 2 ^ lg) work.old work.new }
+    ensures exact { IfOk result (λ _. work.old.butterflies ≤ 2 ^ 127
+        → work.old.root_products ≤ 2 ^ 127 → IsExactWork lg
+        (record { matrix = matrix.now; filled = filled.now }) work.old work.new) }
+{
+    let mut cells = copies(alloc, &matrix.cells)?;
+    let mut counted = Work::new();
+    let outcome = recovered_cells(alloc, &mut cells, matrix.cols, filled, lg, &mut counted);
+    work.saturating_add(counted);
+    outcome?;
+    Ok(Matrix {
+        rows: matrix.rows,
+        cols: matrix.cols,
+        cells,
+    })
+}
+
+/// The place of the first cell that is not the zero given.
+fn first_nonzero<F: Additive>(alloc: Global, cells: &[F], zero: &F) -> Mem<Option<usize>>
+    requires { F.same zero.now F.zero }
+    ensures some { IfOk result (λ answer. IfSome answer (λ k. (k < length cells.now)
+        × ¬ (F.same (slice_index_or cells.now k F.zero) F.zero))) }
+    ensures none { IfOk result (λ answer. IfNone answer ((k : ℕ) → k < length cells.now
+        → F.same (slice_index_or cells.now k F.zero) F.zero)) }
+{
+    for k in 0..cells.len() {
+        if !cells[k].equals(alloc, zero)? {
+            return Ok(Some(k));
+        }
+    }
+    Ok(None)
+}
+
+/// A column with a coefficient other than zero from `count` on.
+fn long_column<F: Additive>(
+    alloc: Global,
+    coefficients: &Matrix<F>,
+    count: usize,
+) -> Mem<Option<usize>>
+    ensures some { IfOk result (λ answer. IfSome answer (λ k. (k < coefficients.now.cols)
+        × (i : ℕ) × (count ≤ i) × (i < coefficients.now.rows)
+        × ¬ (F.same (cell_of F.zero coefficients.now i k) F.zero))) }
+    ensures none { IfOk result (λ answer. IfNone answer ((i k : ℕ) → count ≤ i
+        → i < coefficients.now.rows → k < coefficients.now.cols
+        → F.same (cell_of F.zero coefficients.now i k) F.zero)) }
+{
+    let zero = F::zero(alloc)?;
+    for i in count..coefficients.rows {
+        if let Some(k) = first_nonzero(alloc, coefficients.row(i), &zero)? {
+            return Ok(Some(k));
+        }
+    }
+    Ok(None)
+}
+
+/// The filled rows in which the column agrees with what is decoded from it; `None` where that is
+/// nothing.
+fn narrowed<F: FieldNTT>(
+    alloc: Global,
+    matrix: &Matrix<F>,
+    filled: &VanishingPoints,
+    column: usize,
+    count: usize,
+    lg: u8,
+) -> Mem<Option<VanishingPoints>>
+    requires domain { lg ≤ F.MAX_LG_ROOT_ORDER }
+    requires small { lg < 64 }
+    requires rows { matrix.now.rows ≡ 2 ^ lg }
+    requires marks { length filled.now ≡ 2 ^ lg }
+    requires column { column < matrix.now.cols }
+    requires count { count ≤ count_true filled.now }
+    ensures some { IfOk result (λ answer. IfSome answer (λ left. IsNarrowed F.Ring (F.root lg)
+        (record { matrix = matrix.now; filled = filled.now }) column count left)) }
+    ensures none { IfOk result (λ answer. IfNone answer ((p : List F) → ¬ (IsNear F.Ring (F.root lg)
+        (record { matrix = matrix.now; filled = filled.now }) column count p))) }
+{
+    let rows = filled_rows(alloc, filled)?;
+    let powers = root_powers::<F>(alloc, lg)?;
+    let points = cells_at(alloc, &powers, 1, 0, &rows)?;
+    let values = cells_at(alloc, &matrix.cells, matrix.cols, column, &rows)?;
+    let Some(decoded) = decode(alloc, &points, &values, count)? else {
+        return Ok(None);
+    };
+    let left = without(alloc, lg, &rows, &decoded.wrong)?;
+    Ok(Some(left))
+}
+
+/// The 2^lg powers of the root of order 2^lg, from the power 0 on.
+fn root_powers<F: FieldNTT>(alloc: Global, lg: u8) -> Mem<Vec<F>>
+    requires domain { lg ≤ F.MAX_LG_ROOT_ORDER }
+    requires small { lg < 64 }
+    ensures count { IfOk result (λ out. length out.items ≡ 2 ^ lg) }
+    ensures powers { IfOk result (λ out. (i : ℕ) → i < 2 ^ lg
+        → F.same (slice_index_or out.items i F.zero) (power F.one F.product (F.root lg) i)) }
+{
+    let Some(root) = F::root_of_unity(alloc, lg)? else {
+        unreachable!()
+    };
+    let one = F::one(alloc)?;
+    let out = geometric(alloc, one, &root, size_of(lg))?;
+    Ok(out)
+}
+
+/// Copies of the cells of a column in these rows.
+fn cells_at<F: Object>(
+    alloc: Global,
+    cells: &[F],
+    cols: usize,
+    column: usize,
+    rows: &[usize],
+) -> Mem<Vec<F>>
+    requires { All (λ row. row * cols + column < length cells.now) rows.now }
+    ensures count { IfOk result (λ out. length out.items ≡ length rows.now) }
+    ensures cells { IfOk result (λ out. (j : ℕ) (d : F) → j < length rows.now
+        → F.same (slice_index_or out.items j d)
+        (slice_index_or cells.now (slice_index_or rows.now j 0 * cols + column) d)) }
+{
+    let mut out = Vec::with_capacity(alloc, rows.len())?;
+    for j in 0..rows.len() {
+        let cell = cells[rows[j] * cols + column].clone(alloc)?;
+        out.push(cell)?;
+    }
+    Ok(out)
+}
+
+/// 2^lg rows, of which those are filled that stand in the list, but not at a place that is wrong.
+fn without(alloc: Global, lg: u8, rows: &[usize], wrong: &[usize]) -> Mem<VanishingPoints>
+    requires small { lg < 64 }
+    requires rows { All (λ row. row < 2 ^ lg) rows.now }
+    ensures size { IfOk result (λ out. length out ≡ 2 ^ lg) }
+    ensures filled { IfOk result (λ out. (i : ℕ) → slice_index_or out i false ≡ true
+        ↔ (j : ℕ) × (j < length rows.now) × (slice_index_or rows.now j 0 ≡ i)
+        × ¬ (Contains wrong.now j)) }
+{
+    let mut out = VanishingPoints::new(alloc, u32::from(lg))?;
+    for j in 0..rows.len() {
+        if !wrong.contains(&j) {
+            out.set_non_vanishing(rows[j] as u64);
+        }
+    }
+    Ok(out)
+}
+
+/// Those of the rows that are not filled any more.
+fn rows_dropped(alloc: Global, rows: &[usize], left: &VanishingPoints) -> Mem<Vec<usize>>
+    requires { All (λ row. row < length left.now) rows.now }
+    ensures { IfOk result (λ out. out.items
+        ≡ filter (λ row. not (slice_index_or left.now row false)) rows.now) }
+{
+    let mut out = Vec::new(alloc);
+    for j in 0..rows.len() {
+        if !left.get(rows[j] as u64) {
+            out.push(rows[j])?;
+        }
+    }
+    Ok(out)
+}
