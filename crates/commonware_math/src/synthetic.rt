@@ -1,14 +1,14 @@
 //! Linear combinations of free generators and points.
 //!
-//! A combination over a ring F and a space G is a formal sum: a weight of F for each of finitely many
-//! free generators, which are known by their indices alone, and points of G, each with a weight. The
-//! weight of a generator that is not stored is zero. Of the points only their sum, each scaled by its
-//! weight, has a meaning. Combinations are themselves a space over F: weights are added and scaled
-//! index by index, and so are the sums of the points.
+//! A combination over a ring F and a space G is a formal sum: a weight of F for each of finitely
+//! many free generators, which are known by their indices alone, and points of G, each with a
+//! weight. The weight of a generator that is not stored is zero. Of the points only their sum, each
+//! scaled by its weight, has a meaning. Combinations are themselves a space over F: weights are
+//! added and scaled index by index, and so are the sums of the points.
 //!
-//! Once points are known for the generators, `eval` puts them in. Combinations that are equal have equal
-//! values under all generators, so an equation between commitments may be worked out on combinations,
-//! and costs one `msm` in the end.
+//! Once points are known for the generators, `eval` puts them in. Combinations that are equal have
+//! equal values under all generators, so an equation between commitments may be worked out on
+//! combinations, and costs one `msm` in the end.
 
 ghost use Rattle.std.specs.Prelude.{◌≡◌, ◌<◌, ℕ, List, [], length, IfOk, IfSome, IfNone};
 ghost use Rattle.std.specs.Iterator.{IsFiniteIterable, Drains};
@@ -35,8 +35,8 @@ pub struct Synthetic<F: Ring, G: Space<F>> {
     concrete: Vec<(F, G)>,
 }
 
-/// Contracts see a combination as the list of its free terms (index, weight), by rising index, and the
-/// sum of its points, each scaled by its weight.
+/// Contracts see a combination as the list of its free terms (index, weight), by rising index, and
+/// the sum of its points, each scaled by its weight.
 impl<F: Ring, G: Space<F>> Model for Synthetic<F, G> {
     ghost use Rattle.std.specs.Prelude.{List, ℕ};
 
@@ -64,10 +64,12 @@ impl<F: Ring, G: Space<F>> Synthetic<F, G> {
     pub fn concrete<P: IntoIterator<Item = (F, G)>>(alloc: Global, weighted_points: P) -> Mem<Self>
     where
         P::IntoIter: Drop,
-        requires { IsFiniteIterable P.into_iter_gives P.IntoIter.can_next P.IntoIter.remaining weighted_points }
+        requires { IsFiniteIterable P.into_iter_gives P.IntoIter.can_next
+            P.IntoIter.remaining weighted_points }
         ensures { IfOk result (λ c.
             (it : P.IntoIter) × (xs : List (F × G)) × P.into_iter_gives weighted_points it
-            × Drains P.IntoIter.next_gives it xs × (c ≡ ([], concrete_sum G.zero G.sum G.scaling xs))) }
+            × Drains P.IntoIter.next_gives it xs
+            × (c ≡ ([], concrete_sum G.zero G.sum G.scaling xs))) }
     {
         let mut concrete = Vec::new(alloc);
         for weighted_point in weighted_points {
@@ -79,7 +81,8 @@ impl<F: Ring, G: Space<F>> Synthetic<F, G> {
         })
     }
 
-    /// The greatest index that is stored, also where its weight is zero; `None` where none is stored.
+    /// The greatest index that is stored, also where its weight is zero; `None` where none is
+    /// stored.
     pub fn max_free_index(&self) -> Option<u32>
         ensures none { IfNone result (self.now.0 ≡ []) }
         ensures some { IfSome result (λ i. IsGreatestIndex self.now.0 i) }
@@ -87,8 +90,8 @@ impl<F: Ring, G: Space<F>> Synthetic<F, G> {
         last_index(&self.free)
     }
 
-    /// The value under the generators: the sum of each generator scaled by the weight at its index, plus
-    /// the sum of the points, each scaled by its weight. It is one `msm` over all terms.
+    /// The value under the generators: the sum of each generator scaled by the weight at its index,
+    /// plus the sum of the points, each scaled by its weight. It is one `msm` over all terms.
     ///
     /// Each stored index has to be below the number of generators.
     pub fn eval(self, alloc: Global, generators: &[G]) -> Mem<G>

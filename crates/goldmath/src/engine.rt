@@ -60,7 +60,8 @@ impl From<AllocError> for ToolError {
 /// The point, where the words are `eval` and a point.
 fn eval_point(words: &[String]) -> Option<u64>
     ensures written { IfSome result (AreEvalWords (map string_bytes words.now)) }
-    ensures found { (point : ℕ) → AreEvalWords (map string_bytes words.now) point → result ≡ Some point }
+    ensures found { (point : ℕ) → AreEvalWords (map string_bytes words.now) point
+        → result ≡ Some point }
 {
     match words {
         [command, point] if command.as_str() == "eval" => point_of(point.as_str()),
@@ -102,11 +103,16 @@ fn evaluated(alloc: Global, point: u64, bytes: &[u8]) -> Result<Vec<u8>, codec::
 
 /// The answer to `recover`, where the words are those of that command, and else `Usage`.
 fn run_recover(alloc: Global, words: &[String], bytes: &[u8]) -> Result<Vec<u8>, ToolError>
-    ensures usage { IfErr result (λ fault. IsUsage fault → AreNoRecoverWords (map string_bytes words.now)) }
-    ensures wrong { AreNoRecoverWords (map string_bytes words.now) → MatchResult result (λ _. ⊥) IsUsageOrOutOfMemory }
-    ensures recover { (lg : ℕ) (rows : List ℕ) → AreRecoverWords (map string_bytes words.now) lg rows
-        → IfOk result (λ out. (m : MatrixOf F) × IsEncodedMatrix bytes.now m × EncodesRecovered lg rows m out.items) }
-    ensures encoded { (lg : ℕ) (rows : List ℕ) (m : MatrixOf F) → AreRecoverWords (map string_bytes words.now) lg rows
+    ensures usage { IfErr result
+        (λ fault. IsUsage fault → AreNoRecoverWords (map string_bytes words.now)) }
+    ensures wrong { AreNoRecoverWords (map string_bytes words.now)
+        → MatchResult result (λ _. ⊥) IsUsageOrOutOfMemory }
+    ensures recover { (lg : ℕ) (rows : List ℕ)
+        → AreRecoverWords (map string_bytes words.now) lg rows
+        → IfOk result (λ out. (m : MatrixOf F) × IsEncodedMatrix bytes.now m
+        × EncodesRecovered lg rows m out.items) }
+    ensures encoded { (lg : ℕ) (rows : List ℕ) (m : MatrixOf F)
+        → AreRecoverWords (map string_bytes words.now) lg rows
         → IsEncodedMatrix bytes.now m → HasSize lg (length rows) m
         → MatchResult result (λ out. EncodesRecovered lg rows m out.items) IsOutOfMemory }
     ensures exact { (lg : ℕ) (rows : List ℕ) → AreRecoverWords (map string_bytes words.now) lg rows
@@ -121,29 +127,36 @@ fn run_recover(alloc: Global, words: &[String], bytes: &[u8]) -> Result<Vec<u8>,
 /// The answer to the command that the words are, given the bytes of standard input.
 ///
 /// `eval POINT`: the bytes are one encoded polynomial over the Goldilocks field, of 1 to 2^32 - 1
-/// coefficients, and nothing more; the answer is its value at POINT in decimal and a line end. POINT
-/// is 1 to 20 ASCII digits that write a number below P.
+/// coefficients, and nothing more; the answer is its value at POINT in decimal and a line end.
+/// POINT is 1 to 20 ASCII digits that write a number below P.
 ///
-/// `recover LG ROW..`: the bytes are one encoded matrix over the Goldilocks field, with at most 2^24
-/// rows, columns and cells, and nothing more. Row i holds, for each column, the value of a polynomial at
-/// the power of the root of order 2^LG that the i-th ROW names. The answer is the encoded matrix of 2^LG
-/// rows whose row i holds coefficient i of each polynomial: of the only one that has these values and
-/// whose coefficients from the number of rows on are zero. LG is at most 24, each ROW below 2^LG and none
-/// is there twice, all of 1 to 20 ASCII digits. Where there is not a ROW for each row of the matrix, or
-/// 2^LG rows of its columns would be more than 2^24 cells, the matrix is refused with `Invalid`.
+/// `recover LG ROW..`: the bytes are one encoded matrix over the Goldilocks field, with at most
+/// 2^24 rows, columns and cells, and nothing more. Row i holds, for each column, the value of a
+/// polynomial at the power of the root of order 2^LG that the i-th ROW names. The answer is the
+/// encoded matrix of 2^LG rows whose row i holds coefficient i of each polynomial: of the only one
+/// that has these values and whose coefficients from the number of rows on are zero. LG is at most
+/// 24, each ROW below 2^LG and none is there twice, all of 1 to 20 ASCII digits. Where there is not
+/// a ROW for each row of the matrix, or 2^LG rows of its columns would be more than 2^24 cells, the
+/// matrix is refused with `Invalid`.
 ///
 /// Any other words are `Usage`; a fault of the words comes before any fault of the bytes. With good
 /// words and bytes that are no such encoding, the first fault of the bytes is refused by its name.
 pub fn run(alloc: Global, words: &[String], bytes: &[u8]) -> Result<Vec<u8>, ToolError>
     // The words.
-    ensures usage { IfErr result (λ fault. IsUsage fault → AreWrongWords (map string_bytes words.now)) }
-    ensures wrong { AreWrongWords (map string_bytes words.now) → MatchResult result (λ _. ⊥) IsUsageOrOutOfMemory }
+    ensures usage { IfErr result
+        (λ fault. IsUsage fault → AreWrongWords (map string_bytes words.now)) }
+    ensures wrong { AreWrongWords (map string_bytes words.now)
+        → MatchResult result (λ _. ⊥) IsUsageOrOutOfMemory }
 
-    // `eval`: an answer is the value of the polynomial that the bytes encode, and it is given wherever they encode one.
+    // `eval`: an answer is the value of the polynomial that the bytes encode, and it is given
+    // wherever they encode one.
     ensures eval { (point : ℕ) → AreEvalWords (map string_bytes words.now) point
-        → IfOk result (λ line. (p : List F) × IsEncodedPolynomial bytes.now p × (line.items ≡ eval_line p point)) }
-    ensures eval_encoded { (point : ℕ) (p : List F) → AreEvalWords (map string_bytes words.now) point
-        → IsEncodedPolynomial bytes.now p → MatchResult result (λ line. line.items ≡ eval_line p point) IsOutOfMemory }
+        → IfOk result (λ line. (p : List F) × IsEncodedPolynomial bytes.now p
+        × (line.items ≡ eval_line p point)) }
+    ensures eval_encoded { (point : ℕ) (p : List F)
+        → AreEvalWords (map string_bytes words.now) point
+        → IsEncodedPolynomial bytes.now p
+        → MatchResult result (λ line. line.items ≡ eval_line p point) IsOutOfMemory }
 
     // `eval`: which fault of the bytes it is.
     ensures eval_exact { (point : ℕ) → AreEvalWords (map string_bytes words.now) point
@@ -151,16 +164,20 @@ pub fn run(alloc: Global, words: &[String], bytes: &[u8]) -> Result<Vec<u8>, Too
     ensures eval_memory { (point : ℕ) → AreEvalWords (map string_bytes words.now) point
         → IfErr result (λ fault. WhereOutOfMemory fault (PolynomialGrows bytes.now)) }
 
-    // `recover`: an answer is the encoding of the only matrix that is recovered from the one that the bytes encode,
-    // and it is given wherever they encode one of the right size.
-    ensures recover { (lg : ℕ) (rows : List ℕ) → AreRecoverWords (map string_bytes words.now) lg rows
-        → IfOk result (λ out. (m : MatrixOf F) × IsEncodedMatrix bytes.now m × EncodesRecovered lg rows m out.items) }
+    // `recover`: an answer is the encoding of the only matrix that is recovered from the one that
+    // the bytes encode, and it is given wherever they encode one of the right size.
+    ensures recover { (lg : ℕ) (rows : List ℕ)
+        → AreRecoverWords (map string_bytes words.now) lg rows
+        → IfOk result (λ out. (m : MatrixOf F) × IsEncodedMatrix bytes.now m
+        × EncodesRecovered lg rows m out.items) }
     ensures recover_encoded { (lg : ℕ) (rows : List ℕ) (m : MatrixOf F)
         → AreRecoverWords (map string_bytes words.now) lg rows → IsEncodedMatrix bytes.now m
-        → HasSize lg (length rows) m → MatchResult result (λ out. EncodesRecovered lg rows m out.items) IsOutOfMemory }
+        → HasSize lg (length rows) m
+        → MatchResult result (λ out. EncodesRecovered lg rows m out.items) IsOutOfMemory }
 
     // `recover`: which fault of the bytes it is.
-    ensures recover_exact { (lg : ℕ) (rows : List ℕ) → AreRecoverWords (map string_bytes words.now) lg rows
+    ensures recover_exact { (lg : ℕ) (rows : List ℕ)
+        → AreRecoverWords (map string_bytes words.now) lg rows
         → Meets result (scan_rows lg (length rows) bytes.now) }
 {
     match eval_point(words) {

@@ -2,7 +2,8 @@
 //! encoded on standard input, in decimal.
 //!
 //! `goldmath recover LG ROW..`: the encoding of the only matrix of 2^LG rows whose columns are the
-//! coefficients that fit the rows of the matrix on standard input, each in the place that a word names.
+//! coefficients that fit the rows of the matrix on standard input, each in the place that a word
+//! names.
 #![tactic(auto)]
 
 mod engine;

@@ -91,7 +91,8 @@ pub fn recovery_in(alloc: Global, words: &[String]) -> Mem<Option<Recovery>>
     ensures written { IfOk result (λ answer. IfSome answer (λ found.
         AreRecoverWords (map string_bytes words.now) found.lg found.rows.items)) }
     ensures found { (lg : ℕ) (rows : List ℕ) → AreRecoverWords (map string_bytes words.now) lg rows
-        → IfOk result (λ answer. IsSome answer × IfSome answer (λ found. (found.lg ≡ lg) × (found.rows.items ≡ rows))) }
+        → IfOk result (λ answer. IsSome answer × IfSome answer
+        (λ found. (found.lg ≡ lg) × (found.rows.items ≡ rows))) }
 {
     let [command, lg, rows @ ..] = words else {
         return Ok(None);
@@ -111,12 +112,13 @@ pub fn recovery_in(alloc: Global, words: &[String]) -> Mem<Option<Recovery>>
     Ok(Some(Recovery { lg, rows }))
 }
 
-/// Refuses a matrix whose number of rows is not that of the words, or whose columns would take too many
-/// cells at 2^lg rows.
+/// Refuses a matrix whose number of rows is not that of the words, or whose columns would take too
+/// many cells at 2^lg rows.
 fn check_size(recovery: &Recovery, matrix: &Matrix<F>) -> Result<(), codec::Error>
     requires { recovery.now.lg ≤ 24 }
     ensures { Agrees (λ _. tt) result
-        (scan_size recovery.now.lg (length recovery.now.rows.items) matrix.now.rows matrix.now.cols) }
+        (scan_size recovery.now.lg (length recovery.now.rows.items)
+        matrix.now.rows matrix.now.cols) }
 {
     if matrix.rows() != recovery.rows.len() {
         return Err(Error::Invalid("Matrix", "row count does not match words"));
@@ -127,7 +129,8 @@ fn check_size(recovery: &Recovery, matrix: &Matrix<F>) -> Result<(), codec::Erro
     Ok(())
 }
 
-/// A vector of 2^lg rows of zeros, in which each row of the matrix is put in the place that its word names.
+/// A vector of 2^lg rows of zeros, in which each row of the matrix is put in the place that its
+/// word names.
 fn placed(alloc: Global, recovery: &Recovery, matrix: &Matrix<F>) -> Mem<EvaluationVector<F>>
     requires small { recovery.now.lg ≤ 24 }
     requires below { All (λ row. row < 2 ^ recovery.now.lg) recovery.now.rows.items }
@@ -135,7 +138,8 @@ fn placed(alloc: Global, recovery: &Recovery, matrix: &Matrix<F>) -> Mem<Evaluat
     requires rows { matrix.now.rows ≡ length recovery.now.rows.items }
     requires cells { 2 ^ recovery.now.lg * matrix.now.cols ≤ most_cells }
     ensures { IfOk result
-        (HoldsRows recovery.now.lg recovery.now.rows.items matrix.now (length recovery.now.rows.items)) }
+        (HoldsRows recovery.now.lg recovery.now.rows.items matrix.now
+        (length recovery.now.rows.items)) }
 {
     let mut values = EvaluationVector::empty(alloc, recovery.lg, matrix.cols())?;
     for i in 0..recovery.rows.len() {
@@ -156,7 +160,8 @@ fn recovered_exactly(
     requires distinct { AllPairs (λ i j. i ≢ j) recovery.now.rows.items }
     ensures answer { IfOk result (λ out. (m : MatrixOf F) × IsEncodedMatrix bytes.now m
         × EncodesRecovered recovery.now.lg recovery.now.rows.items m out.items) }
-    ensures exact { Agrees (λ _. tt) result (scan_rows recovery.now.lg (length recovery.now.rows.items) bytes.now) }
+    ensures exact { Agrees (λ _. tt) result
+        (scan_rows recovery.now.lg (length recovery.now.rows.items) bytes.now) }
 {
     let matrix: Matrix<F> = decode(alloc, bytes, &(MOST_CELLS as u32, ()))?;
     check_size(recovery, &matrix)?;
@@ -166,12 +171,12 @@ fn recovered_exactly(
     Ok(out)
 }
 
-/// The encoding of the matrix of 2^lg rows whose column k holds the coefficients of the polynomial of
-/// column k of the matrix that the bytes encode.
+/// The encoding of the matrix of 2^lg rows whose column k holds the coefficients of the polynomial
+/// of column k of the matrix that the bytes encode.
 ///
-/// Where the bytes are no encoded matrix, it refuses with the first fault of the bytes; then with `Invalid`
-/// where the number of rows is not that of the words, and where 2^lg rows of these columns would be more
-/// than 2^24 cells.
+/// Where the bytes are no encoded matrix, it refuses with the first fault of the bytes; then with
+/// `Invalid` where the number of rows is not that of the words, and where 2^lg rows of these
+/// columns would be more than 2^24 cells.
 pub fn recovered(alloc: Global, recovery: &Recovery, bytes: &[u8]) -> Result<Vec<u8>, codec::Error>
     requires small { recovery.now.lg ≤ 24 }
     requires below { All (λ row. row < 2 ^ recovery.now.lg) recovery.now.rows.items }
@@ -180,8 +185,10 @@ pub fn recovered(alloc: Global, recovery: &Recovery, bytes: &[u8]) -> Result<Vec
         × EncodesRecovered recovery.now.lg recovery.now.rows.items m out.items) }
     ensures encoded { (m : MatrixOf F) → IsEncodedMatrix bytes.now m
         → HasSize recovery.now.lg (length recovery.now.rows.items) m
-        → MatchResult result (λ out. EncodesRecovered recovery.now.lg recovery.now.rows.items m out.items) IsMemory }
-    ensures exact { Agrees (λ _. tt) result (scan_rows recovery.now.lg (length recovery.now.rows.items) bytes.now) }
+        → MatchResult result
+        (λ out. EncodesRecovered recovery.now.lg recovery.now.rows.items m out.items) IsMemory }
+    ensures exact { Agrees (λ _. tt) result
+        (scan_rows recovery.now.lg (length recovery.now.rows.items) bytes.now) }
 {
     recovered_exactly(alloc, recovery, bytes)
 }

@@ -1,4 +1,5 @@
-//! Numbers and faults as text: the points that words write, decimal lines, and the lines for standard error.
+//! Numbers and faults as text: the points that words write, decimal lines, and the lines for
+//! standard error.
 ghost use Rattle.std.specs.Prelude.{◌≡◌, ◌<◌, ◌^◌, ℕ, ◌++◌, IfOk, IfSome, string_bytes};
 ghost use Rattle.std.specs.Fmt.{decimal};
 ghost use Rattle.goldmath.specs.Lines.{line_end, line_of};
@@ -9,8 +10,8 @@ use commonware_math::codec::{Error, Mem};
 use commonware_math::fields::goldilocks::MODULUS;
 use std::alloc::Global;
 
-/// The number that a word writes: 1 to 20 ASCII digits, the most significant first, of a number below
-/// 2^64. Zeros may lead. Any other word gives `None`: a sign is refused.
+/// The number that a word writes: 1 to 20 ASCII digits, the most significant first, of a number
+/// below 2^64. Zeros may lead. Any other word gives `None`: a sign is refused.
 pub fn number_in(word: &str) -> Option<u64>
     ensures written { IfSome result (WritesNumber word.now) }
     ensures found { (n : ℕ) → n < 2 ^ 64 → WritesNumber word.now n → result ≡ Some n }
@@ -25,8 +26,8 @@ pub fn number_in(word: &str) -> Option<u64>
     }
 }
 
-/// The point that a word writes, which is below the modulus. Any other word gives `None`: a number of
-/// the modulus or more is not reduced.
+/// The point that a word writes, which is below the modulus. Any other word gives `None`: a number
+/// of the modulus or more is not reduced.
 pub fn point_of(word: &str) -> Option<u64>
     ensures written { IfSome result (WritesPoint word.now) }
     ensures found { (x : ℕ) → WritesPoint word.now x → result ≡ Some x }
@@ -42,8 +43,8 @@ pub fn decimal_line(alloc: Global, n: u64) -> Mem<Vec<u8>>
     Ok(line.into_bytes())
 }
 
-/// The line for standard error that tells of a fault, with its line end: how the program is used, or
-/// `refused: ` and what is wrong.
+/// The line for standard error that tells of a fault, with its line end: how the program is used,
+/// or `refused: ` and what is wrong.
 pub fn fault_line(alloc: Global, fault: &ToolError) -> Mem<Vec<u8>>
     ensures { IfOk result (λ line. line.items ≡ line_of fault.now) }
 {

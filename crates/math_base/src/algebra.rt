@@ -1,10 +1,10 @@
 //! Algebra by traits.
 //!
 //! A type that implements a trait of this module names, as ghost members, total definitions of the
-//! operations that the trait is about, and its own equality `same`. The calls may be refused for want
-//! of memory; where they answer `Ok`, the answer is the same as the definition's value. The laws of a
-//! trait speak of the definitions alone, up to `same`, and each implementation proves them. So code
-//! over these traits rests on the laws and on nothing else of a type.
+//! operations that the trait is about, and its own equality `same`. The calls may be refused for
+//! want of memory; where they answer `Ok`, the answer is the same as the definition's value. The
+//! laws of a trait speak of the definitions alone, up to `same`, and each implementation proves
+//! them. So code over these traits rests on the laws and on nothing else of a type.
 
 ghost use Rattle.std.specs.Prelude.{◌≡◌, ◌↔◌, ◌<◌, ◌≤◌, ℕ, List, [], Option, Some, None, Bool, IsTrue, IsSome, IsOk, IfOk, IfErr, IfSome, OnOk, OnErr, alloc_error};
 ghost use Rattle.std.specs.Iterator.{YieldsThen};
@@ -33,8 +33,8 @@ pub trait Object: Sized + Debug + Drop {
 
     ghost NEVER_REFUSES: { Bool };
 
-    /// Whether `clone`, `equals` and each call of `Additive`, `Multiplicative`, `Ring`, `Field`, `FieldNTT`,
-    /// `Space` and `CryptoGroup` on this type answers `Ok`.
+    /// Whether `clone`, `equals` and each call of `Additive`, `Multiplicative`, `Ring`, `Field`,
+    /// `FieldNTT`, `Space` and `CryptoGroup` on this type answers `Ok`.
     const NEVER_REFUSES: bool;
 
     /// A value that is the same as this one.
@@ -114,7 +114,8 @@ pub trait Additive: Object {
         Ok(())
     }
 
-    /// The n-fold sum, n being the number that the limbs write, the lowest limb first; no limbs write 0.
+    /// The n-fold sum, n being the number that the limbs write, the lowest limb first; no limbs
+    /// write 0.
     fn scale(&self, alloc: Global, bits_le: &[u64]) -> Mem<Self>
         ensures ok { IfOk result (λ answer.
             Self.same answer (multiple zero sum self.now (number_of_limbs bits_le.now))) }
@@ -179,7 +180,8 @@ pub trait Ring: Additive + Multiplicative {
         ensures ok { IfOk result (λ answer. Self.same answer one) }
         ensures never { IsTrue Self.NEVER_REFUSES → IsOk result };
 
-    /// The n-fold product, n being the number that the limbs write, the lowest limb first; no limbs write 0.
+    /// The n-fold product, n being the number that the limbs write, the lowest limb first; no limbs
+    /// write 0.
     fn exp(&self, alloc: Global, bits_le: &[u64]) -> Mem<Self>
         ensures ok { IfOk result (λ answer.
             Self.same answer (power one Self.product self.now (number_of_limbs bits_le.now))) }
@@ -265,8 +267,8 @@ pub trait FieldNTT: Field {
         Ok(out)
     }
 
-    /// The order of each root is exactly 2^lg, each is the square of the next, the shift is no power of
-    /// any of them, and a half twice is the value.
+    /// The order of each root is exactly 2^lg, each is the square of the next, the shift is no
+    /// power of any of them, and a half twice is the value.
     ghost roots: { HasRootsOfUnity Self.same Self.zero Self.sum Self.product Self.one
         MAX_LG_ROOT_ORDER root shift half };
 }
@@ -306,7 +308,8 @@ pub trait Space<R: Ring>: Additive {
     }
 
     /// The laws of a module, each operation respecting `same`.
-    ghost spans: { IsModule Self.same Self.zero Self.sum scaling R.same R.zero R.sum R.product R.one };
+    ghost spans: { IsModule Self.same Self.zero Self.sum scaling
+        R.same R.zero R.sum R.product R.one };
 }
 
 /// Each ring is a space over itself.
@@ -340,11 +343,13 @@ pub trait HashToGroup: CryptoGroup {
 
     /// Hashes a domain separator and a message; equal ones give the same element.
     fn hash_to_group(alloc: Global, domain_separator: &[u8], message: &[u8]) -> Mem<Self>
-        ensures { IfOk result (λ answer. Self.same answer (hash domain_separator.now message.now)) };
+        ensures { IfOk result
+            (λ answer. Self.same answer (hash domain_separator.now message.now)) };
 
     /// Hashes the next 32 bytes of the source, with an empty domain separator.
     fn rand_to_group<G: Rng + CryptoRng>(alloc: Global, rng: &mut G) -> Mem<Self>
-        ensures ok { IfOk result (λ answer. Self.same answer (hash [] (fill_bytes 32 (G.stream rng.old)).0)) }
+        ensures ok { IfOk result
+            (λ answer. Self.same answer (hash [] (fill_bytes 32 (G.stream rng.old)).0)) }
         ensures source { G.stream rng.new ≡ (fill_bytes 32 (G.stream rng.old)).1 }
     {
         let mut bytes = [0u8; 32];
@@ -381,18 +386,20 @@ impl<T: Drop> From<AllocFailed<T>> for RandomError {
 
 /// A type whose values can be sampled from a source of random words.
 pub trait Random: Sized {
-    /// The sample that a source gives, where its next words give one, and the source after the words
-    /// that were looked at.
+    /// The sample that a source gives, where its next words give one, and the source after the
+    /// words that were looked at.
     ghost sample: { Stream → Option Self × Stream };
 
     /// The next sample of the source. How samples are distributed is not promised.
     fn random<G: Rng + CryptoRng>(alloc: Global, rng: &mut G) -> Result<Self, RandomError>
-        ensures sampled { IfOk result (λ x. sample (G.stream rng.old) ≡ (Some x, G.stream rng.new)) }
+        ensures sampled { IfOk result
+            (λ x. sample (G.stream rng.old) ≡ (Some x, G.stream rng.new)) }
         ensures refused { IfErr result (λ error.
             error ≡ TooManyWords → sample (G.stream rng.old) ≡ (None, G.stream rng.new)) };
 }
 
-/// `Ok(shift)`, `Ok(shift * base)`, `Ok(shift * base^2)` and so on, without end; after an `Err` it ends.
+/// `Ok(shift)`, `Ok(shift * base)`, `Ok(shift * base^2)` and so on, without end; after an `Err` it
+/// ends.
 pub fn powers<'a, R: Ring>(alloc: Global, shift: R, base: &'a R) -> Powers<'a, R>
     ensures { (items : _) (last : _) (rest : _)
         → YieldsThen ⟦<Powers<'a, R> as Iterator>⟧.next_gives result items last rest
@@ -401,9 +408,11 @@ pub fn powers<'a, R: Ring>(alloc: Global, shift: R, base: &'a R) -> Powers<'a, R
     Powers::new(alloc, shift, base)
 }
 
-/// The sum of point i scaled by scalar i, over the shorter of both slices, term by term; zero for none.
+/// The sum of point i scaled by scalar i, over the shorter of both slices, term by term; zero for
+/// none.
 pub fn msm_naive<R: Ring, K: Space<R>>(alloc: Global, points: &[K], scalars: &[R]) -> Mem<K>
-    ensures ok { IfOk result (λ answer. K.same answer (weighted_sum K.zero K.sum K.scaling points.now scalars.now)) }
+    ensures ok { IfOk result
+        (λ answer. K.same answer (weighted_sum K.zero K.sum K.scaling points.now scalars.now)) }
     ensures never { IsTrue K.NEVER_REFUSES → IsOk result }
 {
     weighted_sum_by(
@@ -414,8 +423,8 @@ pub fn msm_naive<R: Ring, K: Space<R>>(alloc: Global, points: &[K], scalars: &[R
     )
 }
 
-/// The sum of point i scaled by scalar i, over the shorter of both slices. The scaling is handed in,
-/// so that default bodies of `Space` may call it.
+/// The sum of point i scaled by scalar i, over the shorter of both slices. The scaling is handed
+/// in, so that default bodies of `Space` may call it.
 fn weighted_sum_by<R: Drop, K: Additive, S: Fn(&mut K, &R) -> Mem<()>>(
     alloc: Global,
     points: &[K],
@@ -424,8 +433,10 @@ fn weighted_sum_by<R: Drop, K: Additive, S: Fn(&mut K, &R) -> Mem<()>>(
 ) -> Mem<K>
     requires { S.IsAlwaysCallable scale }
     ensures ok { IfOk result (λ answer.
-        (scaling : K → R → K) → ((a b : K) (x : R) → K.same a b → K.same (scaling a x) (scaling b x))
-        → ((a : _) (x : _) (r : _) (b : _) → S.post scale a x r b → IfOk r (λ _. K.same b.now (scaling a.now x.now)))
+        (scaling : K → R → K)
+        → ((a b : K) (x : R) → K.same a b → K.same (scaling a x) (scaling b x))
+        → ((a : _) (x : _) (r : _) (b : _) → S.post scale a x r b
+        → IfOk r (λ _. K.same b.now (scaling a.now x.now)))
         → K.same answer (weighted_sum K.zero K.sum scaling points.now scalars.now)) }
     ensures never { IsTrue K.NEVER_REFUSES
         → ((a : _) (x : _) (r : _) (b : _) → S.post scale a x r b → IsOk r) → IsOk result }
@@ -442,8 +453,8 @@ fn weighted_sum_by<R: Drop, K: Additive, S: Fn(&mut K, &R) -> Mem<()>>(
 /// The power of x in a commutative monoid, by the number that the limbs write. `start` is the
 /// monoid's one; squaring and multiplying are handed in, so that sums and products share this loop.
 ///
-/// From the highest bit to the lowest, the power by n becomes that by 2 n with a squaring, and that by
-/// 2 n + 1 with one product more. Before the first bit that is one there is nothing to square.
+/// From the highest bit to the lowest, the power by n becomes that by 2 n with a squaring, and that
+/// by 2 n + 1 with one product more. Before the first bit that is one there is nothing to square.
 fn power_by_bits<T: Object, D: Fn(&mut T) -> Mem<()>, J: Fn(&mut T, &T) -> Mem<()>>(
     start: T,
     x: &T,
@@ -453,10 +464,14 @@ fn power_by_bits<T: Object, D: Fn(&mut T) -> Mem<()>, J: Fn(&mut T, &T) -> Mem<(
 ) -> Mem<T>
     requires squares { D.IsAlwaysCallable square }
     requires multiplies { J.IsAlwaysCallable multiply }
-    ensures ok { IfOk result (λ answer. (one : T) (product : T → T → T) → IsMonoid T.same one product
-        → ((a : _) (r : _) (b : _) → D.post square a r b → IfOk r (λ _. T.same b.now (product a.now a.now)))
-        → ((a : _) (c : _) (r : _) (b : _) → J.post multiply a c r b → IfOk r (λ _. T.same b.now (product a.now c.now)))
-        → T.same start one → T.same answer (power one product x.now (number_of_limbs bits_le.now))) }
+    ensures ok { IfOk result
+        (λ answer. (one : T) (product : T → T → T) → IsMonoid T.same one product
+        → ((a : _) (r : _) (b : _) → D.post square a r b
+        → IfOk r (λ _. T.same b.now (product a.now a.now)))
+        → ((a : _) (c : _) (r : _) (b : _) → J.post multiply a c r b
+        → IfOk r (λ _. T.same b.now (product a.now c.now)))
+        → T.same start one
+        → T.same answer (power one product x.now (number_of_limbs bits_le.now))) }
     ensures never { ((a : _) (r : _) (b : _) → D.post square a r b → IsOk r)
         → ((a : _) (c : _) (r : _) (b : _) → J.post multiply a c r b → IsOk r) → IsOk result }
 {

@@ -1,8 +1,8 @@
 //! Maps in the order of their keys.
 //!
 //! A map is a list of pairs whose keys strictly rise, and in a two-way map no value occurs twice
-//! either. Two keys, or two values, are equal where `cmp` answers `Equal`. Building a map of n pairs
-//! takes O(n log n) comparisons, and looking a pair up O(log n).
+//! either. Two keys, or two values, are equal where `cmp` answers `Equal`. Building a map of n
+//! pairs takes O(n log n) comparisons, and looking a pair up O(log n).
 
 mod error;
 mod map;

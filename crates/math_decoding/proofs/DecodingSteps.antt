@@ -8,12 +8,13 @@ use Rattle.math_theory.specs.Interpolation.{AreApart}
 use Rattle.math_theory.specs.Laws.{IsEquality, IsGroup, IsProduct, IsRing, IsField}
 use Rattle.math_theory.specs.Values.{value}
 use Rattle.math_theory.proofs.classes.Classes.{Class, class, class_same, same_class, ring_of_classes}
-use Rattle.math_theory.proofs.classes.ClassesOfLists.{value-class, coefficient-class}
+use Rattle.math_theory.proofs.classes.ClassesOfLists.{coefficient-class}
 use Rattle.math_theory.proofs.classes.ClassesOfProducts.{HaveSameCoefficients-classes, polynomial_sum-class, polynomial_product-class}
 use Rattle.math_theory.proofs.decoding.CarriedDecoding.{IsKept_step-same, degree_step-same, decoding_found-same, decoding_few-same, decoding_once-same}
+use Rattle.math_theory.proofs.polynomials.AlikeCoefficients.{value-alike}
 use Rattle.math_theory.proofs.polynomials.BuiltPolynomials.{value-of_one}
 use Rattle.math_theory.proofs.polynomials.CarriedDivision.{division_only-same}
-use Rattle.math_theory.proofs.polynomials.Coefficients.{value-HaveSameCoefficients, coefficient-sum}
+use Rattle.math_theory.proofs.polynomials.Coefficients.{coefficient-sum}
 use Rattle.math_theory.proofs.polynomials.Products.{product-respects}
 use Rattle.math_theory.proofs.rings.RingLaws.{sum-zero_right}
 use Rattle.math_theory.proofs.rings.Normal.{ring, ◌⊗◌, 𝟘, 𝟙, v0}
@@ -22,14 +23,6 @@ use Rattle.math_decoding.proofs.CoefficientLists.{degree-once, degree-within}
 
 module _ {A : Type 0} {same : A → A → Type 0} {zero : A} {sum : A → A → A} {negative : A → A} {product : A → A → A} {one : A} {inverse : A → A}
     (E : IsEquality same) (G : IsGroup same zero sum negative) (P : IsProduct same product) (R : IsRing same sum product one) (F : IsField same zero product one inverse) where
-  -- the same coefficients give the same values
-  value-respects : (r : A) (p q : List A) → HaveSameCoefficients same zero p q → same (value zero sum product one r p) (value zero sum product one r q)
-  value-respects r p q e =
-      same_class E _ _
-      (sym (value-class E G P R r p)
-      ∙ value-HaveSameCoefficients (ring_of_classes E G P R) (class E r) (map (class E) p) (map (class E) q) (HaveSameCoefficients-classes E G P R p q e)
-      ∙ value-class E G P R r q)
-
   -- a polynomial with a degree is not zero
   pub not_zero : (p : List A) (n : ℕ) → HasExactDegree same zero p n → ¬ (IsZeroPolynomial same zero p)
   not_zero p n h z = h.leading (z n zero (degree-within zero E p n h))
@@ -37,7 +30,7 @@ module _ {A : Type 0} {same : A → A → Type 0} {zero : A} {sum : A → A → 
   -- a polynomial with the same coefficients is kept too
   kept-respects : (points values r r' v : List A) → HaveSameCoefficients same zero r' r → IsKept same zero sum product one points values r v → IsKept same zero sum product one points values r' v
   kept-respects points values r r' v e h i l =
-      E.transitive _ _ _ (value-respects (get_or points i zero) r' r e) (h i l)
+      E.transitive _ _ _ (value-alike E G P R (get_or points i zero) r' r e) (h i l)
 
   -- the step from two remainders to the next
   pub remainders-next : (points values r v r' v' q rest t w : List A) (n : ℕ) → 0 < length r' → HasExactDegree same zero r' n → length q ≡ length r - n
@@ -74,7 +67,7 @@ module _ {A : Type 0} {same : A → A → Type 0} {zero : A} {sum : A → A → 
       let at : length prod - 1 ≡ length points = omega (arith, l) in record {
         kept = λ i m. same_class E _ _ (class_same E _ _ (zeros i m) ∙ ring C (class E (get_or values i zero) ∷ []) 𝟘 (𝟘 ⊗ v0) refl);
         kept' = λ i m.
-            E.transitive _ _ _ (value-respects (get_or points i zero) t through et)
+            E.transitive _ _ _ (value-alike E G P R (get_or points i zero) t through et)
             (E.transitive _ _ _ (fits i m)
             (E.symmetric _ _ (same_class E _ _
             (class_same E _ _ (P.respects _ _ _ _ (value-of_one E G P R (get_or points i zero) u (u ∷ []) refl hu) (E.reflexive (get_or values i zero)))

@@ -32,7 +32,8 @@ pub(super) fn padded<F: Ring>(alloc: Global, p: &[F], count: usize) -> Mem<Vec<F
 /// How many coefficients there are before the zeros at the end.
 pub(super) fn count_before_zeros<F: Ring>(alloc: Global, p: &[F]) -> Mem<usize>
     ensures within { IfOk result (λ n. n ≤ length p.now) }
-    ensures zeros { IfOk result (λ n. (i : ℕ) → n ≤ i → F.same (coefficient F.Ring p.now i) F.zero) }
+    ensures zeros { IfOk result
+        (λ n. (i : ℕ) → n ≤ i → F.same (coefficient F.Ring p.now i) F.zero) }
     ensures last { IfOk result
         (λ n. 0 < n → ¬ (F.same (coefficient F.Ring p.now (n - 1)) F.zero)) }
 {

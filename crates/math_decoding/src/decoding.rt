@@ -1,11 +1,12 @@
 //! The polynomial, however some values are wrong.
 //!
-//! Values stand at m distinct points, and a polynomial of at most k coefficients is wanted that agrees with all but at
-//! most (m - k) / 2 of them. Two such agree with each other at k points or more, so there is one at most. Euclid's
-//! algorithm is run on the product of X - x over the points and the polynomial through the values, up to the first
-//! remainder r of degree below (m + k) / 2. It has a factor v such that r(x) is v(x) y at each point x with value y,
-//! and v has at most (m - k) / 2 zeros. Where there is such a polynomial f, r is f v (Gao, A new algorithm for
-//! decoding Reed-Solomon codes, 2003).
+//! Values stand at m distinct points, and a polynomial of at most k coefficients is wanted that
+//! agrees with all but at most (m - k) / 2 of them. Two such agree with each other at k points or
+//! more, so there is one at most. Euclid's algorithm is run on the product of X - x over the points
+//! and the polynomial through the values, up to the first remainder r of degree below (m + k) / 2.
+//! It has a factor v such that r(x) is v(x) y at each point x with value y, and v has at most (m -
+//! k) / 2 zeros. Where there is such a polynomial f, r is f v (Gao, A new algorithm for decoding
+//! Reed-Solomon codes, 2003).
 
 ghost use Rattle.std.specs.Prelude.{◌≡◌, ◌+◌, ◌<◌, ◌≤◌, ℕ, List, IfOk, IfSome, IfNone, length};
 ghost use Rattle.math_theory.specs.Interpolation.{AreApart};
@@ -25,8 +26,9 @@ pub struct Decoded<F: Drop> {
     pub wrong: Vec<usize>,
 }
 
-/// The polynomial of `count` coefficients that agrees with all but at most (m - count) / 2 of the values that stand
-/// at m points, and the places at which it differs; `None` exactly where there is none.
+/// The polynomial of `count` coefficients that agrees with all but at most (m - count) / 2 of the
+/// values that stand at m points, and the places at which it differs; `None` exactly where there is
+/// none.
 ///
 /// The points are distinct, there are as many values, and `count` is at most their number.
 pub fn decode<F: Field>(
@@ -54,8 +56,8 @@ pub fn decode<F: Field>(
     }))
 }
 
-/// The quotient, with `count` coefficients, of p by d, which is not zero; `None` where there is a remainder, or where
-/// the quotient has a coefficient other than zero from `count` on.
+/// The quotient, with `count` coefficients, of p by d, which is not zero; `None` where there is a
+/// remainder, or where the quotient has a coefficient other than zero from `count` on.
 fn exact_quotient<F: Field>(alloc: Global, p: &[F], d: &[F], count: usize) -> Mem<Option<Vec<F>>>
     requires { ¬ (IsZero F.Ring d.now) }
     ensures some { IfOk result (λ answer. IfSome answer (λ q.
@@ -96,7 +98,8 @@ fn wrong_places<F: Ring>(
     coefficients: &[F],
 ) -> Mem<Vec<usize>>
     requires { length values.now ≡ length points.now }
-    ensures { IfOk result (λ wrong. AreWrongPlaces F.Ring points.now values.now coefficients.now wrong.items) }
+    ensures { IfOk result
+        (λ wrong. AreWrongPlaces F.Ring points.now values.now coefficients.now wrong.items) }
 {
     let mut wrong = Vec::new(alloc);
     for i in 0..points.len() {

@@ -1,8 +1,8 @@
 //! Division of polynomials with remainder.
 //!
-//! By a polynomial d of degree n, every polynomial p is q d + r with one q and one r of at most n coefficients.
-//! From the last coefficient down, c is what is left of coefficient i + n over the last of d, and
-//! becomes coefficient i of q; c X^i d is taken from what is left.
+//! By a polynomial d of degree n, every polynomial p is q d + r with one q and one r of at most n
+//! coefficients. From the last coefficient down, c is what is left of coefficient i + n over the
+//! last of d, and becomes coefficient i of q; c X^i d is taken from what is left.
 
 ghost use Rattle.std.specs.Prelude.{◌≡◌, ◌-◌, ◌<◌, ◌≤◌, ℕ, IfOk, IfSome, IfNone, OnOk, List, reverse, length, min};
 ghost use Rattle.math_decoding.specs.Divisions.{IsDivided, IsDividedDownTo};
@@ -27,11 +27,12 @@ pub fn degree<F: Ring>(alloc: Global, p: &[F]) -> Mem<Option<usize>>
 
 /// Quotient and remainder of p by d, which is not zero.
 ///
-/// Where n is the degree of d, its greatest index of a coefficient that is not zero, the quotient has n
-/// coefficients less than p (none, where p has at most n) and the remainder has n.
+/// Where n is the degree of d, its greatest index of a coefficient that is not zero, the quotient
+/// has n coefficients less than p (none, where p has at most n) and the remainder has n.
 pub fn divide<F: Field>(alloc: Global, p: &[F], d: &[F]) -> Mem<(Vec<F>, Vec<F>)>
     requires { ¬ (IsZero F.Ring d.now) }
-    ensures { IfOk result (λ answer. (n : ℕ) × IsDivided F.Ring p.now d.now answer.0.items answer.1.items n) }
+    ensures { IfOk result
+        (λ answer. (n : ℕ) × IsDivided F.Ring p.now d.now answer.0.items answer.1.items n) }
 {
     let count = count_before_zeros(alloc, d)?;
     let n = count - 1;
@@ -55,7 +56,8 @@ fn divide_down<F: Field>(
     requires long { n ≤ length left.old.items }
     ensures quotient { IfOk result (λ q. length q.items ≡ length left.old.items - n) }
     ensures remainder { OnOk result (length left.new.items ≡ n) }
-    ensures divided { IfOk result (λ q. IsDividedDownTo F.Ring 0 left.old.items d.now q.items left.new.items) }
+    ensures divided { IfOk result
+        (λ q. IsDividedDownTo F.Ring 0 left.old.items d.now q.items left.new.items) }
 {
     let count = left.len() - n;
     let mut quotient = Vec::with_capacity(alloc, count)?;

@@ -12,16 +12,16 @@ use super::interpolation::interpolate;
 use math_base::algebra::{Additive, Field, Mem, Ring};
 use std::alloc::Global;
 
-/// A remainder, and its factor: at each point the value of the remainder is that of the factor times the value given
-/// there.
+/// A remainder, and its factor: at each point the value of the remainder is that of the factor
+/// times the value given there.
 #[derive(Drop)]
 pub(super) struct Remainder<F: Drop> {
     pub(super) coefficients: Vec<F>,
     pub(super) factor: Vec<F>,
 }
 
-/// Of the product of X - x over m points and the polynomial through the values there: the first remainder of degree
-/// below (m + count) / 2.
+/// Of the product of X - x over m points and the polynomial through the values there: the first
+/// remainder of degree below (m + count) / 2.
 pub(super) fn first_short_remainder<F: Field>(
     alloc: Global,
     points: &[F],
@@ -33,9 +33,11 @@ pub(super) fn first_short_remainder<F: Field>(
     requires count { count ≤ length points.now }
     ensures kept { IfOk result (λ last.
         IsKept F.Ring points.now values.now last.coefficients.items last.factor.items) }
-    ensures short { IfOk result (λ last. length last.coefficients.items + length last.coefficients.items
+    ensures short { IfOk result
+        (λ last. length last.coefficients.items + length last.coefficients.items
         ≤ suc (length points.now + count)) }
-    ensures factor { IfOk result (λ last. HasExactDegree F.Ring last.factor.items (length last.factor.items - 1)) }
+    ensures factor { IfOk result
+        (λ last. HasExactDegree F.Ring last.factor.items (length last.factor.items - 1)) }
     ensures small { IfOk result (λ last. length last.factor.items + length last.factor.items + count
         ≤ suc (suc (length points.now))) }
 {
@@ -58,7 +60,8 @@ pub(super) fn first_short_remainder<F: Field>(
     Ok(last)
 }
 
-/// Whether a polynomial of so many coefficients, the last not zero, has degree (m + count) / 2 or more.
+/// Whether a polynomial of so many coefficients, the last not zero, has degree (m + count) / 2 or
+/// more.
 fn is_long(length: usize, m: usize, count: usize) -> bool
     requires within { length ≤ m }
     requires count { count ≤ m }
@@ -67,8 +70,8 @@ fn is_long(length: usize, m: usize, count: usize) -> bool
     length > count && length - 1 - count >= m - (length - 1)
 }
 
-/// The remainder of the one before by the last. Its factor is that of the one before, less the quotient times that of
-/// the last.
+/// The remainder of the one before by the last. Its factor is that of the one before, less the
+/// quotient times that of the last.
 fn next_remainder<F: Field>(
     alloc: Global,
     before: &Remainder<F>,
@@ -78,12 +81,15 @@ fn next_remainder<F: Field>(
     requires trimmed { IsTrimmed F.Ring last.now.coefficients.items }
     requires shorter { length last.now.coefficients.items < length before.now.coefficients.items }
     requires longer { length before.now.factor.items < length last.now.factor.items }
-    ensures shorter { IfOk result (λ next. length next.coefficients.items < length last.now.coefficients.items) }
+    ensures shorter { IfOk result
+        (λ next. length next.coefficients.items < length last.now.coefficients.items) }
     ensures next { IfOk result (λ next. (points values : List F)
         → AreRemainders F.same F.zero F.sum F.product F.one points values
-        before.now.coefficients.items before.now.factor.items last.now.coefficients.items last.now.factor.items
+        before.now.coefficients.items before.now.factor.items
+        last.now.coefficients.items last.now.factor.items
         → AreRemainders F.same F.zero F.sum F.product F.one points values
-        last.now.coefficients.items last.now.factor.items next.coefficients.items next.factor.items) }
+        last.now.coefficients.items last.now.factor.items
+        next.coefficients.items next.factor.items) }
 {
     let (quotient, remainder) = divide(alloc, &before.coefficients, &last.coefficients)?;
     let factor = less_product(alloc, &before.factor, &quotient, &last.factor)?;

@@ -11,8 +11,9 @@ use std::alloc::Global;
 
 /// The product of X - x over the points, and the polynomial through the values.
 ///
-/// Point after point: where z is the product of X - x over the points so far and f goes through their
-/// values, f less c z goes through the value y at the next point x too, where c is (f(x) - y) / z(x).
+/// Point after point: where z is the product of X - x over the points so far and f goes through
+/// their values, f less c z goes through the value y at the next point x too, where c is (f(x) - y)
+/// / z(x).
 pub(super) fn interpolate<F: Field>(
     alloc: Global,
     points: &[F],

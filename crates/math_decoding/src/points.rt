@@ -6,7 +6,8 @@ ghost use Rattle.math_theory.specs.Interpolation.{AreApart};
 use math_base::algebra::{Mem, Object};
 use std::alloc::Global;
 
-/// Whether no two of the points are the same: what `decode` asks of its points. It compares each two.
+/// Whether no two of the points are the same: what `decode` asks of its points. It compares each
+/// two.
 pub fn are_distinct<F: Object>(alloc: Global, points: &[F]) -> Mem<bool>
     ensures { IfOk result (λ answer. IsTrue answer ↔ AreApart F.same points.now) }
 {
@@ -21,9 +22,11 @@ pub fn are_distinct<F: Object>(alloc: Global, points: &[F]) -> Mem<bool>
 /// Whether a point after the one at index i is the same.
 fn stands_again<F: Object>(alloc: Global, points: &[F], i: usize) -> Mem<bool>
     requires { i < length points.now }
-    ensures some { IfOk result (λ answer. IsTrue answer → (j : ℕ) × (d : F) × (i < j) × (j < length points.now)
+    ensures some { IfOk result
+        (λ answer. IsTrue answer → (j : ℕ) × (d : F) × (i < j) × (j < length points.now)
         × F.same (slice_index_or points.now i d) (slice_index_or points.now j d)) }
-    ensures none { IfOk result (λ answer. ¬ (IsTrue answer) → (j : ℕ) (d : F) → i < j → j < length points.now
+    ensures none { IfOk result
+        (λ answer. ¬ (IsTrue answer) → (j : ℕ) (d : F) → i < j → j < length points.now
         → ¬ (F.same (slice_index_or points.now i d) (slice_index_or points.now j d))) }
 {
     for j in i + 1..points.len() {

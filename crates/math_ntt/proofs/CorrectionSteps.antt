@@ -1,5 +1,5 @@
 -- Rows that are dropped because they are wrong for every answer, and what is recovered from the rows that are left.
-use Rattle.std.proofs.Common.{◌≡◌, ◌∙◌, inl, inr, ℕ, ◌+◌, ◌*◌, ◌<◌, ◌≤◌, List, Bool, true, false, not, length, take, map, get_or, refl, sym, subst, true≢false, arith}
+use Rattle.std.proofs.Common.{◌≡◌, ◌∙◌, inl, inr, ℕ, ◌+◌, ◌*◌, ◌<◌, ◌≤◌, List, Bool, true, false, not, length, take, get_or, refl, sym, subst, true≢false, arith}
 use Rattle.std.proofs.lemmas.Bool.{cases_Bool, cases_lt, not_from_false, not-true}
 use Rattle.std.proofs.lemmas.List.{get_or_default, get_or_past, get_or-take, length-take}
 use Rattle.std.proofs.lemmas.List.Elements.{All-filter, filter_passes}
@@ -10,13 +10,9 @@ use Rattle.math_theory.specs.Interpolation.{AreApart}
 use Rattle.math_theory.specs.Laws.{IsEquality, IsGroup, IsProduct, IsRing, IsField}
 use Rattle.math_theory.specs.Powers.{power, powers}
 use Rattle.math_theory.specs.Recovery.{Fits, count_true, filled_places}
-use Rattle.math_theory.proofs.classes.Classes.{class, same_class, ring_of_classes}
-use Rattle.math_theory.proofs.classes.ClassesOfLists.{value-class}
-use Rattle.math_theory.proofs.classes.ClassesOfProducts.{HaveSameCoefficients-classes}
-use Rattle.math_theory.proofs.polynomials.Coefficients.{value-HaveSameCoefficients}
+use Rattle.math_theory.proofs.polynomials.AlikeCoefficients.{value-alike}
 use Rattle.math_theory.proofs.recovery.CarriedRecovery.{fits_once-same}
 use Rattle.math_base.specs.Members.{RingOf}
-use Rattle.math_base.specs.Polynomials.{value_in_ring}
 use Rattle.math_transforms.specs.Matrices.{MatrixOf, IsOfSize, column_of, cell_of}
 use Rattle.math_transforms.proofs.MatrixRows.{length-column, cell-of_column}
 use Rattle.math_transforms.proofs.PresentIndices.{length-places}
@@ -72,15 +68,8 @@ module _ {A : Type 0} (R : RingOf A) (w : A) (e : EvaluationsOf A) (count : ℕ)
   none-few left d f a h = omega (arith, f, h.few, count-among h.right left (dropped-right left a d h))
 
   module _ (E : IsEquality R.same) (G : IsGroup R.same R.zero R.sum R.negative) (P : IsProduct R.same R.product) (L : IsRing R.same R.sum R.product R.one) where
-    value-respects : (r : A) (p q : List A) → HaveSameCoefficients R.same R.zero p q → R.same (value_in_ring R p r) (value_in_ring R q r)
-    value-respects r p q h =
-        same_class E _ _
-        (sym (value-class E G P L r p)
-        ∙ value-HaveSameCoefficients (ring_of_classes E G P L) (class E r) (map (class E) p) (map (class E) q) (HaveSameCoefficients-classes E G P L p q h)
-        ∙ value-class E G P L r q)
-
     agrees-same : (i k : ℕ) (p q : List A) → HaveSameCoefficients R.same R.zero p q → Agrees R w e.matrix i k q → Agrees R w e.matrix i k p
-    agrees-same i k p q h s = E.transitive _ _ _ (value-respects (power R.one R.product w i) p q h) s
+    agrees-same i k p q h s = E.transitive _ _ _ (value-alike E G P L (power R.one R.product w i) p q h) s
 
     -- the rows in which a column differs from what is decoded are dropped too
     pub dropped-narrowed : (left less : List Bool) (k : ℕ) → AreDropped left → k < e.matrix.cols → IsNarrowed R w (with_rows e left) k count less → AreDropped less

@@ -18,8 +18,8 @@ use std::fmt;
 use std::marker::Model;
 use std::num::NonZeroU32;
 
-/// A polynomial with 1 to 2^32 - 1 stored coefficients, from the constant upwards. The last ones may
-/// be zero.
+/// A polynomial with 1 to 2^32 - 1 stored coefficients, from the constant upwards. The last ones
+/// may be zero.
 #[derive(Drop)]
 pub struct Poly<K: Drop> {
     coefficients: Vec<K>,
@@ -31,11 +31,13 @@ impl<K: Drop> Model for Poly<K> {
 
     ghost view = { λ p. p.coefficients.items };
 
-    ghost invariant = { λ p. (0 < length p.coefficients.items) × (length p.coefficients.items < 2 ^ 32) };
+    ghost invariant = { λ p. (0 < length p.coefficients.items)
+        × (length p.coefficients.items < 2 ^ 32) };
 }
 
 impl<K: Drop> Poly<K> {
-    /// The polynomial with these stored coefficients, from the constant upwards. There are 1 to 2^32 - 1.
+    /// The polynomial with these stored coefficients, from the constant upwards. There are 1 to
+    /// 2^32 - 1.
     pub fn from_coefficients(coefficients: Vec<K>) -> Self
         requires some { 0 < length coefficients.items }
         requires few { length coefficients.items < 2 ^ 32 }
@@ -120,9 +122,11 @@ impl<K: Read + Drop> Read for Poly<K> {
         Ok(Poly { coefficients })
     }
 
-    ghost again = { λ cfg p rest h. list_again K.spelling (K.admits cfg.1) (K.scan cfg.1) (K.again cfg.1)
+    ghost again = { λ cfg p rest h.
+        list_again K.spelling (K.admits cfg.1) (K.scan cfg.1) (K.again cfg.1)
         (nonzero cfg.0) p rest h };
 
-    ghost apart = { λ cfg p q x y h k e. list_apart K.spelling (K.admits cfg.1) K.alike (K.apart cfg.1) (nonzero cfg.0)
+    ghost apart = { λ cfg p q x y h k e.
+        list_apart K.spelling (K.admits cfg.1) K.alike (K.apart cfg.1) (nonzero cfg.0)
         p q x y h k e };
 }

@@ -11,3 +11,4 @@ pub mod Division
 pub mod CarriedDivision
 pub mod CarriedRoots
 pub mod BuiltPolynomials
+pub mod AlikeCoefficients

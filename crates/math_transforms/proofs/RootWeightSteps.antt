@@ -45,10 +45,6 @@ module _ {A : Type 0} {same : A → A → Type 0} {zero_of : A} {sum : A → A �
   squared-none x out h =
       rw (power-suc one product x 0, power-zero one product x) (E.transitive _ _ _ h (E.symmetric _ _ (R.identity x)))
 
-  -- the next power of the root
-  pub power-next : (w r old new : A) (n : ℕ) → same r w → same old (power one product w n) → same new (product old r) → same new (power one product w (n + 1))
-  power-next w r old new n e h k = rw (add-one, power-suc one product w n) (E.transitive _ _ _ k (P.respects _ _ _ _ h e))
-
   -- x - p, times the factor
   pub factored-difference : (x factor copy difference item new : A) (points : List A) (i : ℕ) (p : A) → i < length points → p ≡ get_or points i p
       → same copy x → same difference (sum copy (negative p)) → same item factor → same new (product item difference) → same new (product factor (sum x (negative (get_or points i zero_of))))

@@ -48,11 +48,10 @@ mod points;
 use super::columns::EvaluationColumn;
 use super::vanishing_points::VanishingPoints;
 use crate::weights::{first_place, one_at, quotients};
-use indices::{keyed, lg_of_domain, present_indices, present_points};
+use indices::{keyed, lg_of_domain, present_points};
 use math_base::algebra::{FieldNTT, Mem};
-use points::{
-    differences, domain_points, gathered, power_minus_one, products, scaled, size, value_at,
-};
+pub use points::domain_points;
+use points::{differences, gathered, power_minus_one, products, scaled, size, value_at};
 use std::alloc::Global;
 use std::num::NonZeroU32;
 
@@ -107,7 +106,7 @@ where
 {
     let lg = lg_of_domain(total);
     let points = present_points(alloc, lg, total.get(), indices)?;
-    let places = present_indices(alloc, &points)?;
+    let places = points.non_vanishing_indices(alloc)?;
     let weights = weights_at(alloc, lg, points, &places, x)?;
     let out = keyed(alloc, places, weights)?;
     Ok(out)
@@ -118,7 +117,7 @@ fn weights_at<F: FieldNTT>(
     alloc: Global,
     lg: u8,
     present: VanishingPoints,
-    places: &[u32],
+    places: &[usize],
     x: &F,
 ) -> Mem<Vec<F>>
     requires domain { lg ≤ F.MAX_LG_ROOT_ORDER }
@@ -156,7 +155,7 @@ fn weights_at_zero<F: FieldNTT>(
     alloc: Global,
     lg: u8,
     present: &VanishingPoints,
-    places: &[u32],
+    places: &[usize],
     x: &F,
 ) -> Mem<Vec<F>>
     requires domain { lg ≤ F.MAX_LG_ROOT_ORDER }
@@ -182,7 +181,7 @@ fn weights_outside<F: FieldNTT>(
     alloc: Global,
     lg: u8,
     present: &VanishingPoints,
-    places: &[u32],
+    places: &[usize],
     points: &[F],
     x: &F,
 ) -> Mem<Vec<F>>
@@ -215,7 +214,7 @@ fn weights_at_missing<F: FieldNTT>(
     alloc: Global,
     lg: u8,
     present: VanishingPoints,
-    places: &[u32],
+    places: &[usize],
     points: &[F],
     x: &F,
     m: usize,

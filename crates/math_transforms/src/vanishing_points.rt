@@ -17,7 +17,7 @@ ghost use Rattle.std.specs.Prelude.{
   true,
   false,
 };
-ghost use Rattle.math_theory.specs.Recovery.{count_true};
+ghost use Rattle.math_theory.specs.Recovery.{count_true, filled_places};
 ghost use Rattle.math_transforms.specs.Bitmaps.{points_a_word, truth_values, word_count, IsBitmap};
 
 use math_base::algebra::Mem;
@@ -78,6 +78,13 @@ impl VanishingPoints {
         self.lg_size
     }
 
+    /// How many points there are.
+    pub fn size(&self) -> u64
+        ensures { result ≡ length self.now }
+    {
+        1 << self.lg_size()
+    }
+
     /// Makes point `index` one that does not vanish. `index` is below 2^lg_size.
     pub fn set_non_vanishing(&mut self, index: u64)
         requires { index < length self.old }
@@ -103,6 +110,19 @@ impl VanishingPoints {
             count += u64::from(word.count_ones());
         }
         count
+    }
+
+    /// The indices of the non-vanishing points, by rising number.
+    pub fn non_vanishing_indices(&self, alloc: Global) -> Mem<Vec<usize>>
+        ensures { IfOk result (λ indices. indices.items ≡ filled_places self.now) }
+    {
+        let mut out = Vec::new(alloc);
+        for i in 0..self.size() {
+            if self.get(i) {
+                out.push(i as usize)?;
+            }
+        }
+        Ok(out)
     }
 }
 

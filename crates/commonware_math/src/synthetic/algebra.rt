@@ -19,8 +19,8 @@ use std::alloc::Global;
 impl<F: Ring, G: Space<F>> Synthetic<F, G> {
     /// The same indices and points, with f's answer at each weight in its place.
     ///
-    /// Where the answers are those of an additive map, the sum of the points goes through the map that
-    /// belongs to it on points.
+    /// Where the answers are those of an additive map, the sum of the points goes through the map
+    /// that belongs to it on points.
     fn with_weights<A: Fn(&F) -> Mem<F>>(&self, alloc: Global, f: A) -> Mem<Self>
         requires { A.IsAlwaysCallable f }
         ensures rising { IfOk result (λ c. IsRising c.0) }
@@ -48,7 +48,8 @@ impl<F: Ring, G: Space<F>> Synthetic<F, G> {
     fn negative(&self, alloc: Global) -> Mem<Self>
         ensures indices { IfOk result (λ c. keys_of c.0 ≡ keys_of self.now.0) }
         ensures ok { IfOk result (λ c.
-            AreSameCombinations F.same F.zero F.sum G.same c (combination_negative F.negative G.negative self.now)) }
+            AreSameCombinations F.same F.zero F.sum G.same c
+            (combination_negative F.negative G.negative self.now)) }
     {
         let out = self.with_weights(
             alloc,
@@ -86,7 +87,8 @@ impl<F: Ring, G: Space<F>> Synthetic<F, G> {
 
     /// The sum, whose terms are moved.
     fn joined(self, alloc: Global, other: Self) -> Mem<Self>
-        ensures indices { IfOk result (λ c. HasIndices c.0 (λ i. HasTerm self.0 i ⊎ HasTerm other.0 i)) }
+        ensures indices { IfOk result
+            (λ c. HasIndices c.0 (λ i. HasTerm self.0 i ⊎ HasTerm other.0 i)) }
         ensures ok { IfOk result (λ c.
             AreSameCombinations F.same F.zero F.sum G.same c (combination_sum G.sum self other)) }
     {
@@ -101,8 +103,8 @@ impl<F: Ring, G: Space<F>> Synthetic<F, G> {
     }
 }
 
-/// The sum of combination i times scalar i. Halves of the list are summed apart and joined, so each term
-/// is moved as often as the list can be halved.
+/// The sum of combination i times scalar i. Halves of the list are summed apart and joined, so each
+/// term is moved as often as the list can be halved.
 fn weighted_sum_by_halves<F: Ring, G: Space<F>>(
     alloc: Global,
     combinations: &[Synthetic<F, G>],
@@ -131,8 +133,8 @@ fn weighted_sum_by_halves<F: Ring, G: Space<F>>(
     Ok(out)
 }
 
-/// Combinations are the same where the weights at each index are, those that are not stored being zero,
-/// and the sums of their points.
+/// Combinations are the same where the weights at each index are, those that are not stored being
+/// zero, and the sums of their points.
 impl<F: Ring, G: Space<F>> Object for Synthetic<F, G> {
     ghost same = { AreSameCombinations F.same F.zero F.sum G.same };
 
@@ -142,7 +144,8 @@ impl<F: Ring, G: Space<F>> Object for Synthetic<F, G> {
 
     /// A combination with the same indices.
     fn clone(&self, alloc: Global) -> Mem<Self>
-        ensures ok { IfOk result (λ copy. AreSameCombinations F.same F.zero F.sum G.same copy self.now) }
+        ensures ok { IfOk result
+            (λ copy. AreSameCombinations F.same F.zero F.sum G.same copy self.now) }
         ensures indices { IfOk result (λ copy. keys_of copy.0 ≡ keys_of self.now.0) }
     {
         let copy = self.with_weights(
@@ -154,8 +157,8 @@ impl<F: Ring, G: Space<F>> Object for Synthetic<F, G> {
         Ok(copy)
     }
 
-    /// Whether both have the same weights and the same sum of their points: whether each weight of the
-    /// difference is zero, and the sum of its points, which is one `msm`.
+    /// Whether both have the same weights and the same sum of their points: whether each weight of
+    /// the difference is zero, and the sum of its points, which is one `msm`.
     fn equals(&self, alloc: Global, other: &Self) -> Mem<bool> {
         let difference = self.clone(alloc)?.sub(alloc, other)?;
         let zero = F::zero(alloc)?;
@@ -195,12 +198,14 @@ impl<F: Ring, G: Space<F>> Additive for Synthetic<F, G> {
         Ok(Self::default(alloc))
     }
 
-    /// Adds `rhs` to this combination, which then stores the indices of both. Where it is refused, the
-    /// combination is as it was.
+    /// Adds `rhs` to this combination, which then stores the indices of both. Where it is refused,
+    /// the combination is as it was.
     fn add_assign(&mut self, alloc: Global, rhs: &Self) -> Mem<()>
         ensures ok { OnOk result
-            (AreSameCombinations F.same F.zero F.sum G.same self.new (combination_sum G.sum self.old rhs.now)) }
-        ensures indices { OnOk result (HasIndices self.new.0 (λ i. HasTerm self.old.0 i ⊎ HasTerm rhs.now.0 i)) }
+            (AreSameCombinations F.same F.zero F.sum G.same self.new
+            (combination_sum G.sum self.old rhs.now)) }
+        ensures indices { OnOk result
+            (HasIndices self.new.0 (λ i. HasTerm self.old.0 i ⊎ HasTerm rhs.now.0 i)) }
         ensures err { OnErr result (self.new ≡ self.old) }
     {
         let terms = rhs.clone(alloc)?;
@@ -208,13 +213,14 @@ impl<F: Ring, G: Space<F>> Additive for Synthetic<F, G> {
         Ok(())
     }
 
-    /// Takes `rhs` from this combination, which then stores the indices of both, also where a weight
-    /// became zero. Where it is refused, the combination is as it was.
+    /// Takes `rhs` from this combination, which then stores the indices of both, also where a
+    /// weight became zero. Where it is refused, the combination is as it was.
     fn sub_assign(&mut self, alloc: Global, rhs: &Self) -> Mem<()>
         ensures ok { OnOk result
             (AreSameCombinations F.same F.zero F.sum G.same self.new
             (combination_difference F.negative G.sum G.negative self.old rhs.now)) }
-        ensures indices { OnOk result (HasIndices self.new.0 (λ i. HasTerm self.old.0 i ⊎ HasTerm rhs.now.0 i)) }
+        ensures indices { OnOk result
+            (HasIndices self.new.0 (λ i. HasTerm self.old.0 i ⊎ HasTerm rhs.now.0 i)) }
         ensures err { OnErr result (self.new ≡ self.old) }
     {
         let terms = rhs.negative(alloc)?;
@@ -225,7 +231,8 @@ impl<F: Ring, G: Space<F>> Additive for Synthetic<F, G> {
     /// The negative, with the same indices.
     fn neg(self, alloc: Global) -> Mem<Self>
         ensures ok { IfOk result (λ answer.
-            AreSameCombinations F.same F.zero F.sum G.same answer (combination_negative F.negative G.negative self)) }
+            AreSameCombinations F.same F.zero F.sum G.same answer
+            (combination_negative F.negative G.negative self)) }
         ensures indices { IfOk result (λ answer. keys_of answer.0 ≡ keys_of self.0) }
     {
         let out = self.negative(alloc)?;
@@ -235,8 +242,10 @@ impl<F: Ring, G: Space<F>> Additive for Synthetic<F, G> {
     /// The sum, with the indices of both.
     fn add(self, alloc: Global, rhs: &Self) -> Mem<Self>
         ensures ok { IfOk result (λ answer.
-            AreSameCombinations F.same F.zero F.sum G.same answer (combination_sum G.sum self rhs.now)) }
-        ensures indices { IfOk result (λ answer. HasIndices answer.0 (λ i. HasTerm self.0 i ⊎ HasTerm rhs.now.0 i)) }
+            AreSameCombinations F.same F.zero F.sum G.same answer
+            (combination_sum G.sum self rhs.now)) }
+        ensures indices { IfOk result
+            (λ answer. HasIndices answer.0 (λ i. HasTerm self.0 i ⊎ HasTerm rhs.now.0 i)) }
     {
         let terms = rhs.clone(alloc)?;
         let out = self.joined(alloc, terms)?;
@@ -248,17 +257,20 @@ impl<F: Ring, G: Space<F>> Additive for Synthetic<F, G> {
         ensures ok { IfOk result (λ answer.
             AreSameCombinations F.same F.zero F.sum G.same answer
             (combination_difference F.negative G.sum G.negative self rhs.now)) }
-        ensures indices { IfOk result (λ answer. HasIndices answer.0 (λ i. HasTerm self.0 i ⊎ HasTerm rhs.now.0 i)) }
+        ensures indices { IfOk result
+            (λ answer. HasIndices answer.0 (λ i. HasTerm self.0 i ⊎ HasTerm rhs.now.0 i)) }
     {
         let terms = rhs.negative(alloc)?;
         let out = self.joined(alloc, terms)?;
         Ok(out)
     }
 
-    /// Doubles each weight, so indices and points stay. Where it is refused, the combination is as it was.
+    /// Doubles each weight, so indices and points stay. Where it is refused, the combination is as
+    /// it was.
     fn double(&mut self, alloc: Global) -> Mem<()>
         ensures ok { OnOk result
-            (AreSameCombinations F.same F.zero F.sum G.same self.new (combination_sum G.sum self.old self.old)) }
+            (AreSameCombinations F.same F.zero F.sum G.same self.new
+            (combination_sum G.sum self.old self.old)) }
         ensures indices { OnOk result (keys_of self.new.0 ≡ keys_of self.old.0) }
         ensures err { OnErr result (self.new ≡ self.old) }
     {
@@ -276,15 +288,18 @@ impl<F: Ring, G: Space<F>> Additive for Synthetic<F, G> {
         Ok(())
     }
 
-    /// The n-fold sum, n being the number that the limbs write, the lowest limb first. It has no term
-    /// where they write 0; else it has the indices and points of this combination, with n-fold weights.
+    /// The n-fold sum, n being the number that the limbs write, the lowest limb first. It has no
+    /// term where they write 0; else it has the indices and points of this combination, with n-fold
+    /// weights.
     fn scale(&self, alloc: Global, bits_le: &[u64]) -> Mem<Self>
         ensures ok { IfOk result (λ answer.
             AreSameCombinations F.same F.zero F.sum G.same answer
-            (multiple (combination_zero G.zero) (combination_sum G.sum) self.now (number_of_limbs bits_le.now))) }
+            (multiple (combination_zero G.zero) (combination_sum G.sum) self.now
+            (number_of_limbs bits_le.now))) }
         ensures indices { IfOk result (λ answer.
             0 < number_of_limbs bits_le.now → keys_of answer.0 ≡ keys_of self.now.0) }
-        ensures indices_of_zero { IfOk result (λ answer. number_of_limbs bits_le.now ≡ 0 → answer.0 ≡ []) }
+        ensures indices_of_zero { IfOk result
+            (λ answer. number_of_limbs bits_le.now ≡ 0 → answer.0 ≡ []) }
     {
         if bits_le.iter().all(|limb| *limb == 0) {
             return Ok(Self::default(alloc));
@@ -306,8 +321,8 @@ impl<F: Ring, G: Space<F>> Additive for Synthetic<F, G> {
 impl<F: Ring, G: Space<F>> Space<F> for Synthetic<F, G> {
     ghost scaling = { combination_multiple F.product G.scaling };
 
-    /// Scales each weight by `r`, so indices and points stay. Where it is refused, the combination is as
-    /// it was.
+    /// Scales each weight by `r`, so indices and points stay. Where it is refused, the combination
+    /// is as it was.
     fn scale_assign(&mut self, alloc: Global, r: &F) -> Mem<()>
         ensures ok { OnOk result
             (AreSameCombinations F.same F.zero F.sum G.same self.new
@@ -330,8 +345,8 @@ impl<F: Ring, G: Space<F>> Space<F> for Synthetic<F, G> {
         Ok(out)
     }
 
-    /// The sum of combination i scaled by scalar i, over the shorter of both slices; zero for none. It has
-    /// the indices of all combinations that have a scalar.
+    /// The sum of combination i scaled by scalar i, over the shorter of both slices; zero for none.
+    /// It has the indices of all combinations that have a scalar.
     fn msm(alloc: Global, points: &[Self], scalars: &[F]) -> Mem<Self>
         ensures ok { IfOk result (λ answer.
             AreSameCombinations F.same F.zero F.sum G.same answer

@@ -32,8 +32,8 @@ impl<F: Ring, G: Space<F>> Synthetic<F, G> {
         })
     }
 
-    /// `Ok` of the free generator of index 0, 1, and so on, each with weight one. It ends after index
-    /// `u32::MAX`, and after an `Err`.
+    /// `Ok` of the free generator of index 0, 1, and so on, each with weight one. It ends after
+    /// index `u32::MAX`, and after an `Err`.
     pub fn generators(alloc: Global) -> Generators<F, G>
         ensures { (items : _) (last : _) (rest : _)
             → YieldsThen ⟦<Generators<F, G> as Iterator>⟧.next_gives result items last rest
@@ -50,12 +50,14 @@ impl<F: Ring, G: Space<F>> Synthetic<F, G> {
     pub fn generators_array<const N: usize>(alloc: Global) -> Mem<[Self; N]>
         requires { N ≤ 2 ^ 32 }
         ensures { IfOk result (λ cs.
-            (i : ℕ) → i < N → HoldsAt (IsGenerator F.same F.zero F.sum F.one G.same G.zero i) cs i) }
+            (i : ℕ) → i < N
+            → HoldsAt (IsGenerator F.same F.zero F.sum F.one G.same G.zero i) cs i) }
     {
         let out = array::try_from_fn(
             |i: usize| -> Mem<Self>
                 requires { i < 2 ^ 32 }
-                ensures { IfOk result (λ c. IsGenerator F.same F.zero F.sum F.one G.same G.zero i c) }
+                ensures { IfOk result
+                    (λ c. IsGenerator F.same F.zero F.sum F.one G.same G.zero i c) }
             { Self::generator(alloc, i as u32) },
         )?;
         Ok(out)
@@ -66,7 +68,8 @@ impl<F: Ring, G: Space<F>> Iterator for Generators<F, G> {
     type Item = Mem<Synthetic<F, G>>;
 
     ghost next_gives = { λ s r t.
-        GivesGenerator (IsGenerator F.same F.zero F.sum F.one G.same G.zero) s.next_index r t.next_index };
+        GivesGenerator (IsGenerator F.same F.zero F.sum F.one G.same G.zero)
+        s.next_index r t.next_index };
 
     ghost remaining = { λ s. at_most (indices_left s.next_index) };
 

@@ -4,8 +4,8 @@ ghost use Rattle.commonware_math.specs.SyntheticValues.{HaveSameValues, HaveValu
 
 use math_base::algebra::{Ring, Space};
 
-/// Under all generators, combinations that are the same have values that are the same, the value of a sum
-/// is the sum of the values, and the value of a multiple is the multiple of the value.
+/// Under all generators, combinations that are the same have values that are the same, the value of
+/// a sum is the sum of the values, and the value of a multiple is the multiple of the value.
 pub fn values_of_combinations<F: Ring, G: Space<F>>()
     ensures same { HaveSameValues G.Space F.Ring }
     ensures sums { HaveValuesOfSums G.Space F.Ring }

@@ -7,11 +7,11 @@ ghost use Rattle.commonware_math.specs.SyntheticTerms.{IsIndexEnd, IsPopped};
 use math_base::algebra::{Additive, Mem};
 use std::alloc::Global;
 
-/// The terms of both lists by rising index. Where both have a term at an index, it gets the sum of the
-/// two weights.
+/// The terms of both lists by rising index. Where both have a term at an index, it gets the sum of
+/// the two weights.
 ///
-/// The lists are taken apart from their ends, always at the greater of the two last indices, so each
-/// term is moved once, and none is cloned.
+/// The lists are taken apart from their ends, always at the greater of the two last indices, so
+/// each term is moved once, and none is cloned.
 pub(super) fn merged<F: Additive>(
     alloc: Global,
     a: Vec<(u32, F)>,
@@ -19,8 +19,10 @@ pub(super) fn merged<F: Additive>(
 ) -> Mem<Vec<(u32, F)>>
     requires first { IsRising a.items }
     requires second { IsRising b.items }
-    ensures indices { IfOk result (λ terms. HasIndices terms.items (λ i. HasTerm a.items i ⊎ HasTerm b.items i)) }
-    ensures weights { IfOk result (λ terms. HaveSameWeights F.same F.zero F.sum terms.items (a.items ++ b.items)) }
+    ensures indices { IfOk result
+        (λ terms. HasIndices terms.items (λ i. HasTerm a.items i ⊎ HasTerm b.items i)) }
+    ensures weights { IfOk result
+        (λ terms. HaveSameWeights F.same F.zero F.sum terms.items (a.items ++ b.items)) }
 {
     let mut left = a;
     let mut right = b;
@@ -32,8 +34,8 @@ pub(super) fn merged<F: Additive>(
     Ok(out)
 }
 
-/// Takes the term of the greatest index from the ends of the lists; where both have one there, their
-/// weights are added.
+/// Takes the term of the greatest index from the ends of the lists; where both have one there,
+/// their weights are added.
 fn pop_greatest<F: Additive>(
     alloc: Global,
     a: &mut Vec<(u32, F)>,
@@ -43,7 +45,8 @@ fn pop_greatest<F: Additive>(
     requires second { IsRising b.old.items }
     ensures none { IfOk result (λ popped. IfNone popped ((a.old.items ≡ []) × (b.old.items ≡ []))) }
     ensures some { IfOk result (λ popped.
-        IfSome popped (λ term. IsPopped F.same F.sum a.old.items b.old.items term a.new.items b.new.items)) }
+        IfSome popped (λ term.
+        IsPopped F.same F.sum a.old.items b.old.items term a.new.items b.new.items)) }
 {
     let end = index_end(a);
     let other_end = index_end(b);
@@ -65,7 +68,8 @@ fn pop_greatest<F: Additive>(
 /// The last index, where there is a term.
 pub(super) fn last_index<F: Drop>(terms: &[(u32, F)]) -> Option<u32>
     ensures none { terms.now ≡ [] → result ≡ None }
-    ensures last { (before : _) (term : _) → terms.now ≡ before ++ term ∷ [] → result ≡ Some term.0 }
+    ensures last { (before : _) (term : _) → terms.now ≡ before ++ term ∷ []
+        → result ≡ Some term.0 }
 {
     terms.last().map(|term| term.0)
 }

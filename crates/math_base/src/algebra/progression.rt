@@ -29,7 +29,8 @@ impl<'a, R: Ring> Powers<'a, R> {
     /// A copy of `power`, which leaves its product with the base for the next call.
     fn step(&mut self, mut power: R) -> Mem<R>
         requires { self.old.next_power ≡ None }
-        ensures gives { GivesPower R.same R.product self.old.base.now (Some power) (Some result) self.new.next_power }
+        ensures gives { GivesPower R.same R.product self.old.base.now (Some power)
+            (Some result) self.new.next_power }
         ensures base { self.new.base.now ≡ self.old.base.now }
     {
         let item = power.clone(self.alloc)?;

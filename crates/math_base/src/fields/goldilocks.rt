@@ -1,8 +1,8 @@
 //! The Goldilocks field: the whole numbers below P = 2^64 - 2^32 + 1, with the operations of whole
 //! numbers followed by the remainder by P.
 //!
-//! An element fits a word, and reduction is cheap: modulo P, 2^64 is 2^32 - 1 and 2^96 is -1. None of
-//! the operations takes memory.
+//! An element fits a word, and reduction is cheap: modulo P, 2^64 is 2^32 - 1 and 2^96 is -1. None
+//! of the operations takes memory.
 
 ghost use Rattle.std.specs.Prelude.{◌≡◌, ◌≢◌, ◌<◌, ◌≤◌, ◌+◌, ◌-◌, ◌*◌, ◌%◌, ◌↔◌, true, refl, Some, None, IsSome, IfOk, IfErr, IfSome};
 ghost use Rattle.std.specs.Int.{to_be_bytes, to_le_bytes, w64};
@@ -52,8 +52,8 @@ impl F {
         value: 0x1036_c402_3580_ce8d,
     };
 
-    /// The remainder by P of a sum that is below 2 P, of which the first part may be P or more. The sum is
-    /// below P exactly where a - (P - b) is below zero, so that one borrow decides.
+    /// The remainder by P of a sum that is below 2 P, of which the first part may be P or more. The
+    /// sum is below P exactly where a - (P - b) is below zero, so that one borrow decides.
     fn sum_of_words(a: u64, b: u64) -> F
         requires sum { a + b < P + P }
         requires second { b ≤ P }
@@ -121,8 +121,8 @@ impl F {
         }
     }
 
-    /// The n-th power, by squaring: with n = 2 h + r, the n-th power of a is the h-th of its square, and
-    /// once more a where r is one.
+    /// The n-th power, by squaring: with n = 2 h + r, the n-th power of a is the h-th of its
+    /// square, and once more a where r is one.
     fn power(self, n: u64) -> F
         ensures { number result ≡ power_mod P (number self) n }
     {
@@ -141,8 +141,8 @@ impl F {
 
     /// The multiplicative inverse; zero for zero.
     ///
-    /// By Fermat's little theorem the power P - 1 of an element other than zero is one, so its power
-    /// P - 2 is its inverse; and the power P - 2 of zero is zero.
+    /// By Fermat's little theorem the power P - 1 of an element other than zero is one, so its
+    /// power P - 2 is its inverse; and the power P - 2 of zero is zero.
     pub fn inv(self) -> F
         ensures power { number result ≡ power_mod P (number self) (P - 2) }
         ensures inverts { number self ≢ 0 → number self * number result % P ≡ 1 }
@@ -169,8 +169,8 @@ impl F {
         }
     }
 
-    /// The root of unity of order exactly 2^lg: `ROOT_OF_UNITY` squared 32 - lg times. `None` for lg
-    /// above 32.
+    /// The root of unity of order exactly 2^lg: `ROOT_OF_UNITY` squared 32 - lg times. `None` for
+    /// lg above 32.
     pub fn root_of_unity(lg: u8) -> Option<F>
         ensures range { IsSome result ↔ (lg ≤ 32) }
         ensures value { IfSome result (λ r. number r ≡ root lg) }
@@ -461,10 +461,11 @@ impl Random for F {
 
     ghost sample = { sample_of };
 
-    /// The first of at most 64 words of the source that is below P; `TooManyWords` where none of 64 is.
-    /// The source stands after the words that were looked at.
+    /// The first of at most 64 words of the source that is below P; `TooManyWords` where none of 64
+    /// is. The source stands after the words that were looked at.
     fn random<G: Rng + CryptoRng>(_alloc: Global, rng: &mut G) -> Result<F, RandomError>
-        ensures sampled { IfOk result (λ a. sample_of (G.stream rng.old) ≡ (Some a, G.stream rng.new)) }
+        ensures sampled { IfOk result
+            (λ a. sample_of (G.stream rng.old) ≡ (Some a, G.stream rng.new)) }
         ensures refused { IfErr result (λ error.
             (error ≡ TooManyWords) × (sample_of (G.stream rng.old) ≡ (None, G.stream rng.new))) }
     {

@@ -13,8 +13,8 @@ pub fn equality(a: F, b: F) -> bool
     a == b
 }
 
-/// `NEVER_REFUSES`, `MAX_LG_ROOT_ORDER`, `SIZE` and `MAX_ENCODE_SIZE` of `F`: no call is refused, the greatest
-/// order of a root of unity is 2^32, and each element is written in eight bytes.
+/// `NEVER_REFUSES`, `MAX_LG_ROOT_ORDER`, `SIZE` and `MAX_ENCODE_SIZE` of `F`: no call is refused,
+/// the greatest order of a root of unity is 2^32, and each element is written in eight bytes.
 pub fn constants() -> (bool, u8, usize, usize)
     ensures answer { IsTrue result.0 × (result.1 ≡ 32) × (result.2 ≡ 8) × (result.3 ≡ 8) }
 

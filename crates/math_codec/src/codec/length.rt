@@ -2,8 +2,8 @@
 //!
 //! Bit 7 of a byte says that another follows. So a length below 128 is one byte, and another one n
 //! is its lowest seven bits with bit 7 set, 128 + n % 128, and then the bytes of n / 128, which is
-//! not zero. A byte b with bit 7 set and a number m in the bytes after it are read as b - 128 + 128 m.
-//! Five bytes have room for 35 bits, so that the fifth is at most 15 where there are 32.
+//! not zero. A byte b with bit 7 set and a number m in the bytes after it are read as b - 128 + 128
+//! m. Five bytes have room for 35 bits, so that the fifth is at most 15 where there are 32.
 
 ghost use Rattle.std.specs.Prelude.{◌≡◌, ◌<◌, ◌≤◌, ◌^◌, ◌*◌, ◌+◌, ◌++◌, length, take, IfOk, OnOk, OnErr};
 ghost use Rattle.math_codec.specs.Faults.{Agrees, OnMemory};

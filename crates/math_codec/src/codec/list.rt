@@ -16,8 +16,8 @@ use super::read::{Encoding, Read};
 use super::write::{EncodeSize, Write, roll_back};
 use std::alloc::Global;
 
-/// Puts an item at the end. Where no room is left, it makes room for as many further items as there are, and for
-/// four at least.
+/// Puts an item at the end. Where no room is left, it makes room for as many further items as there
+/// are, and for four at least.
 fn push_item<T: Drop>(items: &mut Vec<T>, item: T) -> Mem<()>
     requires { vec_capacity items.old ≤ 2 * length items.old.items + 4 }
     ensures ok { OnOk result (items.new.items ≡ items.old.items ++ item ∷ []) }
@@ -31,8 +31,8 @@ fn push_item<T: Drop>(items: &mut Vec<T>, item: T) -> Mem<()>
     Ok(())
 }
 
-/// Reads `count` items, one after the other, and gives what follows them. `items`, which is empty, then holds
-/// them; where it is refused, those that were read.
+/// Reads `count` items, one after the other, and gives what follows them. `items`, which is empty,
+/// then holds them; where it is refused, those that were read.
 fn read_items<'a, T: Read + Drop>(
     alloc: Global,
     count: u32,
@@ -43,11 +43,14 @@ fn read_items<'a, T: Read + Drop>(
     requires { (items.old.items ≡ []) × (vec_capacity items.old ≡ 0) }
     ensures number { OnOk result (length items.new.items ≡ count) }
     ensures admitted { AllByRecursion (T.admits cfg.now) items.new.items }
-    ensures taken { IfOk result (λ rest. bytes.now ≡ flat_map T.spelling items.new.items ++ rest.now) }
-    ensures memory { OnMemory result (ItemsGrow (T.scan cfg.now) (T.grows cfg.now) count bytes.now) }
+    ensures taken { IfOk result
+        (λ rest. bytes.now ≡ flat_map T.spelling items.new.items ++ rest.now) }
+    ensures memory { OnMemory result
+        (ItemsGrow (T.scan cfg.now) (T.grows cfg.now) count bytes.now) }
     ensures exact { Agrees (λ rest. rest.now) result (scan_items (T.scan cfg.now) count bytes.now) }
 
-    // Refused or not, room is made for at most four and twice as many items as stand in front of the bytes.
+    // Refused or not, room is made for at most four and twice as many items as stand in front of
+    // the bytes.
     ensures read { (rest : List ℕ) × (bytes.now ≡ flat_map T.spelling items.new.items ++ rest) }
     ensures room { vec_capacity items.new ≤ 2 * length items.new.items + 4 }
 {
@@ -63,9 +66,9 @@ fn read_items<'a, T: Read + Drop>(
 /// moves `input` to what follows it.
 ///
 /// It refuses with the faults of the length, then `InvalidLength` where the length is out of the
-/// range, then the faults of the items in order, and then `input` stays where it was. Once an item is
-/// read, room is made for at most four items and twice as many as are read, so a large length alone
-/// takes no memory.
+/// range, then the faults of the items in order, and then `input` stays where it was. Once an item
+/// is read, room is made for at most four items and twice as many as are read, so a large length
+/// alone takes no memory.
 #[tactic(auto, unfolding(crate::specs::Lists::scan_list, crate::specs::Lengths::length_in_front))]
 pub fn read_list<T: Read + Drop>(
     alloc: Global,
@@ -74,10 +77,12 @@ pub fn read_list<T: Read + Drop>(
     cfg: &T::Cfg,
 ) -> Result<Vec<T>, Error>
     ensures admitted { IfOk result (λ v. AdmitsList range (T.admits cfg.now) v.items) }
-    ensures taken { IfOk result (λ v. input.old.now ≡ list_spelling T.spelling v.items ++ input.new.now) }
+    ensures taken { IfOk result
+        (λ v. input.old.now ≡ list_spelling T.spelling v.items ++ input.new.now) }
     ensures counted { IfOk result (λ v. length_in_front input.old.now ≡ length v.items) }
     ensures stays { OnErr result (input.new ≡ input.old) }
-    ensures memory { OnMemory result (ListGrows range (T.scan cfg.now) (T.grows cfg.now) input.old.now) }
+    ensures memory { OnMemory result
+        (ListGrows range (T.scan cfg.now) (T.grows cfg.now) input.old.now) }
     ensures exact { Reads result input.new.now (scan_list range (T.scan cfg.now) input.old.now) }
 {
     let mut rest = *input;
@@ -117,10 +122,12 @@ impl<T: Read + Drop> Read for Vec<T> {
     }
 
     ghost again = { λ cfg v rest h.
-        list_again T.spelling (T.admits cfg.1) (T.scan cfg.1) (T.again cfg.1) cfg.0 v.items rest h };
+        list_again T.spelling (T.admits cfg.1) (T.scan cfg.1)
+        (T.again cfg.1) cfg.0 v.items rest h };
 
     ghost apart = { λ cfg v w x y h k e.
-        list_apart T.spelling (T.admits cfg.1) T.alike (T.apart cfg.1) cfg.0 v.items w.items x y h k e };
+        list_apart T.spelling (T.admits cfg.1) T.alike (T.apart cfg.1) cfg.0
+        v.items w.items x y h k e };
 }
 
 /// Writes a list. What is written stays where memory runs out.

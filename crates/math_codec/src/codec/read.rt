@@ -35,7 +35,8 @@ pub trait Read: Encoding + Sized {
     /// It refuses with the first fault from left to right, or with `Memory` where memory ran out
     /// before that; then `input` stays where it was.
     fn read_cfg(alloc: Global, input: &mut &[u8], cfg: &Self::Cfg) -> Result<Self, Error>
-        ensures taken { IfOk result (λ v. admits cfg.now v × (input.old.now ≡ Self.spelling v ++ input.new.now)) }
+        ensures taken { IfOk result
+            (λ v. admits cfg.now v × (input.old.now ≡ Self.spelling v ++ input.new.now)) }
         ensures stays { OnErr result (input.new ≡ input.old) }
         ensures memory { OnMemory result (grows cfg.now input.old.now) }
         ensures exact { Reads result input.new.now (scan cfg.now input.old.now) };

@@ -29,7 +29,8 @@ impl<I: Ord + Drop, V: Drop> Model for Map<I, V> {
 
     ghost view = { λ m. zip m.keys.items m.values.items };
 
-    ghost invariant = { λ m. (length m.values.items ≡ length m.keys.items) × IsStrictlySortedBy I.cmp m.keys.items };
+    ghost invariant = { λ m. (length m.values.items ≡ length m.keys.items)
+        × IsStrictlySortedBy I.cmp m.keys.items };
 }
 
 /// Adds a pair unless its key is there, and says whether it did.
@@ -39,7 +40,8 @@ pub(super) fn add_new<I: Ord + Drop, V: Drop>(
     value: V,
 ) -> Mem<bool>
     ensures added { IfOk result (λ added. added ≡ not (has_key I.cmp key entries.old.entries)) }
-    ensures entries { OnOk result (entries.new.entries ≡ add_pair I.cmp entries.old.entries key value) }
+    ensures entries { OnOk result
+        (entries.new.entries ≡ add_pair I.cmp entries.old.entries key value) }
 {
     if entries.contains_key(&key) {
         return Ok(false);
@@ -69,7 +71,8 @@ impl<I: Ord + Drop, V: Drop> Map<I, V> {
     pub fn from_iter_dedup<P: IntoIterator<Item = (I, V)>>(alloc: Global, pairs: P) -> Mem<Self>
     where
         P::IntoIter: Drop,
-        requires { IsFiniteIterable P.into_iter_gives P.IntoIter.can_next P.IntoIter.remaining pairs }
+        requires { IsFiniteIterable P.into_iter_gives P.IntoIter.can_next
+            P.IntoIter.remaining pairs }
         ensures { IfOk result (λ m. ItemsMeet P.into_iter_gives (Drains P.IntoIter.next_gives) pairs
             (λ xs. HasFirstOfEachKey I.cmp xs m)) }
     {
@@ -90,11 +93,14 @@ impl<I: Ord + Drop, V: Drop> Map<I, V> {
     ) -> Result<Self, Error>
     where
         P::IntoIter: Drop,
-        requires { IsFiniteIterable P.into_iter_gives P.IntoIter.can_next P.IntoIter.remaining pairs }
-        ensures ok { IfOk result (λ m. ItemsMeet P.into_iter_gives (Drains P.IntoIter.next_gives) pairs
+        requires { IsFiniteIterable P.into_iter_gives P.IntoIter.can_next
+            P.IntoIter.remaining pairs }
+        ensures ok { IfOk result
+            (λ m. ItemsMeet P.into_iter_gives (Drains P.IntoIter.next_gives) pairs
             (λ xs. KeysDiffer I.cmp xs × HasFirstOfEachKey I.cmp xs m)) }
         ensures repeated { OnDuplicateKey result (ItemsMeet P.into_iter_gives
-            (λ it xs. (rest : P.IntoIter) × Yields P.IntoIter.next_gives it xs rest) pairs (EndsAtRepeatedKey I.cmp)) }
+            (λ it xs. (rest : P.IntoIter) × Yields P.IntoIter.next_gives it xs rest) pairs
+            (EndsAtRepeatedKey I.cmp)) }
         ensures any_value { OnDuplicateValue result ⊥ }
     {
         let mut entries = BTreeMap::new(alloc);
@@ -106,7 +112,8 @@ impl<I: Ord + Drop, V: Drop> Map<I, V> {
         Ok(Self::from_entries(alloc, entries)?)
     }
 
-    /// The map with the same keys, and in the order of the keys these values, of which there are as many as keys.
+    /// The map with the same keys, and in the order of the keys these values, of which there are as
+    /// many as keys.
     pub fn with_values<W: Drop>(self, values: Vec<W>) -> Map<I, W>
         requires { length values.items ≡ length self }
         ensures { result ≡ zip (keys_of self) values.items }

@@ -31,7 +31,8 @@ impl<I: Ord + Drop, V: Ord + Drop> Model for BiMap<I, V> {
 
     ghost view = { λ m. m.pairs };
 
-    ghost invariant = { λ m. ValuesDiffer V.cmp m.pairs × IsOrderByValue V.cmp (values_of m.pairs) m.by_value.items };
+    ghost invariant = { λ m. ValuesDiffer V.cmp m.pairs
+        × IsOrderByValue V.cmp (values_of m.pairs) m.by_value.items };
 }
 
 /// Refuses at the first pair whose key or value occurred before, and looks at the key first.
@@ -81,13 +82,17 @@ impl<I: Ord + Drop, V: Ord + Drop> BiMap<I, V> {
     ) -> Result<Self, Error>
     where
         P::IntoIter: Drop,
-        requires { IsFiniteIterable P.into_iter_gives P.IntoIter.can_next P.IntoIter.remaining pairs }
-        ensures ok { IfOk result (λ m. ItemsMeet P.into_iter_gives (Drains P.IntoIter.next_gives) pairs
+        requires { IsFiniteIterable P.into_iter_gives P.IntoIter.can_next
+            P.IntoIter.remaining pairs }
+        ensures ok { IfOk result
+            (λ m. ItemsMeet P.into_iter_gives (Drains P.IntoIter.next_gives) pairs
             (λ xs. KeysDiffer I.cmp xs × ValuesDiffer V.cmp xs × HasFirstOfEachKey I.cmp xs m)) }
         ensures repeated_key { OnDuplicateKey result
-            (ItemsMeet P.into_iter_gives (Drains P.IntoIter.next_gives) pairs (RepeatsKeyFirst I.cmp V.cmp)) }
+            (ItemsMeet P.into_iter_gives (Drains P.IntoIter.next_gives) pairs
+            (RepeatsKeyFirst I.cmp V.cmp)) }
         ensures repeated_value { OnDuplicateValue result
-            (ItemsMeet P.into_iter_gives (Drains P.IntoIter.next_gives) pairs (RepeatsValueFirst I.cmp V.cmp)) }
+            (ItemsMeet P.into_iter_gives (Drains P.IntoIter.next_gives) pairs
+            (RepeatsValueFirst I.cmp V.cmp)) }
     {
         let mut taken = Vec::new(alloc);
         for pair in pairs {

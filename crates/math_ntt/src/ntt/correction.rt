@@ -3,8 +3,8 @@
 //! Of m filled rows at most (m - k) / 2 are wrong, where a row is wrong if any of its cells is, and
 //! the polynomials have at most k coefficients. There are such polynomials at most once, since two
 //! would agree at k rows or more. They are recovered as if no row were wrong. A column that then
-//! has a coefficient other than zero from k on is decoded by itself; the rows at which it
-//! differs from what is decoded are wrong for every answer, so they are dropped, and what is left is
+//! has a coefficient other than zero from k on is decoded by itself; the rows at which it differs
+//! from what is decoded are wrong for every answer, so they are dropped, and what is left is
 //! recovered again. Where more rows than (m - k) / 2 are dropped in all, there is no answer.
 
 ghost use Rattle.std.specs.Prelude.{
@@ -30,7 +30,6 @@ ghost use Rattle.std.specs.Prelude.{
   slice_index_or,
 };
 ghost use Rattle.std.specs.List.{All, Contains, filter};
-ghost use Rattle.math_theory.specs.Powers.{power};
 ghost use Rattle.math_theory.specs.Recovery.{count_true, filled_places};
 ghost use Rattle.math_transforms.specs.CountedWork.{AddsWithin};
 ghost use Rattle.math_transforms.specs.DomainValues.{HasDomain};
@@ -46,8 +45,8 @@ use super::recovery::recovered_cells;
 use math_base::algebra::{Additive, FieldNTT, Mem, Object, Ring};
 use math_decoding::decoding::decode;
 use math_transforms::cells::copies;
-use math_transforms::transform::coset::geometric;
-use math_transforms::transform::{lg_of, size_of};
+use math_transforms::lagrange::domain_points;
+use math_transforms::transform::lg_of;
 use math_transforms::vanishing_points::VanishingPoints;
 use math_transforms::work::Work;
 use std::alloc::Global;
@@ -68,8 +67,8 @@ impl<F: FieldNTT> EvaluationVector<F> {
     /// may fit other polynomials, which are then answered.
     ///
     /// lg N is at most `F::MAX_LG_ROOT_ORDER`, and `count` is at most the number of filled rows.
-    /// Takes memory for a copy of the cells beside that of `recover`, and for a column that is wrong
-    /// for some lists of m elements.
+    /// Takes memory for a copy of the cells beside that of `recover`, and for a column that is
+    /// wrong for some lists of m elements.
     pub fn correct(self, alloc: Global, count: usize) -> Mem<Option<Corrected<F>>>
         requires domain { HasDomain F.MAX_LG_ROOT_ORDER self.matrix.rows }
         requires count { count ≤ count_true self.filled }
@@ -153,7 +152,7 @@ fn without_wrong_rows<F: FieldNTT>(
         → (l : ℕ) → matrix.now.rows ≡ 2 ^ l
         → IsExactWork l (record { matrix = matrix.now; filled = filled }) work.old work.new)) }
 {
-    let rows = filled_rows(alloc, &filled)?;
+    let rows = filled.non_vanishing_indices(alloc)?;
     let most = (rows.len() - count) / 2;
     let mut left = filled;
     let mut polynomials = recovered_copy(alloc, matrix, &left, lg, work)?;
@@ -174,26 +173,6 @@ fn without_wrong_rows<F: FieldNTT>(
         },
         wrong,
     }))
-}
-
-/// How many rows there are.
-fn row_count(filled: &VanishingPoints) -> u64
-    ensures { result ≡ length filled.now }
-{
-    1 << filled.lg_size()
-}
-
-/// The rows that are filled, by rising number.
-fn filled_rows(alloc: Global, filled: &VanishingPoints) -> Mem<Vec<usize>>
-    ensures { IfOk result (λ rows. rows.items ≡ filled_places filled.now) }
-{
-    let mut out = Vec::new(alloc);
-    for i in 0..row_count(filled) {
-        if filled.get(i) {
-            out.push(i as usize)?;
-        }
-    }
-    Ok(out)
 }
 
 /// What is recovered from a copy of the cells. The work is added up to 2^128 - 1.
@@ -288,8 +267,8 @@ fn narrowed<F: FieldNTT>(
     ensures none { IfOk result (λ answer. IfNone answer ((p : List F) → ¬ (IsNear F.Ring (F.root lg)
         (record { matrix = matrix.now; filled = filled.now }) column count p))) }
 {
-    let rows = filled_rows(alloc, filled)?;
-    let powers = root_powers::<F>(alloc, lg)?;
+    let rows = filled.non_vanishing_indices(alloc)?;
+    let powers = domain_points::<F>(alloc, lg)?;
     let points = cells_at(alloc, &powers, 1, 0, &rows)?;
     let values = cells_at(alloc, &matrix.cells, matrix.cols, column, &rows)?;
     let Some(decoded) = decode(alloc, &points, &values, count)? else {
@@ -297,22 +276,6 @@ fn narrowed<F: FieldNTT>(
     };
     let left = without(alloc, lg, &rows, &decoded.wrong)?;
     Ok(Some(left))
-}
-
-/// The 2^lg powers of the root of order 2^lg, from the power 0 on.
-fn root_powers<F: FieldNTT>(alloc: Global, lg: u8) -> Mem<Vec<F>>
-    requires domain { lg ≤ F.MAX_LG_ROOT_ORDER }
-    requires small { lg < 64 }
-    ensures count { IfOk result (λ out. length out.items ≡ 2 ^ lg) }
-    ensures powers { IfOk result (λ out. (i : ℕ) → i < 2 ^ lg
-        → F.same (slice_index_or out.items i F.zero) (power F.one F.product (F.root lg) i)) }
-{
-    let Some(root) = F::root_of_unity(alloc, lg)? else {
-        unreachable!()
-    };
-    let one = F::one(alloc)?;
-    let out = geometric(alloc, one, &root, size_of(lg))?;
-    Ok(out)
 }
 
 /// Copies of the cells of a column in these rows.

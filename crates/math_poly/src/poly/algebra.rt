@@ -29,7 +29,8 @@ impl<K: Drop> Poly<K> {
 fn answers<T: Drop, L: Drop, F: Fn(&T) -> Mem<L>>(alloc: Global, items: &[T], f: F) -> Mem<Vec<L>>
     requires { F.IsAlwaysCallable f }
     ensures count { IfOk result (λ v. length v.items ≡ length items.now) }
-    ensures each { IfOk result (λ v. AllZip (λ c d. FnReturnsAt F.Fn f c (Ok d)) items.now v.items) }
+    ensures each { IfOk result
+        (λ v. AllZip (λ c d. FnReturnsAt F.Fn f c (Ok d)) items.now v.items) }
 {
     let mut out = Vec::with_capacity(alloc, items.len())?;
     for item in items {
@@ -68,10 +69,11 @@ fn by_count<'a, K: Drop>(a: &'a Poly<K>, b: &'a Poly<K>) -> (&'a Poly<K>, &'a Po
     }
 }
 
-/// The sum. Past the end of the shorter list it has the coefficients of the longer; so it is a copy of
-/// the longer list, to whose first coefficients those of the shorter are added.
+/// The sum. Past the end of the shorter list it has the coefficients of the longer; so it is a copy
+/// of the longer list, to whose first coefficients those of the shorter are added.
 fn sum_of<K: Additive>(alloc: Global, a: &Poly<K>, b: &Poly<K>) -> Mem<Poly<K>>
-    ensures ok { IfOk result (λ p. HaveSameCoefficients K.same K.zero p (polynomial_sum K.sum a.now b.now)) }
+    ensures ok { IfOk result
+        (λ p. HaveSameCoefficients K.same K.zero p (polynomial_sum K.sum a.now b.now)) }
     ensures count { IfOk result (λ p. length p ≡ max (length a.now) (length b.now)) }
 {
     let (shorter, longer) = by_count(a, b);
@@ -86,7 +88,8 @@ fn sum_of<K: Additive>(alloc: Global, a: &Poly<K>, b: &Poly<K>) -> Mem<Poly<K>>
 
 /// The negative of each coefficient.
 fn negative_of<K: Additive>(alloc: Global, p: &Poly<K>) -> Mem<Poly<K>>
-    ensures ok { IfOk result (λ q. HaveSameCoefficients K.same K.zero q (polynomial_negative K.negative p.now)) }
+    ensures ok { IfOk result
+        (λ q. HaveSameCoefficients K.same K.zero q (polynomial_negative K.negative p.now)) }
     ensures count { IfOk result (λ q. length q ≡ length p.now) }
 {
     let negative = p.translate(
@@ -125,13 +128,14 @@ impl<K: Additive> Object for Poly<K> {
         Ok(copy)
     }
 
-    /// Whether both have the same coefficients. Where calls on coefficients are never refused, neither
-    /// is this one.
+    /// Whether both have the same coefficients. Where calls on coefficients are never refused,
+    /// neither is this one.
     ///
     /// Past the end of the shorter list the coefficients of the longer have to be zero, so that its
     /// exact degree lies in the shorter list; before that end they are compared one by one.
     fn equals(&self, alloc: Global, other: &Self) -> Mem<bool>
-        ensures ok { IfOk result (λ answer. IsTrue answer ↔ HaveSameCoefficients K.same K.zero self.now other.now) }
+        ensures ok { IfOk result
+            (λ answer. IsTrue answer ↔ HaveSameCoefficients K.same K.zero self.now other.now) }
         ensures never { IsTrue K.NEVER_REFUSES → IsOk result }
     {
         let (shorter, longer) = by_count(self, other);
@@ -159,7 +163,8 @@ impl<K: Additive> Additive for Poly<K> {
 
     /// Zero, with one stored coefficient.
     fn zero(alloc: Global) -> Mem<Self>
-        ensures ok { IfOk result (λ answer. HaveSameCoefficients K.same K.zero answer (K.zero ∷ [])) }
+        ensures ok { IfOk result
+            (λ answer. HaveSameCoefficients K.same K.zero answer (K.zero ∷ [])) }
         ensures count { IfOk result (λ answer. length answer ≡ 1) }
     {
         let mut coefficients = Vec::new(alloc);
@@ -170,7 +175,8 @@ impl<K: Additive> Additive for Poly<K> {
     /// Adds `rhs` to this polynomial, which then stores as many coefficients as the one that stored
     /// more. Where it is refused, the polynomial is as it was.
     fn add_assign(&mut self, alloc: Global, rhs: &Self) -> Mem<()>
-        ensures ok { OnOk result (HaveSameCoefficients K.same K.zero self.new (polynomial_sum K.sum self.old rhs.now)) }
+        ensures ok { OnOk result
+            (HaveSameCoefficients K.same K.zero self.new (polynomial_sum K.sum self.old rhs.now)) }
         ensures count { OnOk result (length self.new ≡ max (length self.old) (length rhs.now)) }
         ensures err { OnErr result (self.new ≡ self.old) }
     {
@@ -244,13 +250,17 @@ impl<K: Additive> Additive for Poly<K> {
         Ok(())
     }
 
-    /// The n-fold sum, n being the number that the limbs write, the lowest limb first. It is zero, with
-    /// one stored coefficient, where they write 0; else it stores as many coefficients as this one.
+    /// The n-fold sum, n being the number that the limbs write, the lowest limb first. It is zero,
+    /// with one stored coefficient, where they write 0; else it stores as many coefficients as this
+    /// one.
     fn scale(&self, alloc: Global, bits_le: &[u64]) -> Mem<Self>
         ensures ok { IfOk result (λ answer. HaveSameCoefficients K.same K.zero answer
-            (multiple (K.zero ∷ []) (polynomial_sum K.sum) self.now (number_of_limbs bits_le.now))) }
-        ensures count { IfOk result (λ answer. 0 < number_of_limbs bits_le.now → length answer ≡ length self.now) }
-        ensures count_of_zero { IfOk result (λ answer. number_of_limbs bits_le.now ≡ 0 → length answer ≡ 1) }
+            (multiple (K.zero ∷ []) (polynomial_sum K.sum) self.now
+            (number_of_limbs bits_le.now))) }
+        ensures count { IfOk result
+            (λ answer. 0 < number_of_limbs bits_le.now → length answer ≡ length self.now) }
+        ensures count_of_zero { IfOk result
+            (λ answer. number_of_limbs bits_le.now ≡ 0 → length answer ≡ 1) }
     {
         if all_zero(bits_le) {
             let zero = Self::zero(alloc)?;
@@ -305,15 +315,17 @@ impl<R: Ring, K: Space<R>> Space<R> for Poly<K> {
         Ok(out)
     }
 
-    /// The sum of polynomial i scaled by scalar i, over the shorter of both slices; zero for none. It
-    /// stores as many coefficients as the longest polynomial that has a scalar, and at least one.
+    /// The sum of polynomial i scaled by scalar i, over the shorter of both slices; zero for none.
+    /// It stores as many coefficients as the longest polynomial that has a scalar, and at least
+    /// one.
     ///
     /// Coefficient i of the sum is the weighted sum of the coefficients i.
     fn msm(alloc: Global, points: &[Self], scalars: &[R]) -> Mem<Self>
         ensures ok { IfOk result (λ answer. HaveSameCoefficients K.same K.zero answer
             (weighted_sum (K.zero ∷ []) (polynomial_sum K.sum) (polynomial_multiple K.scaling)
             points.now scalars.now)) }
-        ensures count { IfOk result (λ answer. length answer ≡ greatest_count (take (length scalars.now) points.now)) }
+        ensures count { IfOk result
+            (λ answer. length answer ≡ greatest_count (take (length scalars.now) points.now)) }
     {
         let weighted = &points[..points.len().min(scalars.len())];
         let count = greatest_count(weighted);
@@ -349,7 +361,8 @@ fn greatest_count<K: Drop>(polynomials: &[Poly<K>]) -> usize
 
 /// Coefficient i of each polynomial.
 fn coefficients_at<K: Additive>(alloc: Global, polynomials: &[Poly<K>], i: usize) -> Mem<Vec<K>>
-    ensures { IfOk result (λ v. AllZip (λ p c. K.same c (coefficient K.zero p i)) polynomials.now v.items) }
+    ensures { IfOk result
+        (λ v. AllZip (λ p c. K.same c (coefficient K.zero p i)) polynomials.now v.items) }
 {
     let column = answers(
         alloc,

@@ -10,13 +10,15 @@ use math_base::algebra::{CryptoGroup, Mem};
 use std::alloc::Global;
 
 impl<G: CryptoGroup> Poly<G> {
-    /// The generator scaled by each coefficient, in order. The value of the commitment at a scalar is
-    /// the generator scaled by the value of the polynomial there.
+    /// The generator scaled by each coefficient, in order. The value of the commitment at a scalar
+    /// is the generator scaled by the value of the polynomial there.
     pub fn commit(alloc: Global, p: Poly<G::Scalar>) -> Mem<Self>
         ensures count { IfOk result (λ q. length q ≡ length p) }
-        ensures each { IfOk result (λ q. AllZip (λ scalar element. G.same element (G.scaling G.generator scalar)) p q) }
+        ensures each { IfOk result
+            (λ q. AllZip (λ scalar element. G.same element (G.scaling G.generator scalar)) p q) }
         ensures values { IfOk result (λ q. (x : G.Scalar)
-            → G.same (value G.Space G.Scalar.Ring q x) (G.scaling G.generator (value_in_ring G.Scalar.Ring p x))) }
+            → G.same (value G.Space G.Scalar.Ring q x)
+            (G.scaling G.generator (value_in_ring G.Scalar.Ring p x))) }
     {
         let generator = G::generator(alloc)?;
         let mut coefficients = Vec::with_capacity(alloc, p.coefficients.len())?;

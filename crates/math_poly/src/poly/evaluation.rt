@@ -30,8 +30,8 @@ impl<K: Drop> Poly<K> {
         Ok(out)
     }
 
-    /// The value at r, as `eval` gives it, by one call of `msm`: the sum of coefficient i weighted by
-    /// r to the power i.
+    /// The value at r, as `eval` gives it, by one call of `msm`: the sum of coefficient i weighted
+    /// by r to the power i.
     ///
     /// It takes memory for as many powers as there are coefficients.
     pub fn eval_msm<R: Ring>(&self, alloc: Global, r: &R) -> Mem<K>
@@ -45,16 +45,17 @@ impl<K: Drop> Poly<K> {
         Ok(out)
     }
 
-    /// The sum over the pairs (weight, point) of the value at the point scaled by the weight; zero for
-    /// none.
+    /// The sum over the pairs (weight, point) of the value at the point scaled by the weight; zero
+    /// for none.
     ///
-    /// The sum over the pairs (w, b) of the value at b scaled by w is the sum of coefficient i weighted
-    /// by the sum of w b^i. So the weights of all points are summed first, one sum for each
-    /// coefficient, and one call of `msm` follows.
+    /// The sum over the pairs (w, b) of the value at b scaled by w is the sum of coefficient i
+    /// weighted by the sum of w b^i. So the weights of all points are summed first, one sum for
+    /// each coefficient, and one call of `msm` follows.
     pub fn lin_comb_eval<R: Ring>(&self, alloc: Global, pairs: &[(R, R)]) -> Mem<K>
     where
         K: Space<R>,
-        ensures { IfOk result (λ answer. K.same answer (combination_of_values K.Space R.Ring self.now pairs.now)) }
+        ensures { IfOk result
+            (λ answer. K.same answer (combination_of_values K.Space R.Ring self.now pairs.now)) }
     {
         let Some((first, rest)) = pairs.split_first() else {
             let zero = K::zero(alloc)?;
@@ -73,10 +74,11 @@ impl<K: Drop> Poly<K> {
 
 /// The value at r of the polynomial with these coefficients and then `last`.
 ///
-/// By Horner's rule: the value of a + X p is a plus the value of p scaled by r, so each coefficient,
-/// from the last to the first, takes one scaling and one sum.
+/// By Horner's rule: the value of a + X p is a plus the value of p scaled by r, so each
+/// coefficient, from the last to the first, takes one scaling and one sum.
 fn horner<R: Ring, K: Space<R>>(alloc: Global, coefficients: &[K], last: K, r: &R) -> Mem<K>
-    ensures ok { IfOk result (λ answer. K.same answer (value K.Space R.Ring (coefficients.now ++ last ∷ []) r.now)) }
+    ensures ok { IfOk result
+        (λ answer. K.same answer (value K.Space R.Ring (coefficients.now ++ last ∷ []) r.now)) }
     ensures never { IsTrue K.NEVER_REFUSES → IsOk result }
 {
     let mut out = last;
@@ -98,18 +100,20 @@ fn horner_step<R: Ring, K: Space<R>>(alloc: Global, out: &mut K, r: &R, coeffici
     Ok(())
 }
 
-/// The value that `horner` gives, by four coefficients at a time. Fewer products wait for one another,
-/// but two of each four coefficients are copied, so it is for types that never refuse.
+/// The value that `horner` gives, by four coefficients at a time. Fewer products wait for one
+/// another, but two of each four coefficients are copied, so it is for types that never refuse.
 ///
-/// The value of a + b X + c X^2 + d X^3 + X^4 p is (a + b r) + (c + d r) r^2, and to that the value of
-/// p scaled by r^4. So for each four coefficients one product waits for those of the four before.
+/// The value of a + b X + c X^2 + d X^3 + X^4 p is (a + b r) + (c + d r) r^2, and to that the value
+/// of p scaled by r^4. So for each four coefficients one product waits for those of the four
+/// before.
 fn horner_by_fours<R: Ring, K: Space<R>>(
     alloc: Global,
     coefficients: &[K],
     last: K,
     r: &R,
 ) -> Mem<K>
-    ensures ok { IfOk result (λ answer. K.same answer (value K.Space R.Ring (coefficients.now ++ last ∷ []) r.now)) }
+    ensures ok { IfOk result
+        (λ answer. K.same answer (value K.Space R.Ring (coefficients.now ++ last ∷ []) r.now)) }
     ensures never { IsTrue R.NEVER_REFUSES → IsTrue K.NEVER_REFUSES → IsOk result }
 {
     let mut r2 = r.clone(alloc)?;
@@ -134,7 +138,8 @@ fn horner_by_fours<R: Ring, K: Space<R>>(
 /// The first n of shift, shift * base, shift * base^2 and so on.
 fn first_powers<R: Ring>(alloc: Global, shift: R, base: &R, n: usize) -> Mem<Vec<R>>
     ensures count { IfOk result (λ v. length v.items ≡ n) }
-    ensures powers { IfOk result (λ v. AllZip R.same v.items (coset R.one R.product shift base.now n)) }
+    ensures powers { IfOk result
+        (λ v. AllZip R.same v.items (coset R.one R.product shift base.now n)) }
 {
     let mut out = Vec::with_capacity(alloc, n)?;
     for power in powers(alloc, shift, base).take(n) {

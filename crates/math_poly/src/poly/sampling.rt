@@ -10,8 +10,8 @@ use rand_core::{CryptoRng, Rng};
 use std::alloc::Global;
 
 impl<K: Random + Drop> Poly<K> {
-    /// A polynomial of `degree + 1` coefficients, which are the next samples of the source, from the
-    /// constant upwards; `degree` is at most 2^32 - 2.
+    /// A polynomial of `degree + 1` coefficients, which are the next samples of the source, from
+    /// the constant upwards; `degree` is at most 2^32 - 2.
     ///
     /// It refuses with `TooManyWords` where one of these samples is refused, or with `Memory`.
     pub fn new<G: Rng + CryptoRng>(

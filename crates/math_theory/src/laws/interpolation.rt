@@ -1,17 +1,19 @@
-//! Interpolation over a field, and weights by which values at given points give the value elsewhere.
+//! Interpolation over a field, and weights by which values at given points give the value
+//! elsewhere.
 //!
-//! For distinct points, Lagrange's polynomial for point p is the product of (X - y) / (p - y) over the other points y:
-//! it is one at p and zero at the others. The sum of value i times polynomial i goes through the values, and by
-//! agreement at the points it is the only polynomial of so few coefficients that does. So the values of Lagrange's
-//! polynomials at x are weights for the value at x, and each list of weights, tried at Lagrange's polynomials, is seen
-//! to be theirs.
+//! For distinct points, Lagrange's polynomial for point p is the product of (X - y) / (p - y) over
+//! the other points y: it is one at p and zero at the others. The sum of value i times polynomial i
+//! goes through the values, and by agreement at the points it is the only polynomial of so few
+//! coefficients that does. So the values of Lagrange's polynomials at x are weights for the value
+//! at x, and each list of weights, tried at Lagrange's polynomials, is seen to be theirs.
 
 ghost use Rattle.std.specs.Prelude.{◌≡◌, ◌≢◌, ◌≤◌, ◌<◌, ℕ, List, length, map, slice_index_or};
 ghost use Rattle.math_theory.specs.OverRing.{AreDistinct, coefficient, HaveSameCoefficients, weighted_sum, values_at, AreWeightsAt, lagrange_weights};
 ghost use Rattle.math_theory.specs.Rings.{CommutativeRing, Field};
 ghost use Rattle.math_theory.specs.Spaces.{Space, value_in, weighted_sum_in};
 
-/// Through n values at n distinct points goes a polynomial of n coefficients, and no other of at most n.
+/// Through n values at n distinct points goes a polynomial of n coefficients, and no other of at
+/// most n.
 pub fn interpolation<T>()
     ensures through { (F : Field T) → (points values : List T) → AreDistinct points
         → length points ≡ length values
@@ -21,7 +23,8 @@ pub fn interpolation<T>()
         → values_at F.ring points p ≡ values_at F.ring points q → HaveSameCoefficients F.ring p q }
 {}
 
-/// At distinct points there are weights for the value at x, given by Lagrange's formula, and no others.
+/// At distinct points there are weights for the value at x, given by Lagrange's formula, and no
+/// others.
 pub fn weights<T>()
     ensures given { (F : Field T) → (x : T) → (points : List T) → AreDistinct points
         → AreWeightsAt F.ring x points (lagrange_weights F x points) }

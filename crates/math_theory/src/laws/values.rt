@@ -1,7 +1,8 @@
 //! Values of polynomials over a commutative ring.
 //!
-//! A polynomial is the list of its coefficients from the constant upwards, and its value at r is the sum of coefficient
-//! i times the i-th power of r. Values go over sums, products and multiples of polynomials.
+//! A polynomial is the list of its coefficients from the constant upwards, and its value at r is
+//! the sum of coefficient i times the i-th power of r. Values go over sums, products and multiples
+//! of polynomials.
 
 ghost use Rattle.std.specs.Prelude.{◌≡◌, List, ◌∷◌};
 ghost use Rattle.math_theory.specs.OverRing.{value, polynomial_sum, polynomial_negative, polynomial_difference, polynomial_product, polynomial_multiple, polynomial_dilation};
@@ -23,7 +24,8 @@ pub fn values_of_sums<T>()
         → value R r (polynomial_difference R p q) ≡ R.sum (value R r p) (R.negative (value R r q)) }
 {}
 
-/// The value of a product is the product of the values, and the value of a multiple is that multiple of the value.
+/// The value of a product is the product of the values, and the value of a multiple is that
+/// multiple of the value.
 pub fn values_of_products<T>()
     ensures product { (R : CommutativeRing T) → (r : T) → (p q : List T)
         → value R r (polynomial_product R p q) ≡ R.product (value R r p) (value R r q) }
@@ -31,7 +33,8 @@ pub fn values_of_products<T>()
         → value R r (polynomial_multiple R p s) ≡ R.product (value R r p) s }
 {}
 
-/// Where coefficient i is multiplied by the i-th power of s, the value at r is the former value at s r.
+/// Where coefficient i is multiplied by the i-th power of s, the value at r is the former value at
+/// s r.
 pub fn values_of_dilations<T>()
     ensures { (R : CommutativeRing T) → (r s : T) → (p : List T)
         → value R r (polynomial_dilation R s p) ≡ value R (R.product s r) p }

@@ -1,6 +1,6 @@
 //! The indices of points, as truth values and as a rising list.
 
-ghost use Rattle.std.specs.Prelude.{◌≡◌, ◌<◌, ◌≤◌, ◌^◌, ℕ, List, length, IfOk};
+ghost use Rattle.std.specs.Prelude.{◌≡◌, ◌<◌, ◌≤◌, ◌^◌, ℕ, List, length, IfOk, All};
 ghost use Rattle.std.specs.Int.{IsNextPowerOfTwo};
 ghost use Rattle.std.specs.Iterator.{IsFiniteIterable, Drains};
 ghost use Rattle.std.specs.Map.{keys_of, values_of};
@@ -47,40 +47,20 @@ where
     Ok(points)
 }
 
-/// How many points there are.
-fn point_count(points: &VanishingPoints) -> u64
-    ensures { result ≡ length points.now }
-{
-    1 << points.lg_size()
-}
-
-/// The indices of the true values, in rising order.
-pub(super) fn present_indices(alloc: Global, points: &VanishingPoints) -> Mem<Vec<u32>>
-    requires { length points.now ≤ 2 ^ 32 }
-    ensures { IfOk result (λ places. places.items ≡ filled_places points.now) }
-{
-    let mut out = Vec::new(alloc);
-    for i in 0..point_count(points) {
-        if points.get(i) {
-            out.push(i as u32)?;
-        }
-    }
-    Ok(out)
-}
-
 /// Each weight with its index.
 pub(super) fn keyed<F: Drop>(
     alloc: Global,
-    indices: Vec<u32>,
+    indices: Vec<usize>,
     weights: Vec<F>,
 ) -> Mem<Vec<(u32, F)>>
-    requires { length weights.items ≡ length indices.items }
+    requires count { length weights.items ≡ length indices.items }
+    requires below { All (λ index. index < 2 ^ 32) indices.items }
     ensures indices { IfOk result (λ out. keys_of out.items ≡ indices.items) }
     ensures weights { IfOk result (λ out. values_of out.items ≡ weights.items) }
 {
     let mut out = Vec::new(alloc);
-    for pair in indices.into_iter().zip(weights) {
-        out.push(pair)?;
+    for (index, weight) in indices.into_iter().zip(weights) {
+        out.push((index as u32, weight))?;
     }
     Ok(out)
 }

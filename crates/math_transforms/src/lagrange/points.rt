@@ -7,11 +7,15 @@ ghost use Rattle.math_transforms.specs.DomainValues.{one_column, HasDomain, AreV
 
 use crate::columns::EvaluationColumn;
 use crate::row_products::{multiply_row, multiply_rows};
+use crate::transform::coset::geometric;
+use crate::transform::size_of;
 use math_base::algebra::{Additive, FieldNTT, Mem, Ring};
 use std::alloc::Global;
 
-/// The 2^lg points of the domain: the powers of the root.
-pub(super) fn domain_points<F: FieldNTT>(alloc: Global, lg: u8) -> Mem<Vec<F>>
+/// The 2^lg points of the domain: the powers of the root of order 2^lg, from the power 0 on.
+///
+/// lg is at most `F::MAX_LG_ROOT_ORDER`.
+pub fn domain_points<F: FieldNTT>(alloc: Global, lg: u8) -> Mem<Vec<F>>
     requires domain { lg ≤ F.MAX_LG_ROOT_ORDER }
     requires small { lg < 64 }
     ensures count { IfOk result (λ v. length v.items ≡ 2 ^ lg) }
@@ -21,18 +25,13 @@ pub(super) fn domain_points<F: FieldNTT>(alloc: Global, lg: u8) -> Mem<Vec<F>>
     let Some(root) = F::root_of_unity(alloc, lg)? else {
         unreachable!()
     };
-    let mut out = Vec::new(alloc);
-    let mut power = F::one(alloc)?;
-    for _done in 0..1u64 << lg {
-        let point = power.clone(alloc)?;
-        out.push(point)?;
-        power.mul_assign(alloc, &root)?;
-    }
+    let one = F::one(alloc)?;
+    let out = geometric(alloc, one, &root, size_of(lg))?;
     Ok(out)
 }
 
 /// Copies of the items at the places.
-pub(super) fn gathered<F: Additive>(alloc: Global, items: &[F], places: &[u32]) -> Mem<Vec<F>>
+pub(super) fn gathered<F: Additive>(alloc: Global, items: &[F], places: &[usize]) -> Mem<Vec<F>>
     requires { All (λ place. place < length items.now) places.now }
     ensures count { IfOk result (λ v. length v.items ≡ length places.now) }
     ensures items { IfOk result (λ v. (k : ℕ) → k < length places.now
@@ -41,7 +40,7 @@ pub(super) fn gathered<F: Additive>(alloc: Global, items: &[F], places: &[u32]) 
 {
     let mut out = Vec::new(alloc);
     for place in places {
-        let item = items[*place as usize].clone(alloc)?;
+        let item = items[*place].clone(alloc)?;
         out.push(item)?;
     }
     Ok(out)

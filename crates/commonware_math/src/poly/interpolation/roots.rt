@@ -15,23 +15,24 @@ use std::alloc::Global;
 use std::num::NonZeroU32;
 
 impl<I: Ord + Drop, F: FieldNTT> Interpolator<I, F> {
-    /// The interpolator for the value at zero, from the pairs of a key and the index of its point. It is
-    /// that of `roots_of_unity_at`.
+    /// The interpolator for the value at zero, from the pairs of a key and the index of its point.
+    /// It is that of `roots_of_unity_at`.
     pub fn roots_of_unity(alloc: Global, total: NonZeroU32, points: BiMap<I, u32>) -> Mem<Self>
         requires { HasDomainOf F.MAX_LG_ROOT_ORDER total.value }
         ensures keys { IfOk result (λ m. keys_of m ≡ keys_of (pairs_below total.value points)) }
         ensures weights { IfOk result (λ m. (lg : ℕ) → IsNextPowerOfTwo total.value (2 ^ lg)
-            → InterpolatesAtPowers I.cmp F.Ring (F.root lg) F.zero (pairs_below total.value points) m) }
+            → InterpolatesAtPowers I.cmp F.Ring (F.root lg) F.zero
+            (pairs_below total.value points) m) }
     {
         let zero = F::zero(alloc)?;
         let out = Self::roots_of_unity_at(alloc, total, points, &zero)?;
         Ok(out)
     }
 
-    /// The interpolator for the value at x, from the pairs of a key and the index of its point: point i
-    /// is power i of the root of order N, which is `total` rounded up to a power of two. Keys whose
-    /// index is `total` or more are dropped; the points of the others differ, so their weights are the
-    /// only ones for the value at x. It takes time in O(N log N).
+    /// The interpolator for the value at x, from the pairs of a key and the index of its point:
+    /// point i is power i of the root of order N, which is `total` rounded up to a power of two.
+    /// Keys whose index is `total` or more are dropped; the points of the others differ, so their
+    /// weights are the only ones for the value at x. It takes time in O(N log N).
     ///
     /// lg N is at most `F::MAX_LG_ROOT_ORDER`.
     pub fn roots_of_unity_at(
@@ -43,7 +44,8 @@ impl<I: Ord + Drop, F: FieldNTT> Interpolator<I, F> {
         requires { HasDomainOf F.MAX_LG_ROOT_ORDER total.value }
         ensures keys { IfOk result (λ m. keys_of m ≡ keys_of (pairs_below total.value points)) }
         ensures weights { IfOk result (λ m. (lg : ℕ) → IsNextPowerOfTwo total.value (2 ^ lg)
-            → InterpolatesAtPowers I.cmp F.Ring (F.root lg) x.now (pairs_below total.value points) m) }
+            → InterpolatesAtPowers I.cmp F.Ring (F.root lg) x.now
+            (pairs_below total.value points) m) }
     {
         let (keys, indices) = points.into_map().into_parts();
         let weights = lagrange_coefficients_at(alloc, total, copied(alloc, &indices)?, x)?;
@@ -64,7 +66,8 @@ fn weights_of_keys<I: Ord + Drop, F: Additive>(
     requires { length indices.items ≡ length keys.items }
     ensures keys { IfOk result (λ out. out.0.items
         ≡ keys_of (weighted_pairs weights.now (zip keys.items indices.items))) }
-    ensures weights { IfOk result (λ out. AllZip (λ v i. F.same v (weight_at F.zero weights.now i)) out.1.items
+    ensures weights { IfOk result
+        (λ out. AllZip (λ v i. F.same v (weight_at F.zero weights.now i)) out.1.items
         (values_of (weighted_pairs weights.now (zip keys.items indices.items)))) }
 {
     let mut kept = Vec::new(alloc);

@@ -10,20 +10,22 @@ use math_base::algebra::{Field, Mem, Ring};
 use math_transforms::weights::{first_place, one_at, quotients};
 use std::alloc::Global;
 
-/// The weights by which the values at the points give the value at x, for polynomials of at most as many
-/// coefficients as points.
+/// The weights by which the values at the points give the value at x, for polynomials of at most as
+/// many coefficients as points.
 ///
-/// The weight of p is the product of (x - y) / (p - y) over the other points y. Where x is one of the
-/// points, that is one there and zero elsewhere. Otherwise it is the product of x - y over all points y,
-/// divided by x - p times the product of p - y over the others. Where two points are same such a divisor
-/// is zero, and all weights are zero.
+/// The weight of p is the product of (x - y) / (p - y) over the other points y. Where x is one of
+/// the points, that is one there and zero elsewhere. Otherwise it is the product of x - y over all
+/// points y, divided by x - p times the product of p - y over the others. Where two points are same
+/// such a divisor is zero, and all weights are zero.
 pub fn weights_at<F: Field>(alloc: Global, points: &[F], x: &F) -> Mem<Vec<F>>
     ensures count { IfOk result (λ w. length w.items ≡ length points.now) }
     ensures at_point { IfOk result (λ w. (k : ℕ) → IsFirstPlace F.same x.now points.now k
         → IsOneAt F.same F.zero F.one k w.items) }
-    ensures repeated { IfOk result (λ w. All (λ p. ¬ (F.same p x.now)) points.now → SomeAreSame F.same points.now
+    ensures repeated { IfOk result
+        (λ w. All (λ p. ¬ (F.same p x.now)) points.now → SomeAreSame F.same points.now
         → All (λ v. F.same v F.zero) w.items) }
-    ensures weights { IfOk result (λ w. AreApart F.same points.now → AreWeightsAt F.Ring x.now points.now w.items) }
+    ensures weights { IfOk result
+        (λ w. AreApart F.same points.now → AreWeightsAt F.Ring x.now points.now w.items) }
     ensures only { IfOk result (λ w. AreApart F.same points.now → (others : List F)
         → AreWeightsAt F.Ring x.now points.now others → AllZip F.same others w.items) }
 {
@@ -43,8 +45,8 @@ pub fn weights_at<F: Field>(alloc: Global, points: &[F], x: &F) -> Mem<Vec<F>>
 
 /// The product of `start` and of r - x over the roots x.
 ///
-/// The differences from four roots are multiplied with each other first, so that for each four roots
-/// one product waits for those of the roots before.
+/// The differences from four roots are multiplied with each other first, so that for each four
+/// roots one product waits for those of the roots before.
 fn times_differences<R: Ring>(alloc: Global, start: R, r: &R, roots: &[R]) -> Mem<R>
     ensures { IfOk result (λ answer. R.same answer
         (R.product start (root_product R.sum R.negative R.product R.one r.now roots.now))) }

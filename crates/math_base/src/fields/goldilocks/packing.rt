@@ -1,11 +1,12 @@
 //! Words packed into elements by 63 bits each, and elements unpacked to words.
 //!
-//! The bits of all words in order, those of each word from the lowest up, are one list. Packing cuts it
-//! into pieces of 63, the last filled with zeros; a piece writes a number below 2^63, and so below P.
-//! Unpacking joins the 63 lowest bits of each element to one list, and cuts it into pieces of 64.
+//! The bits of all words in order, those of each word from the lowest up, are one list. Packing
+//! cuts it into pieces of 63, the last filled with zeros; a piece writes a number below 2^63, and
+//! so below P. Unpacking joins the 63 lowest bits of each element to one list, and cuts it into
+//! pieces of 64.
 //!
-//! Neither makes the list. Its first bits wait in a word. Those of the next item are put above them; the lowest
-//! of both are the next piece, and what is left of the item waits in its turn.
+//! Neither makes the list. Its first bits wait in a word. Those of the next item are put above
+//! them; the lowest of both are the next piece, and what is left of the item waits in its turn.
 
 ghost use Rattle.std.specs.Prelude.{◌≡◌, ◌<◌, ◌≤◌, ◌+◌, ◌*◌, ◌^◌, ◌%◌, ◌++◌, [], take, drop, None};
 ghost use Rattle.std.specs.Iterator.{count_map};
@@ -36,8 +37,8 @@ impl WaitingBits {
         WaitingBits { value: 0, count: 0 }
     }
 
-    /// The number that the first `width` of these bits and of the `more` lowest of a word after them write, and
-    /// the bits after those.
+    /// The number that the first `width` of these bits and of the `more` lowest of a word after
+    /// them write, and the bits after those.
     fn cut(self, word: u64, more: u32, width: u32) -> (u64, WaitingBits)
         requires low { word < 2 ^ more }
         requires room { (self.count < width) × (width ≤ 64) × (width < self.count + 64) }
@@ -56,8 +57,8 @@ impl WaitingBits {
     }
 }
 
-/// The elements that the words of an iterator pack to, in order, as `F::stream_from_u64s` makes it. After
-/// the last element each call answers `None`.
+/// The elements that the words of an iterator pack to, in order, as `F::stream_from_u64s` makes it.
+/// After the last element each call answers `None`.
 #[derive(Drop)]
 pub struct WordsToElements<I> {
     waiting: WaitingBits,
@@ -73,7 +74,8 @@ impl<I: Iterator<Item = u64> + Drop> Iterator for WordsToElements<I> {
 
     ghost next_gives = { words_to_elements_steps I.next_gives };
 
-    ghost remaining = { λ s. count_map (piece_count 63) (words_to_elements_bits ⟦<Fuse<I> as Iterator>⟧.remaining s) };
+    ghost remaining = { λ s. count_map (piece_count 63)
+        (words_to_elements_bits ⟦<Fuse<I> as Iterator>⟧.remaining s) };
 
     fn next(&mut self) -> Option<F> {
         // A word has one bit more than an element, so where 63 bits wait an element needs none.
@@ -95,8 +97,8 @@ impl<I: Iterator<Item = u64> + Drop> Iterator for WordsToElements<I> {
     }
 }
 
-/// The words that the elements of an iterator unpack to, in order, as `F::stream_to_u64s` makes it. After
-/// the last word each call answers `None`.
+/// The words that the elements of an iterator unpack to, in order, as `F::stream_to_u64s` makes it.
+/// After the last word each call answers `None`.
 #[derive(Drop)]
 pub struct ElementsToWords<I> {
     waiting: WaitingBits,
@@ -112,7 +114,8 @@ impl<I: Iterator<Item = F> + Drop> ElementsToWords<I> {
         ensures refills { RefillsWithElements I.next_gives self.old self.new }
         ensures enough { self.new.waiting.count ≡ 0 → running self.new.source ≡ None }
         ensures can { ⟦<Fuse<I> as Iterator>⟧.can_next self.new.source }
-        ensures left { NoMoreThan (elements_to_words_bits ⟦<Fuse<I> as Iterator>⟧.remaining self.new)
+        ensures left { NoMoreThan
+            (elements_to_words_bits ⟦<Fuse<I> as Iterator>⟧.remaining self.new)
             (elements_to_words_bits ⟦<Fuse<I> as Iterator>⟧.remaining self.old) }
     {
         if self.waiting.count == 0 {
@@ -135,7 +138,8 @@ impl<I: Iterator<Item = F> + Drop> Iterator for ElementsToWords<I> {
 
     ghost next_gives = { elements_to_words_steps I.next_gives };
 
-    ghost remaining = { λ s. count_map (piece_count 64) (elements_to_words_bits ⟦<Fuse<I> as Iterator>⟧.remaining s) };
+    ghost remaining = { λ s. count_map (piece_count 64)
+        (elements_to_words_bits ⟦<Fuse<I> as Iterator>⟧.remaining s) };
 
     fn next(&mut self) -> Option<u64> {
         // An element has one bit less than a word, so where no bit waits a word needs two.
@@ -176,12 +180,15 @@ impl F {
 
     /// Packs words into elements.
     ///
-    /// The bits of the words, in order and the lowest of each first, are cut into pieces of 63, the last
-    /// filled with zeros, and each piece is the number of an element. n words give 64 n / 63 elements,
-    /// rounded up. After its first `None`, `inner` is not asked again. No memory is taken.
+    /// The bits of the words, in order and the lowest of each first, are cut into pieces of 63, the
+    /// last filled with zeros, and each piece is the number of an element. n words give 64 n / 63
+    /// elements, rounded up. After its first `None`, `inner` is not asked again. No memory is
+    /// taken.
     pub fn stream_from_u64s<I: Iterator<Item = u64> + Drop>(inner: I) -> WordsToElements<I>
-        ensures all { GivesAll (words_to_elements_steps I.next_gives) result I.next_gives inner elements_of }
-        ensures front { GivesFront (words_to_elements_steps I.next_gives) result I.next_gives inner elements_of }
+        ensures all { GivesAll (words_to_elements_steps I.next_gives) result
+            I.next_gives inner elements_of }
+        ensures front { GivesFront (words_to_elements_steps I.next_gives) result
+            I.next_gives inner elements_of }
         ensures count { GivesCount (words_to_elements_steps I.next_gives) result I.next_gives inner
             (λ n. piece_count 63 (64 * n)) }
         ensures can { I.can_next inner → ⟦<WordsToElements<I> as Iterator>⟧.can_next result }
@@ -196,13 +203,16 @@ impl F {
 
     /// Unpacks elements to words.
     ///
-    /// The 63 lowest bits of each element, in order and the lowest first, are cut into pieces of 64, the
-    /// last filled with zeros, and each piece is a word. Bit 63 of an element is ignored. n elements give
-    /// 63 n / 64 words, rounded up. Packed words come back, and one zero word after them where 63 does not
-    /// divide their number. After its first `None`, `inner` is not asked again. No memory is taken.
+    /// The 63 lowest bits of each element, in order and the lowest first, are cut into pieces of
+    /// 64, the last filled with zeros, and each piece is a word. Bit 63 of an element is ignored. n
+    /// elements give 63 n / 64 words, rounded up. Packed words come back, and one zero word after
+    /// them where 63 does not divide their number. After its first `None`, `inner` is not asked
+    /// again. No memory is taken.
     pub fn stream_to_u64s<I: Iterator<Item = F> + Drop>(inner: I) -> ElementsToWords<I>
-        ensures all { GivesAll (elements_to_words_steps I.next_gives) result I.next_gives inner words_of }
-        ensures front { GivesFront (elements_to_words_steps I.next_gives) result I.next_gives inner words_of }
+        ensures all { GivesAll (elements_to_words_steps I.next_gives) result
+            I.next_gives inner words_of }
+        ensures front { GivesFront (elements_to_words_steps I.next_gives) result
+            I.next_gives inner words_of }
         ensures count { GivesCount (elements_to_words_steps I.next_gives) result I.next_gives inner
             (λ n. piece_count 64 (63 * n)) }
         ensures can { I.can_next inner → ⟦<ElementsToWords<I> as Iterator>⟧.can_next result }

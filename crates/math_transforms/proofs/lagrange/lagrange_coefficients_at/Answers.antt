@@ -1,9 +1,18 @@
-use Rattle.std.proofs.Common.{◌≡◌, ◌∙◌, subst, arith}
+use Rattle.std.proofs.Common.{◌≡◌, ◌<◌, ◌≤◌, ◌^◌, ◌∙◌, length, subst, arith}
+use Rattle.std.proofs.Math.Pow.{pow_mono}
 use Rattle.std.specs.Map.{keys_of}
+use Rattle.math_theory.specs.Recovery.{filled_places}
 use Rattle.math_transforms.specs.RootWeights.{AreIndicesBelow}
-use Rattle.math_transforms.proofs.PresentIndices.{lg-only}
+use Rattle.math_transforms.proofs.PresentIndices.{lg-only, places-below}
 use Rattle.math_transforms.proofs.RootWeightCases.{indices-of}
 use Rattle.math_transforms.proofs.lagrange.lagrange_coefficients_at.Goals as goal
+
+pub keyed-requires-clause-below : goal.keyed-requires-clause-below
+keyed-requires-clause-below g c k d l =
+    let points = c.in_ok-points.points in
+    let within : k < length (filled_places points) = rw c.in_ok-places.ensures at l in
+    let most : 2 ^ c.lg_of_domain-lg.result ≤ 2 ^ 32 = pow_mono c.lg_of_domain-lg.ensures.small in
+    rw c.in_ok-places.ensures (omega (arith, places-below points k d within, c.in_ok-points.ensures.size, most))
 
 pub returns-clause-indices : goal.returns-clause-indices
 returns-clause-indices g c =

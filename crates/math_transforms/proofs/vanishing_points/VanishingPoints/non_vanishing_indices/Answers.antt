@@ -1,11 +1,11 @@
 use Rattle.std.proofs.Common.{◌∙◌, ap, arith}
 use Rattle.math_transforms.proofs.PresentIndices.{read, places-true, places-false, places-all}
-use Rattle.math_ntt.proofs.ntt.correction.filled_rows.Goals as goal
-use Rattle.math_ntt.proofs.ntt.correction.filled_rows.Goals.{then-get+in_ok-push, else-get}
+use Rattle.math_transforms.proofs.vanishing_points.VanishingPoints.non_vanishing_indices.Goals as goal
+use Rattle.math_transforms.proofs.vanishing_points.VanishingPoints.non_vanishing_indices.Goals.{then-get+in_ok-push, else-get}
 
 pub loop-i-preserved : goal.loop-i-preserved
 loop-i-preserved c =
-    let filled = c.args.filled.now in
+    let filled = c.args.self.now in
     let i = c.loop-i.i in
     elim c.if-get.branch [
       | then-get+in_ok-push w ↦ places-true c.loop-i.out.items c.if-get.out.items filled i (omega arith) (read filled i c.get.result c.get.ensures ∙ w.if-get.true) c.loop-i.invariant
@@ -14,4 +14,4 @@ loop-i-preserved c =
     ]
 
 pub returns : goal.returns
-returns c = places-all c.loop-i.out.items c.args.filled.now c.loop-i.i (omega arith) c.loop-i.invariant
+returns c = places-all c.loop-i.out.items c.args.self.now c.loop-i.i (omega arith) c.loop-i.invariant
