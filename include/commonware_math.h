@@ -1,4 +1,4 @@
-/* commonware-math for C: polynomials over the Goldilocks field, in the caller's memory.
+/* commonware-math for C: polynomials over the Goldilocks field and data in shards, in the caller's memory.
  *
  * An element of the field is a whole number below P = 2^64 - 2^32 + 1, in a uint64_t. Every word that is
  * handed in as one is tested, but for those of rows that are not filled: P or more gives CWM_OUT_OF_RANGE.
@@ -8,7 +8,12 @@
  * polynomial of its own. A domain has N = 2^lg points, lg at most 32: point i is power i of the root of
  * order N, which is 0xee41f5320c4ea145 to the power 2^(32 - lg).
  *
- * Each function answers a status. Where it is not CWM_DONE, nothing was written.
+ * Each function but cwm_version answers a status. Where it is not CWM_DONE, nothing was written.
+ *
+ * The library keeps nothing between calls, so calls on buffers of their own may run at the same time, in any threads.
+ *
+ * The memory that a call takes until it ends is said in words of 8 bytes: the most that was measured, where a block that
+ * grows is copied.
  *
  * What no function can test, and the caller has to see to:
  * - a pointer is not null, also where its length is 0, and is aligned for what it points to;
@@ -25,6 +30,19 @@
 
 #ifdef __cplusplus
 extern "C" {
+#endif
+
+/* The version of this header, and as one number. */
+#define CWM_VERSION_MAJOR 1
+#define CWM_VERSION_MINOR 0
+#define CWM_VERSION_PATCH 0
+#define CWM_VERSION (10000 * CWM_VERSION_MAJOR + 100 * CWM_VERSION_MINOR + CWM_VERSION_PATCH)
+
+/* A status is not to be passed over. */
+#if defined(__GNUC__) || defined(__clang__)
+#define CWM_MUST_USE __attribute__((warn_unused_result))
+#else
+#define CWM_MUST_USE
 #endif
 
 /* P, the modulus. */
@@ -48,6 +66,30 @@ enum cwm_status {
   CWM_REPEATED = 13        /* a point is there twice */
 };
 
+/* The version of the library, as CWM_VERSION is that of the header. */
+uint32_t cwm_version(void);
+
+/* The name of a status, as "CWM_DONE"; that of a number that is no status is "no status". */
+static inline const char *cwm_status_name(uint32_t status) {
+  switch (status) {
+    case CWM_DONE: return "CWM_DONE";
+    case CWM_OUT_OF_MEMORY: return "CWM_OUT_OF_MEMORY";
+    case CWM_OUT_OF_RANGE: return "CWM_OUT_OF_RANGE";
+    case CWM_WRONG_SIZE: return "CWM_WRONG_SIZE";
+    case CWM_TOO_FEW: return "CWM_TOO_FEW";
+    case CWM_MISMATCH: return "CWM_MISMATCH";
+    case CWM_WRONG_INDEX: return "CWM_WRONG_INDEX";
+    case CWM_CONFLICT: return "CWM_CONFLICT";
+    case CWM_INCONSISTENT: return "CWM_INCONSISTENT";
+    case CWM_END_OF_BUFFER: return "CWM_END_OF_BUFFER";
+    case CWM_INVALID_VARINT: return "CWM_INVALID_VARINT";
+    case CWM_INVALID_LENGTH: return "CWM_INVALID_LENGTH";
+    case CWM_EXTRA_DATA: return "CWM_EXTRA_DATA";
+    case CWM_REPEATED: return "CWM_REPEATED";
+    default: return "no status";
+  }
+}
+
 /* How many bytes hold the text of any status and a zero behind it. */
 #define CWM_TEXT_SIZE 32
 
@@ -56,27 +98,27 @@ enum cwm_status {
 uint32_t cwm_status_text(uint32_t status, char *text, size_t m);
 
 /* Writes the value at x of the polynomial with these n coefficients into *out.
- * n is 1 to 2^32 - 1, else CWM_WRONG_SIZE. A word of P or more: CWM_OUT_OF_RANGE. */
-uint32_t cwm_eval(const uint64_t *coefficients, size_t n, uint64_t x, uint64_t *out);
+ * n is 1 to 2^32 - 1, else CWM_WRONG_SIZE. A word of P or more: CWM_OUT_OF_RANGE. Takes 128 words of memory. */
+CWM_MUST_USE uint32_t cwm_eval(const uint64_t *coefficients, size_t n, uint64_t x, uint64_t *out);
 
 /* Row i of the cells holds coefficient i of each polynomial. Puts in its place the values at point i.
  * n cells in rows of `cols`: cols is 1 or more and n / cols is a power of two, 2^32 at most, else
- * CWM_WRONG_SIZE. A word of P or more: CWM_OUT_OF_RANGE. Takes memory for about as many words again, and
- * for one more a row. */
-uint32_t cwm_evaluate(uint64_t *cells, size_t n, size_t cols);
+ * CWM_WRONG_SIZE. A word of P or more: CWM_OUT_OF_RANGE. Takes memory for n words, one more a row, and
+ * 64. */
+CWM_MUST_USE uint32_t cwm_evaluate(uint64_t *cells, size_t n, size_t cols);
 
 /* The way back: row i holds the values at point i, and gets coefficient i of each polynomial.
- * Sizes and statuses as for cwm_evaluate. */
-uint32_t cwm_interpolate(uint64_t *cells, size_t n, size_t cols);
+ * Sizes, statuses and memory as for cwm_evaluate. */
+CWM_MUST_USE uint32_t cwm_interpolate(uint64_t *cells, size_t n, size_t cols);
 
-/* Row i of the cells holds the values at point i of each polynomial where filled[i] is 1, and anything
- * where it is 0. Puts in place of the cells the coefficients of the polynomials, coefficient i in row i:
+/* Row i of the cells holds the values at point i of each polynomial where filled[i] is 1. Where it is 0 the row may hold
+ * anything, and is not read. Puts in place of the cells the coefficients of the polynomials, coefficient i in row i:
  * in each column the only one that has these values, and whose coefficients from the number of filled
  * rows on are zero. So polynomials of at most m coefficients are recovered from any m of their rows.
  * n cells in rows of `cols`: cols is 1 or more, rows is n / cols and a power of two, 2^32 at most, else
  * CWM_WRONG_SIZE. A byte of `filled` that is neither 0 nor 1, or a word of P or more in a filled row:
- * CWM_OUT_OF_RANGE. */
-uint32_t cwm_recover(uint64_t *cells, size_t n, size_t cols, const uint8_t *filled, size_t rows);
+ * CWM_OUT_OF_RANGE. Takes memory for n words, four more a row, and 1024. */
+CWM_MUST_USE uint32_t cwm_recover(uint64_t *cells, size_t n, size_t cols, const uint8_t *filled, size_t rows);
 
 /* As cwm_recover, where some of the filled rows are wrong, and nobody knows which. A row is wrong if one of its
  * cells is. Puts in place of the cells the coefficients of polynomials of at most `count` coefficients that have
@@ -86,42 +128,44 @@ uint32_t cwm_recover(uint64_t *cells, size_t n, size_t cols, const uint8_t *fill
  * fit other polynomials, which are then given.
  * n, cols, rows and words as for cwm_recover. room is rows / 2 or more, else CWM_WRONG_SIZE. count is at most the
  * number of filled rows, else CWM_TOO_FEW. With no wrong row it takes the time of cwm_recover; with some, time
- * grows with their number and with m^2. */
-uint32_t cwm_correct(uint64_t *cells, size_t n, size_t cols, const uint8_t *filled, size_t rows, size_t count, size_t *wrong,
-                     size_t room, size_t *written);
+ * grows with their number and with m^2. Takes three times the memory of cwm_recover. */
+CWM_MUST_USE uint32_t cwm_correct(uint64_t *cells, size_t n, size_t cols, const uint8_t *filled, size_t rows, size_t count,
+                                  size_t *wrong, size_t room, size_t *written);
 
 /* At each of n points stands a value, and some of the values are wrong. Writes the k coefficients of the polynomial
  * that has all of the values but at most (n - k) / 2, rounded down: then it is the only one. Writes the places of
  * these values, rising, over the first of the `room` places of `wrong`, and how many they are into *written. Where
  * there is no such polynomial: CWM_INCONSISTENT. Where more values are wrong than that, they may fit another one.
  * m is n, k is at most n, and room is (n - k) / 2 or more, else CWM_WRONG_SIZE. A word of P or more:
- * CWM_OUT_OF_RANGE. A point that is there twice: CWM_REPEATED. Time grows with n^2. */
-uint32_t cwm_decode(const uint64_t *points, size_t n, const uint64_t *values, size_t m, uint64_t *coefficients, size_t k,
-                    size_t *wrong, size_t room, size_t *written);
+ * CWM_OUT_OF_RANGE. A point that is there twice: CWM_REPEATED. Time grows with n^2. Takes memory for 9 n words. */
+CWM_MUST_USE uint32_t cwm_decode(const uint64_t *points, size_t n, const uint64_t *values, size_t m, uint64_t *coefficients,
+                                 size_t k, size_t *wrong, size_t room, size_t *written);
 
 /* Writes for each of the n points a weight: the sum of the values at the points, each times its weight,
  * is the value at x, for every polynomial of at most n coefficients. Where x is one of the points, the
  * first such has weight 1 and the others 0; and else, where a point is there twice, all weights are 0.
- * m is n, else CWM_WRONG_SIZE. A word of P or more: CWM_OUT_OF_RANGE. Time grows with n^2. */
-uint32_t cwm_weights(const uint64_t *points, size_t n, uint64_t x, uint64_t *weights, size_t m);
+ * m is n, else CWM_WRONG_SIZE. A word of P or more: CWM_OUT_OF_RANGE. Time grows with n^2. Takes memory for 3 n words. */
+CWM_MUST_USE uint32_t cwm_weights(const uint64_t *points, size_t n, uint64_t x, uint64_t *weights, size_t m);
 
 /* Writes the same weights for the points of a domain that have these n indices; N is `total` rounded up
  * to a power of two. total is 1 or more and m is n, else CWM_WRONG_SIZE. The indices strictly rise and are
  * below total, else CWM_WRONG_INDEX. x of P or more: CWM_OUT_OF_RANGE. Time grows with N lg N for x that
- * is zero, and with N lg^2 N at most. */
-uint32_t cwm_weights_at_roots(uint32_t total, const uint32_t *indices, size_t n, uint64_t x, uint64_t *weights, size_t m);
+ * is zero, and with N lg^2 N at most. Takes memory for 7 N words. */
+CWM_MUST_USE uint32_t cwm_weights_at_roots(uint32_t total, const uint32_t *indices, size_t n, uint64_t x, uint64_t *weights,
+                                           size_t m);
 
 /* Writes the encoding of the polynomial with these n coefficients over the first of the m bytes of out,
  * and their number into *written: n as 1 to 5 bytes, seven bits a byte and the lowest first, where bit 7
  * says that another follows; then each coefficient as 8 bytes, highest first. 8 n + 5 bytes are enough.
- * n is 1 to 2^32 - 1 and there is room, else CWM_WRONG_SIZE. A word of P or more: CWM_OUT_OF_RANGE. */
-uint32_t cwm_encode_poly(const uint64_t *coefficients, size_t n, uint8_t *out, size_t m, size_t *written);
+ * n is 1 to 2^32 - 1 and there is room, else CWM_WRONG_SIZE. A word of P or more: CWM_OUT_OF_RANGE. Takes memory
+ * for a few words. */
+CWM_MUST_USE uint32_t cwm_encode_poly(const uint64_t *coefficients, size_t n, uint8_t *out, size_t m, size_t *written);
 
 /* Writes the coefficients of the polynomial that the n bytes encode over the first of the m words of out,
  * and their number into *count. n / 8 words are enough; less room than needed: CWM_WRONG_SIZE. Bytes that
  * are no encoding give their first fault: CWM_INVALID_VARINT, CWM_INVALID_LENGTH, CWM_END_OF_BUFFER,
- * CWM_OUT_OF_RANGE for a word of P or more, CWM_EXTRA_DATA. */
-uint32_t cwm_decode_poly(const uint8_t *bytes, size_t n, uint64_t *out, size_t m, size_t *count);
+ * CWM_OUT_OF_RANGE for a word of P or more, CWM_EXTRA_DATA. Takes no memory. */
+CWM_MUST_USE uint32_t cwm_decode_poly(const uint8_t *bytes, size_t n, uint64_t *out, size_t m, size_t *count);
 
 /* Data of n words, each any uint64_t, are split into `total` shards of which any `min` give them back. A
  * shard is known by its index, from 0 to total - 1, and has the same number of words as each other, all
@@ -130,15 +174,15 @@ uint32_t cwm_decode_poly(const uint8_t *bytes, size_t n, uint64_t *out, size_t m
  *
  * Writes how many words each shard of `words` words of data has into *cells.
  * 1 <= min <= total, else CWM_MISMATCH. The words of the data, and total times *cells, are below 2^57, else
- * CWM_WRONG_SIZE. */
-uint32_t cwm_shard_sizes(size_t words, uint32_t min, uint32_t total, size_t *cells);
+ * CWM_WRONG_SIZE. Takes no memory. */
+CWM_MUST_USE uint32_t cwm_shard_sizes(size_t words, uint32_t min, uint32_t total, size_t *cells);
 
 /* Writes the shards of the n words of data: shard i is row i of the m words of `cells`, in `total` rows of
  * as many words as cwm_shard_sizes says.
  * 1 <= min <= total, else CWM_MISMATCH. m is total times the size of a shard, and the sizes are such as
- * cwm_shard_sizes takes, else CWM_WRONG_SIZE. Takes memory for a few times N rows of a shard's size, where
+ * cwm_shard_sizes takes, else CWM_WRONG_SIZE. Takes memory for 7 times N rows of a shard's words and of 64 more, where
  * N is `total` rounded up to a power of two. */
-uint32_t cwm_split(const uint64_t *data, size_t n, uint32_t min, uint32_t total, uint64_t *cells, size_t m);
+CWM_MUST_USE uint32_t cwm_split(const uint64_t *data, size_t n, uint32_t min, uint32_t total, uint64_t *cells, size_t m);
 
 /* Writes the data that k shards give back over the first of the m words of data, and their number into
  * *written. Row i of the n words of `cells`, in k rows, is the shard whose index is indices[i]; the order
@@ -149,10 +193,44 @@ uint32_t cwm_split(const uint64_t *data, size_t n, uint32_t min, uint32_t total,
  * more: CWM_WRONG_INDEX; unequal shards of one index: CWM_CONFLICT; fewer than `min` distinct indices:
  * CWM_TOO_FEW; shards of no data: CWM_INCONSISTENT. Where shards of more than `min` distinct indices are
  * there, damage to one is so found; where there are just `min`, it may not be.
- * Takes memory for a few times N rows of a shard's size, where N is `total` rounded up to a power of two:
- * who takes shards from strangers bounds `total` first. */
-uint32_t cwm_join(const uint32_t *indices, size_t k, uint32_t min, uint32_t total, const uint64_t *cells, size_t n,
-                  uint64_t *data, size_t m, size_t *written);
+ * Takes memory for 9 times N rows of a shard's words and of 64 more, where N is `total` rounded up to a power of
+ * two: who takes shards from strangers bounds `total` first. */
+CWM_MUST_USE uint32_t cwm_join(const uint32_t *indices, size_t k, uint32_t min, uint32_t total, const uint64_t *cells, size_t n,
+                               uint64_t *data, size_t m, size_t *written);
+
+/* As cwm_join, where some of the shards are wrong, and nobody knows which. An index whose shards have unequal cells
+ * counts as missing. Of the i distinct indices that are left at most (i - min) / 2, rounded down, have wrong shards:
+ * then the data are the only such ones. Writes the positions of the shards that are not shards of the data, rising,
+ * over the first of the `room` places of `left_out`, and how many they are into *many. The position of a shard is its
+ * row. Where there are no such data: CWM_INCONSISTENT. Where more shards are wrong than that, they may have other
+ * data, which are then given.
+ * Sizes, words, memory and statuses as for cwm_join, but that there is no CWM_CONFLICT, and that CWM_TOO_FEW says that i
+ * is below min. room is k or more, else CWM_WRONG_SIZE. Where it is not CWM_DONE, nothing is written. */
+CWM_MUST_USE uint32_t cwm_join_corrected(const uint32_t *indices, size_t k, uint32_t min, uint32_t total, const uint64_t *cells,
+                                         size_t n, uint64_t *data, size_t m, size_t *written, size_t *left_out, size_t room,
+                                         size_t *many);
+
+/* As cwm_shard_sizes, cwm_split and cwm_join for bytes: any n of them, nothing to pack, and their number is kept inside, so
+ * it comes back too. A shard is bytes: each of its words as eight, the highest first. Keep min, total and each shard's index beside it.
+ *
+ * Writes how many bytes each shard of so many bytes of data has into *size.
+ * 1 <= min <= total, else CWM_MISMATCH. total times *size is below 2^60, else CWM_WRONG_SIZE. Takes no memory. */
+CWM_MUST_USE uint32_t cwm_shard_bytes_sizes(size_t bytes, uint32_t min, uint32_t total, size_t *size);
+
+/* Writes the shards of the n bytes of data: shard i is row i of the m bytes of `shards`, in `total` rows of as many
+ * bytes as cwm_shard_bytes_sizes says. Data that are large are best cut into blocks of some 256 KiB, each split by
+ * itself: the words of a block then stay in the processor's cache, and little memory is taken.
+ * 1 <= min <= total, else CWM_MISMATCH. m is total times the size of a shard, and the sizes are such as
+ * cwm_shard_bytes_sizes takes, else CWM_WRONG_SIZE. Memory as for cwm_split, with 8 in place of 7. */
+CWM_MUST_USE uint32_t cwm_split_bytes(const uint8_t *data, size_t n, uint32_t min, uint32_t total, uint8_t *shards, size_t m);
+
+/* Writes the data that k shards give back over the first of the m bytes of data, and their number into *written. Row i
+ * of the n bytes of `shards`, in k rows, is the shard whose index is indices[i]; the order does not matter, and a shard
+ * that is there twice counts once. Fewer than min * (n / k) bytes are written; less room than needed: CWM_WRONG_SIZE.
+ * n is a multiple of 8 k, and 0 where k is, else CWM_WRONG_SIZE. A word of P or more: CWM_OUT_OF_RANGE. Then as
+ * cwm_join; shards of words that are those of no bytes: CWM_INCONSISTENT. Memory as for cwm_join, with 10 in place of 9. */
+CWM_MUST_USE uint32_t cwm_join_bytes(const uint32_t *indices, size_t k, uint32_t min, uint32_t total, const uint8_t *shards,
+                                     size_t n, uint8_t *data, size_t m, size_t *written);
 
 #ifdef __cplusplus
 }

@@ -1,13 +1,10 @@
 //! Two polynomials are evaluated at eight points, five of the eight rows of values are lost, and the
-//! coefficients are recovered from the other three. No line here is unsafe.
+//! coefficients are recovered from the other three.
 #![deny(unsafe_code)]
 
-#[allow(dead_code, unsafe_code)]
-mod commonware_math;
+use commonware_math::{eval, evaluate, recover, Error, MODULUS};
 
-use commonware_math::{MODULUS, Refused, eval, evaluate, recover};
-
-fn main() -> Result<(), Refused> {
+fn main() -> Result<(), Error> {
     // row i holds coefficient i of both: 4 + 6 X + 8 X^2 and 1 + X^2
     let coefficients = [4, 1, 6, 0, 8, 1];
     let mut cells = vec![0; 16];

@@ -1,31 +1,23 @@
-//! A buffer is split into eight shards, four of them are lost, and the buffer is got back from the others.
-//! No line here is unsafe.
+//! Bytes are split into eight shards, four of them are lost, and the bytes are got back from the others.
 #![deny(unsafe_code)]
 
-#[allow(dead_code, unsafe_code)]
-mod commonware_math;
+use commonware_math::{join_bytes, split_bytes, Error};
 
-use commonware_math::{Refused, join, shard_size, split};
-
-fn main() -> Result<(), Refused> {
+fn main() -> Result<(), Error> {
     // any `min` of `total` shards give the data back
     let (min, total) = (4, 8);
-    let data: Vec<u64> = (0..10).map(|i| u64::MAX - i).collect();
-    let size = shard_size(data.len(), min, total)?;
-    let shards = split(&data, min, total)?;
-    println!("words a shard: {size}");
+    let data = b"Any four of these eight shards give back these bytes, unchanged.";
+    let mut shards = split_bytes(data, min, total)?;
+    println!("bytes a shard: {}", shards[0].len());
 
     // shards 7, 2, 4 and 1 are left, in this order: each is known by its index
-    let indices = [7, 2, 4, 1, 0];
-    let mut left: Vec<u64> = Vec::new();
-    for i in indices {
-        left.extend(&shards[i as usize * size..][..size]);
-    }
-    println!("same: {}", join(&indices[..4], min, total, &left[..4 * size])? == data);
+    let left = [7, 2, 4, 1].map(|i| (i, &shards[i as usize]));
+    println!("{}", String::from_utf8_lossy(&join_bytes(&left, min, total)?));
 
     // fewer than `min` shards, and damage to one of more than `min`, are refused
-    println!("join of three: {}", join(&indices[..3], min, total, &left[..3 * size]).unwrap_err());
-    left[size] ^= 1;
-    println!("join of five, one damaged: {}", join(&indices, min, total, &left).unwrap_err());
+    println!("join of three: {}", join_bytes(&left[..3], min, total).unwrap_err());
+    shards[2][0] ^= 1;
+    let five = [7, 2, 4, 1, 0].map(|i| (i, &shards[i as usize]));
+    println!("join of five, one damaged: {}", join_bytes(&five, min, total).unwrap_err());
     Ok(())
 }

@@ -9,15 +9,17 @@
 #include <string.h>
 
 enum { ROWS = 512, COLS = 3, POINTS = 20, WORDS = 40, MIN = 3, TOTAL = 7, SHARD = 14, FEW = 3, SMALL = 16 };
+enum { BLOCK = 100, BLOCK_SHARD = 48 };
 
 /* All that the calls are given. */
 struct given {
   uint64_t cells[ROWS * COLS], points[POINTS], weights[POINTS], value;
   uint8_t filled[ROWS], bytes[8 * POINTS + 5];
   uint32_t indices[POINTS];
-  uint64_t data[WORDS], shards[TOTAL * SHARD];
+  uint64_t data[WORDS], shards[TOTAL * SHARD], spoiled[TOTAL * SHARD];
   uint64_t values[POINTS], coefficients[FEW], rows[SMALL];
-  size_t wrong[POINTS], count;
+  size_t wrong[POINTS], count, many;
+  uint8_t block[BLOCK], block_shards[TOTAL * BLOCK_SHARD];
 };
 
 static struct given now, before, answer;
@@ -39,6 +41,15 @@ static uint32_t decode(void) {
   return cwm_decode(now.points, POINTS, now.values, POINTS, now.coefficients, FEW, now.wrong, POINTS, &now.count);
 }
 static uint32_t correct(void) { return cwm_correct(now.rows, SMALL, 1, now.filled, SMALL, FEW, now.wrong, POINTS, &now.count); }
+static uint32_t join_corrected(void) {
+  return cwm_join_corrected(now.indices, TOTAL, MIN, TOTAL, now.spoiled, TOTAL * SHARD, now.data, WORDS, &now.count, now.wrong, POINTS,
+                            &now.many);
+}
+static uint32_t split_bytes(void) { return cwm_split_bytes(now.block, BLOCK, MIN, TOTAL, now.block_shards, TOTAL * BLOCK_SHARD); }
+static uint32_t join_bytes(void) {
+  return cwm_join_bytes(now.indices, MIN + 1, MIN, TOTAL, now.block_shards, (MIN + 1) * BLOCK_SHARD, now.block, BLOCK, &now.count);
+}
+static uint32_t shard_bytes_sizes(void) { return cwm_shard_bytes_sizes(BLOCK, MIN, TOTAL, &now.count); }
 
 static const struct {
   const char *name;
@@ -49,10 +60,12 @@ static const struct {
     {"cwm_recover", recover, 1},   {"cwm_weights", weights, 1},         {"cwm_weights_at_roots", weights_at_roots, 1},
     {"cwm_split", split, 1},       {"cwm_join", join, 1},               {"cwm_encode_poly", encode_poly, 1},
     {"cwm_decode_poly", decode_poly, 0}, {"cwm_decode", decode, 1},     {"cwm_correct", correct, 1},
+    {"cwm_join_corrected", join_corrected, 1},
+    {"cwm_split_bytes", split_bytes, 1}, {"cwm_join_bytes", join_bytes, 1}, {"cwm_shard_bytes_sizes", shard_bytes_sizes, 0},
 };
 
-/* Words below P, a third of the rows missing, three coefficients in bytes, shards with rising indices, and values and rows
- * of constants of which one is wrong. */
+/* Words below P, a third of the rows missing, three coefficients in bytes, shards with rising indices, the same with one
+ * that is wrong, and values and rows of constants of which one is wrong. */
 static int make(void) {
   for (int i = 0; i < ROWS * COLS; i++) before.cells[i] = (uint64_t)i * 0x9e3779b97f4a7c15 % CWM_MODULUS;
   for (int i = 0; i < ROWS; i++) before.filled[i] = i % 3 != 0;
@@ -61,9 +74,15 @@ static int make(void) {
   before.bytes[0] = 3;
   for (int i = 0; i < POINTS; i++) before.values[i] = 5 + (i == 4);
   for (int i = 0; i < SMALL; i++) before.rows[i] = 5 + (i == 4);
+  for (int i = 0; i < BLOCK; i++) before.block[i] = 3 * i;
   size_t n = 0;
-  return cwm_shard_sizes(WORDS, MIN, TOTAL, &n) == CWM_DONE && n == SHARD
-         && cwm_split(before.data, WORDS, MIN, TOTAL, before.shards, TOTAL * SHARD) == CWM_DONE;
+  int made = cwm_shard_bytes_sizes(BLOCK, MIN, TOTAL, &n) == CWM_DONE && n == BLOCK_SHARD
+             && cwm_split_bytes(before.block, BLOCK, MIN, TOTAL, before.block_shards, TOTAL * BLOCK_SHARD) == CWM_DONE
+             && cwm_shard_sizes(WORDS, MIN, TOTAL, &n) == CWM_DONE && n == SHARD
+             && cwm_split(before.data, WORDS, MIN, TOTAL, before.shards, TOTAL * SHARD) == CWM_DONE;
+  memcpy(before.spoiled, before.shards, sizeof before.spoiled);
+  before.spoiled[2 * SHARD] ^= 1;
+  return made;
 }
 
 /* Asks the library of refusals, where it is loaded; the compiler can't leave such requests out. */

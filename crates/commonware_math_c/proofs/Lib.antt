@@ -10,3 +10,5 @@ pub mod RisingIndices
 pub mod WordWeights
 pub mod WordShards
 pub mod AlikeShards
+pub mod ShardBytes
+pub mod FilledRows

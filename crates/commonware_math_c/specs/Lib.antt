@@ -6,3 +6,5 @@ pub mod WordEncodings
 pub mod WordShards
 pub mod WordDecodings
 pub mod WordCorrections
+pub mod ShardBytes
+pub mod Version

@@ -1,8 +1,8 @@
 -- Rows of words as coefficients and values of polynomials at the points of a domain, one polynomial a column.
-use Rattle.std.specs.Prelude.{◌≡◌, ℕ, ◌+◌, ◌*◌, ◌<◌, ◌≤◌, ◌^◌, ◌==◌, List, length, map, All, slice_index, Bool}
+use Rattle.std.specs.Prelude.{◌≡◌, ℕ, ◌+◌, ◌*◌, ◌<◌, ◌≤◌, ◌^◌, ◌==◌, List, length, map, All, slice_index, slice_index_or, Bool}
 use Rattle.math_numbers.specs.Goldilocks.{P}
 use Rattle.math_base.specs.declared.fields.goldilocks.F.{F}
-use Rattle.math_base.specs.Elements.{root_of}
+use Rattle.math_base.specs.Elements.{residue, root_of}
 use Rattle.math_transforms.specs.DomainValues.{matrix_of, AreValuesAtPowers}
 use Rattle.math_ntt.specs.Evaluations.{EvaluationsOf}
 use Rattle.math_transforms.specs.Matrices.{MatrixOf}
@@ -38,6 +38,11 @@ truth bytes = map (λ b. b == 1) bytes
 -- the rows of cells whose byte is 1 hold words below P
 abbrev pub AreFilledElements : ℕ → List ℕ → List ℕ → Type 0
 AreFilledElements cols cells bytes = (i k : ℕ) → i < length bytes → slice_index bytes i ≡ 1 → k < cols → slice_index cells (i * cols + k) < P
+
+-- in the rows whose byte is 1 the items are the elements of the cells
+abbrev pub AreElementsWhereFilled : ℕ → List ℕ → List ℕ → List F → Type 0
+AreElementsWhereFilled cols cells bytes items =
+    (i k : ℕ) → i < length bytes → slice_index bytes i ≡ 1 → k < cols → slice_index_or items (i * cols + k) (residue 0) ≡ residue (slice_index cells (i * cols + k))
 
 -- a row of cells for each byte, of one column or more, and as many as a domain has points
 pub record HasRowsFor (n cols rows : ℕ) : Type 0 where

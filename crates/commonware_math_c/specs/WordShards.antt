@@ -4,6 +4,7 @@ use Rattle.std.specs.List.{flat_map, range_with_len}
 use Rattle.math_shards.specs.declared.shards.Shard.{Shard}
 use Rattle.math_shards.specs.declared.shards.Error.{Error}
 use Rattle.math_shards.specs.Shards.{AreShardsOf, JoinTo, width_for}
+use Rattle.math_shards.specs.Correcting.{AreCorrected, IsDueCorrecting}
 use Rattle.math_shards.specs.Joining.{IsDue}
 use Rattle.commonware_math_c.specs.WordElements.{numbers}
 
@@ -41,3 +42,11 @@ DoJoinTo words min total indices cells = (shards : List Shard) × AreWordShards 
 -- this is wrong with the shards that the words are
 abbrev pub AreRefused : Error → ℕ → ℕ → List ℕ → List ℕ → Type 0
 AreRefused e min total indices cells = (shards : List Shard) × AreWordShards min total indices cells shards × IsDue shards e
+
+-- the shards that the words are have these data, however some are wrong, and these positions are those of the wrong ones
+abbrev pub DoCorrectTo : List ℕ → List ℕ → ℕ → ℕ → List ℕ → List ℕ → Type 0
+DoCorrectTo words positions min total indices cells = (shards : List Shard) × AreWordShards min total indices cells shards × AreCorrected words positions shards
+
+-- this is wrong with the shards that the words are, where they are corrected
+abbrev pub AreRefusedCorrecting : Error → ℕ → ℕ → List ℕ → List ℕ → Type 0
+AreRefusedCorrecting e min total indices cells = (shards : List Shard) × AreWordShards min total indices cells shards × IsDueCorrecting shards e

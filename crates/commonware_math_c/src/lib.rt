@@ -17,10 +17,13 @@ ghost use Rattle.commonware_math_c.specs.WordDecodings.{AreDecodedWords, HasDeco
 ghost use Rattle.commonware_math_c.specs.WordElements.{AreElements, elements, goldilocks};
 ghost use Rattle.commonware_math_c.specs.WordRows.{AreWordValues, AreRecoveredWords, AreFilledElements, HasRows, HasRowsFor, truth};
 ghost use Rattle.commonware_math_c.specs.WordWeights.{AreRising, AreWordWeights, AreWordWeightsAtRoots};
-ghost use Rattle.commonware_math_c.specs.WordShards.{AreRefused, AreRowsOf, AreWordsOfShards, DoJoinTo, HaveShardSizes, IsSplit};
+ghost use Rattle.commonware_math_c.specs.WordShards.{AreRefused, AreRefusedCorrecting, AreRowsOf, AreWordsOfShards, DoCorrectTo, DoJoinTo, HaveShardSizes, IsSplit};
 ghost use Rattle.math_shards.specs.declared.shards.Error.{Error};
+ghost use Rattle.commonware_math_c.specs.ShardBytes.{AreBlockRefused, AreByteRowsOf, AreBytesOfShards, DoJoinToBlock, HaveShardBytes, SpellElements};
+ghost use Rattle.commonware_math_c.specs.Version.{version};
 ghost use Rattle.commonware_math_c.specs.WordEncodings.{IsCoefficientCount, IsEncodedBy, StandInFront, polynomial_spelling, scan_polynomial};
 
+mod blocks;
 mod corrections;
 mod decodings;
 mod elements;
@@ -407,6 +410,158 @@ pub extern "C" fn cwm_join(
         Ok(None) => Status::WrongSize.code(),
         Err(error) => status::of_shards(&error).code(),
     }
+}
+
+/// As `cwm_join`, however some of the shards are wrong: writes the positions of these, rising, over the first items of
+/// `left_out` too.
+#[unsafe(no_mangle)]
+pub extern "C" fn cwm_join_corrected(
+    alloc: Global,
+    indices: &[u32],
+    min: u32,
+    total: u32,
+    cells: &[u64],
+    out: &mut [u64],
+    written: &mut usize,
+    left_out: &mut [usize],
+    many: &mut usize,
+) -> u32
+    ensures corrected { result ≡ done → (words positions : List ℕ)
+        × DoCorrectTo words positions min total indices.now cells.now
+        × (written.new ≡ length words) × StandInFront words out.old out.new
+        × (many.new ≡ length positions) × StandInFront positions left_out.old left_out.new }
+    ensures kept { result ≢ done → (out.new ≡ out.old) × (written.new ≡ written.old)
+        × (left_out.new ≡ left_out.old) × (many.new ≡ many.old) }
+    ensures range { result ≡ out_of_range → ¬ (AreElements cells.now) }
+    ensures size { result ≡ wrong_size → ¬ (AreRowsOf (length cells.now) (length indices.now))
+        ⊎ ((length left_out.old < length indices.now)
+        ⊎ ((words positions : List ℕ) × DoCorrectTo words positions min total indices.now cells.now
+        × (length out.old < length words))) }
+    ensures refused { (e : Error) → result ≡ status_of_shards e → result ≢ out_of_memory
+        → AreRefusedCorrecting e min total indices.now cells.now }
+    ensures found { (words positions : List ℕ) → DoCorrectTo words positions min total indices.now cells.now
+        → length words ≤ length out.old → length indices.now ≤ length left_out.old
+        → (result ≡ done) ⊎ (result ≡ out_of_memory) }
+    ensures statuses { result ≤ 8 }
+{
+    let Some(cols) = shards::cols_of(cells.len(), indices.len()) else {
+        return Status::WrongSize.code();
+    };
+    if left_out.len() < indices.len() {
+        return Status::WrongSize.code();
+    }
+    if !are_elements(cells) {
+        return Status::OutOfRange.code();
+    }
+    match shards::write_corrected(alloc, indices, min, total, cells, cols, out, left_out) {
+        Ok(Some((words, positions))) => {
+            *written = words;
+            *many = positions;
+            Status::Done.code()
+        }
+        Ok(None) => Status::WrongSize.code(),
+        Err(error) => status::of_shards(&error).code(),
+    }
+}
+
+/// Writes how many bytes each of `total` shards of a block of so many bytes has, of which `min` give it back.
+#[unsafe(no_mangle)]
+pub extern "C" fn cwm_shard_bytes_sizes(bytes: usize, min: u32, total: u32, size: &mut usize) -> u32
+    ensures sizes { result ≡ done → IsSplit min total × HaveShardBytes bytes min total size.new }
+    ensures kept { result ≢ done → size.new ≡ size.old }
+    ensures size { result ≡ wrong_size → (n : ℕ) → ¬ (HaveShardBytes bytes min total n) }
+    ensures mismatch { result ≡ mismatch → ¬ (IsSplit min total) }
+    ensures statuses { (result ≡ done) ⊎ (result ≡ wrong_size) ⊎ (result ≡ mismatch) }
+{
+    if !is_split(min, total) {
+        return Status::Mismatch.code();
+    }
+    let Some(found) = blocks::size(bytes, min, total) else {
+        return Status::WrongSize.code();
+    };
+    *size = found;
+    Status::Done.code()
+}
+
+/// Writes the shards of the block over the bytes, a shard a row, in the order of the indices.
+#[unsafe(no_mangle)]
+pub extern "C" fn cwm_split_bytes(
+    alloc: Global,
+    block: &[u8],
+    min: u32,
+    total: u32,
+    shards: &mut [u8],
+) -> u32
+    ensures shards { result ≡ done → IsSplit min total × AreBytesOfShards block.now min total shards.new }
+    ensures kept { result ≢ done → shards.new ≡ shards.old }
+    ensures size { result ≡ wrong_size → ¬ ((n : ℕ) × HaveShardBytes (length block.now) min total n
+        × (length shards.old ≡ total * n)) }
+    ensures mismatch { result ≡ mismatch → ¬ (IsSplit min total) }
+    ensures statuses { (result ≡ done) ⊎ (result ≡ out_of_memory) ⊎ (result ≡ wrong_size) ⊎ (result ≡ mismatch) }
+{
+    if !is_split(min, total) {
+        return Status::Mismatch.code();
+    }
+    if !blocks::have_room(block.len(), min, total, shards.len()) {
+        return Status::WrongSize.code();
+    }
+    match blocks::write_shards(alloc, block, min, total, shards) {
+        Ok(()) => Status::Done.code(),
+        Err(_) => Status::OutOfMemory.code(),
+    }
+}
+
+/// Writes the block that the shards give back over the first bytes of `out`: row i of the bytes is the
+/// shard of index i of the indices.
+#[unsafe(no_mangle)]
+pub extern "C" fn cwm_join_bytes(
+    alloc: Global,
+    indices: &[u32],
+    min: u32,
+    total: u32,
+    shards: &[u8],
+    out: &mut [u8],
+    written: &mut usize,
+) -> u32
+    ensures joined { result ≡ done → (block : List ℕ) × DoJoinToBlock block min total indices.now shards.now
+        × (written.new ≡ length block) × StandInFront block out.old out.new }
+    ensures kept { result ≢ done → (out.new ≡ out.old) × (written.new ≡ written.old) }
+    ensures range { result ≡ out_of_range → ¬ (SpellElements shards.now) }
+    ensures size { result ≡ wrong_size → ¬ (AreByteRowsOf (length shards.now) (length indices.now))
+        ⊎ ((block : List ℕ) × DoJoinToBlock block min total indices.now shards.now × (length out.old < length block)) }
+    ensures refused { (e : Error) → result ≡ status_of_shards e → result ≢ out_of_memory
+        → AreBlockRefused e min total indices.now shards.now }
+    ensures found { (block : List ℕ) → DoJoinToBlock block min total indices.now shards.now
+        → length block ≤ length out.old → (result ≡ done) ⊎ (result ≡ out_of_memory) }
+    ensures statuses { result ≤ 8 }
+{
+    let Some(cols) = blocks::cols_of(shards.len(), indices.len()) else {
+        return Status::WrongSize.code();
+    };
+    let cells = match blocks::words_below(alloc, shards) {
+        Ok(Some(cells)) => cells,
+        Ok(None) => return Status::OutOfRange.code(),
+        Err(_) => return Status::OutOfMemory.code(),
+    };
+    match blocks::write_block(alloc, indices, min, total, &cells, cols, out) {
+        Ok(Some(many)) => {
+            *written = many;
+            Status::Done.code()
+        }
+        Ok(None) => Status::WrongSize.code(),
+        Err(error) => status::of_shards(&error).code(),
+    }
+}
+
+/// 10000 times the major number of the version, 100 times the minor one, and the patch.
+const VERSION: u32 = 10_000;
+
+/// The version of the library.
+#[unsafe(no_mangle)]
+pub extern "C" fn cwm_version() -> u32
+    ensures { result ≡ version }
+{
+    VERSION
 }
 
 /// Writes the text of a status over the bytes, and zeros behind it; 32 bytes hold each.

@@ -1,8 +1,10 @@
 //! Rows of words: coefficients and values of polynomials at the points of a domain, one polynomial a column.
 
-ghost use Rattle.std.specs.Prelude.{◌≡◌, ◌↔◌, ◌<◌, ◌≤◌, ◌*◌, ◌^◌, ℕ, IsTrue, IsSome, IfOk, IfSome, OnOk, OnErr, length, All};
+ghost use Rattle.std.specs.Prelude.{◌≡◌, ◌↔◌, ◌<◌, ◌≤◌, ◌*◌, ◌^◌, ◌++◌, ℕ, IsTrue, IsSome, IfOk, IfSome, OnOk, OnErr, length, replicate, All};
+ghost use Rattle.math_base.specs.Elements.{residue};
 ghost use Rattle.commonware_math_c.specs.WordElements.{AreElements, elements};
 ghost use Rattle.commonware_math_c.specs.WordRows.{
+  AreElementsWhereFilled,
   AreFilledElements,
   AreRecoveredWords,
   AreWordValues,
@@ -100,6 +102,44 @@ pub fn matrix(alloc: Global, cells: &[u64], rows: usize, cols: usize) -> Mem<Mat
     Ok(Matrix::from_cells(rows, cols, cells))
 }
 
+/// Adds the words as elements.
+fn push_elements(out: &mut Vec<F>, words: &[u64]) -> Mem<()>
+    ensures { OnOk result (out.new.items ≡ out.old.items ++ elements words.now) }
+{
+    for word in words {
+        out.push(F::from(*word))?;
+    }
+    Ok(())
+}
+
+/// Adds so many zeros.
+fn push_zeros(out: &mut Vec<F>, count: usize) -> Mem<()>
+    ensures { OnOk result (out.new.items ≡ out.old.items ++ replicate count (residue 0)) }
+{
+    for _done in 0..count {
+        out.push(F::from(0))?;
+    }
+    Ok(())
+}
+
+/// The words of the rows whose byte is 1 as elements, and zeros in place of the others, which are not read.
+fn filled_elements(alloc: Global, cells: &[u64], cols: usize, bytes: &[u8]) -> Mem<Vec<F>>
+    requires { length cells.now ≡ length bytes.now * cols }
+    ensures count { IfOk result (λ v. length v.items ≡ length bytes.now * cols) }
+    ensures filled { IfOk result (λ v. AreElementsWhereFilled cols cells.now bytes.now v.items) }
+{
+    let mut out = Vec::with_capacity(alloc, cells.len())?;
+    for i in 0..bytes.len() {
+        let from = i * cols;
+        if bytes[i] == 1 {
+            push_elements(&mut out, &cells[from..from + cols])?;
+        } else {
+            push_zeros(&mut out, cols)?;
+        }
+    }
+    Ok(out)
+}
+
 /// Puts the values of the polynomials whose coefficients the columns are in place of these, which are handed in as
 /// elements too.
 pub fn evaluate(alloc: Global, cells: &mut [u64], items: Vec<F>, lg: u8, cols: usize) -> Mem<()>
@@ -160,7 +200,8 @@ pub fn recover(alloc: Global, cells: &mut [u64], lg: u8, cols: usize, bytes: &[u
     ensures ok { OnOk result (AreRecoveredWords cols cells.old bytes.now cells.new) }
     ensures err { OnErr result (cells.new ≡ cells.old) }
 {
-    let matrix = matrix(alloc, cells, bytes.len(), cols)?;
+    let items = filled_elements(alloc, cells, cols, bytes)?;
+    let matrix = matrix_of(items, bytes.len(), cols);
     let points = points(alloc, lg, bytes)?;
     let values = EvaluationVector::from_parts(matrix, points);
     let coefficients = values.recover(alloc)?.data().into_cells();

@@ -7,12 +7,12 @@ ghost use Rattle.math_shards.specs.Shards.{AreShardsOf};
 ghost use Rattle.math_shards.specs.Joining.{IsMemory};
 ghost use Rattle.commonware_math_c.specs.WordElements.{AreElements};
 ghost use Rattle.commonware_math_c.specs.WordEncodings.{StandInFront};
-ghost use Rattle.commonware_math_c.specs.WordShards.{AreRefused, AreRowsOf, AreWordShards, AreWordsOfShards, DoJoinTo, HaveShardSizes, IsSplit};
+ghost use Rattle.commonware_math_c.specs.WordShards.{AreRefused, AreRefusedCorrecting, AreRowsOf, AreWordShards, AreWordsOfShards, DoCorrectTo, DoJoinTo, HaveShardSizes, IsSplit};
 
 use crate::elements::{elements, write_numbers};
 use commonware_math::algebra::Mem;
 use commonware_math::fields::goldilocks::F;
-use commonware_math::shards::{Error, Shard, join, split};
+use commonware_math::shards::{Error, Shard, join, join_corrected, split};
 use std::alloc::Global;
 
 /// 2^57: there are fewer words of data, and fewer of shards.
@@ -68,7 +68,7 @@ pub fn cols_of(n: usize, rows: usize) -> Option<usize>
 }
 
 /// The cells of all shards.
-fn all_cells(alloc: Global, shards: &[Shard]) -> Mem<Vec<F>>
+pub fn all_cells(alloc: Global, shards: &[Shard]) -> Mem<Vec<F>>
     ensures { IfOk result (λ cells. cells.items ≡ flat_map (λ (s : Shard). s.cells.items) shards.now) }
 {
     let mut out = Vec::new(alloc);
@@ -98,7 +98,7 @@ pub fn write_shards(
 }
 
 /// The shards whose cells the words are, a shard a row.
-fn shards_of(
+pub fn shards_of(
     alloc: Global,
     indices: &[u32],
     min: u32,
@@ -154,4 +154,45 @@ pub fn write_data(
     }
     out[..n].copy_from_slice(&words);
     Ok(Some(n))
+}
+
+/// Writes the data of the shards, however some are wrong, over the first words of `out`, and the positions of the
+/// wrong ones over the first items of `left_out`, and gives the numbers of both.
+///
+/// `None` where there is no room for the data. It refuses as `join_corrected` does.
+pub fn write_corrected(
+    alloc: Global,
+    indices: &[u32],
+    min: u32,
+    total: u32,
+    cells: &[u64],
+    cols: usize,
+    out: &mut [u64],
+    left_out: &mut [usize],
+) -> Result<Option<(usize, usize)>, Error>
+    requires count { length cells.now ≡ length indices.now * cols }
+    requires below { AreElements cells.now }
+    requires room { length indices.now ≤ length left_out.old }
+    ensures some { IfOk result (λ answer. IfSome answer (λ n. (words positions : List ℕ)
+        × DoCorrectTo words positions min total indices.now cells.now
+        × (n.0 ≡ length words) × StandInFront words out.old out.new
+        × (n.1 ≡ length positions) × StandInFront positions left_out.old left_out.new)) }
+    ensures none { IfOk result (λ answer. IfNone answer ((words positions : List ℕ)
+        × DoCorrectTo words positions min total indices.now cells.now × (length out.old < length words))) }
+    ensures kept { IfOk result (λ answer. IfNone answer
+        ((out.new ≡ out.old) × (left_out.new ≡ left_out.old))) }
+    ensures err { OnErr result ((out.new ≡ out.old) × (left_out.new ≡ left_out.old)) }
+    ensures due { IfErr result
+        (λ e. IsMemory e ⊎ AreRefusedCorrecting e min total indices.now cells.now) }
+{
+    let shards = shards_of(alloc, indices, min, total, cells, cols)?;
+    let joined = join_corrected(alloc, &shards)?;
+    let n = joined.words.len();
+    let many = joined.left_out.len();
+    if n > out.len() {
+        return Ok(None);
+    }
+    out[..n].copy_from_slice(&joined.words);
+    left_out[..many].copy_from_slice(&joined.left_out);
+    Ok(Some((n, many)))
 }

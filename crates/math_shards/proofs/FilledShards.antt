@@ -12,7 +12,7 @@ use Rattle.math_base.specs.Elements.{same}
 use Rattle.math_ntt.specs.Evaluations.{EvaluationsOf}
 use Rattle.math_transforms.specs.Matrices.{row_of}
 use Rattle.math_shards.specs.declared.shards.Shard.{Shard}
-use Rattle.math_shards.specs.Joining.{AreSound, HaveConflict, HoldsShards, IsSound}
+use Rattle.math_shards.specs.Joining.{HaveConflict, HoldsShards, IsSound}
 use Rattle.math_shards.specs.Shards.{distinct_indices, has_index}
 use Rattle.math_shards.proofs.SameCells.{same_as_one}
 
@@ -87,6 +87,6 @@ no_conflict lg width shards e h conflict =
 
 -- so sound shards that fill rows are without conflict, and as many rows are filled as there are distinct indices
 pub filled_with_sound : (lg width : ℕ) (first : Shard) (shards : List Shard) (e : EvaluationsOf F) → first.total ≤ 2 ^ lg → HoldsShards lg width shards e → All (IsSound first) shards
-    → AreSound first shards × (count_true e.filled ≡ distinct_indices first.total shards)
+    → (All (IsSound first) shards × ¬ (HaveConflict shards)) × (count_true e.filled ≡ distinct_indices first.total shards)
 filled_with_sound lg width first shards e fits holds sound =
     ((sound, no_conflict lg width shards e holds), count_filled lg width first.total shards e holds (indices_below first shards sound) fits)

@@ -15,9 +15,9 @@ use Rattle.math_ntt.proofs.MatrixPlaces.{rows_are_full, rows_hold_cells, rows_ar
 use Rattle.math_shards.specs.declared.shards.Shard.{Shard}
 use Rattle.math_shards.specs.Shards.{has_index}
 use Rattle.math_shards.proofs.SameCells.{nought, same_by_items, same_are_equal}
-use Rattle.math_shards.specs.Joining.{IsSound, HaveConflict, HoldsIfFilled, HoldsOthers, HoldsShards, IsDueBeside, IsMemory}
+use Rattle.math_shards.specs.Joining.{IsSound, HaveConflict, HoldsIfFilled, HoldsOthers, HoldsShards, IsMemory}
 use Rattle.math_shards.specs.declared.shards.Error.{Error}
-use Rattle.math_shards.specs.declared.shards.Error.TheVariants.{Memory, TooFew, Mismatch, Index, Conflict, Inconsistent}
+use Rattle.math_shards.specs.declared.shards.Error.TheVariants.{Conflict}
 
 -- the cells of the first n shards stand in the rows of their indices, and exactly these rows are filled
 pub record HoldsFirst (lg width : ℕ) (shards : List Shard) (n : ℕ) (e : EvaluationsOf F) : Type 0 where
@@ -139,13 +139,8 @@ module _ (lg width : ℕ) (first : Shard) (shards : List Shard) (domain : first.
       λ equal. subst (AllZip same (row_of e.matrix t.index)) (same_are_equal t.cells.items s.cells.items equal) row in
       (n, s, l, sym is, (p, t, omega (arith, early, l), at, (eq, λ equal. others.1 (subst (λ i. AllZip same (row_of e.matrix i) s.cells.items) eq (of_both equal)))))
 
-  -- the fault that a step of the loop answers is due
+  -- a fault of a step of the loop
   pub fault_at : (n : ℕ) (s : Shard) (e : EvaluationsOf F) → HoldsFirst lg width shards n e → n < length shards → s ≡ get_or shards n s
-      → (fault : Error) → IsMemory fault ⊎ ((fault ≡ Conflict) × HoldsOthers e s) → IsDueBeside first shards fault
-  fault_at n s e h l is fault (inr others) = rw others.0 (sound, conflict_at n s e h l is others.1)
-  fault_at n s e h l is (Memory m) (inl k) = tt
-  fault_at n s e h l is TooFew (inl k) = absurd k
-  fault_at n s e h l is Mismatch (inl k) = absurd k
-  fault_at n s e h l is Index (inl k) = absurd k
-  fault_at n s e h l is Conflict (inl k) = absurd k
-  fault_at n s e h l is Inconsistent (inl k) = absurd k
+      → (fault : Error) → IsMemory fault ⊎ ((fault ≡ Conflict) × HoldsOthers e s) → IsMemory fault ⊎ ((fault ≡ Conflict) × HaveConflict shards)
+  fault_at n s e h l is fault (inl memory) = inl memory
+  fault_at n s e h l is fault (inr others) = inr (others.0, conflict_at n s e h l is others.1)

@@ -13,4 +13,10 @@ pub mod RecoveredShards
 pub mod OnlyData
 pub mod LaidOutData
 pub mod RecoveredData
+pub mod KeptItems
+pub mod SettledShards
+pub mod CountedIndices
+pub mod CorrectedShards
+pub mod UnlikeRows
+pub mod JoinedCorrection
 pub mod SplitShards

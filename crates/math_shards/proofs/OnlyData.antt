@@ -1,9 +1,8 @@
 -- Shards join to one list of data at most.
-use Rattle.std.proofs.Common.{◌≡◌, ℕ, ◌*◌, ◌<◌, ◌≤◌, ◌^◌, List, [], ◌∷◌, ◌++◌, Bool, false, length, map, take, drop, get_or, Result, Ok, Err, refl, sym, ◌∙◌, ap, ap₂, subst, arith}
+use Rattle.std.proofs.Common.{◌≡◌, ℕ, ◌*◌, ◌<◌, ◌≤◌, ◌^◌, List, [], ◌∷◌, ◌++◌, Bool, false, length, map, take, drop, get_or, refl, sym, ◌∙◌, ap, ap₂, subst, arith}
 use Rattle.std.proofs.Math.Seq.{take-append_seam}
 use Rattle.std.specs.Int.{IsNextPowerOfTwo}
 use Rattle.std.specs.List.{All, range_with_len}
-use Rattle.std.specs.Result.{IfErr, IfOk, MatchResult}
 use Rattle.std.proofs.lemmas.List.{take_all}
 use Rattle.std.proofs.lemmas.List.Elements.{All-head, All-weaker}
 use Rattle.std.proofs.lemmas.List.FromFn.{get_or-map-range_with_len, length-map-range_with_len}
@@ -15,11 +14,8 @@ use Rattle.math_ntt.specs.MatrixPlaces.{IsFull}
 use Rattle.math_transforms.specs.Matrices.{column_of}
 use Rattle.math_ntt.specs.PolynomialRows.{HaveSamePolynomials}
 use Rattle.math_ntt.proofs.MatrixPlaces.{columns_are_full}
-use Rattle.math_shards.specs.declared.shards.Error.{Error}
 use Rattle.math_shards.specs.declared.shards.Shard.{Shard}
-use Rattle.math_shards.specs.Joining.{IsDue, IsMemory}
 use Rattle.math_shards.specs.Shards.{IsShardOf, JoinTo, counted, distinct_indices, has_index, rows_for, value_at, width_for}
-use Rattle.math_shards.proofs.DueErrors.{joined_not_due}
 use Rattle.math_shards.proofs.FilledShards.{count_marks}
 use Rattle.math_shards.proofs.JoinedShards.{domain_of, joined_first, joined_numbers, joined_some}
 use Rattle.math_shards.proofs.PackedData.{data_stand}
@@ -81,9 +77,3 @@ only_data words others (first ∷ rest) j k =
     let a = data_stand (min * width_for min words) words j.each_word j.few in
     let b = data_stand (min * width_for min others) others k.each_word k.few in
     data_once words others a.0 b.0 (sym a.1 ∙ ap words_of (same_rows min words others j.some widths columns) ∙ b.1)
-
--- so what is answered is that data, or memory ran out
-pub only_answer : {X : Type 0} (items : X → List ℕ) (result : Result X Error) (shards : List Shard) → IfOk result (λ v. JoinTo (items v) shards) → IfErr result (IsDue shards)
-    → (words : List ℕ) → JoinTo words shards → MatchResult result (λ v. items v ≡ words) IsMemory
-only_answer items (Ok v) shards ok err words j = only_data (items v) words shards ok j
-only_answer items (Err f) shards ok err words j = joined_not_due words shards j f err

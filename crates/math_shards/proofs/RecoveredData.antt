@@ -9,13 +9,20 @@ use Rattle.math_ntt.specs.Evaluations.{EvaluationsOf}
 use Rattle.math_transforms.specs.Matrices.{IsOfSize, MatrixOf}
 use Rattle.math_shards.specs.declared.shards.Error.TheVariants.{Inconsistent}
 use Rattle.math_shards.specs.declared.shards.Shard.{Shard}
-use Rattle.math_shards.specs.Joining.{ArePolynomialsOf, HoldsShards, IsDueBeside, IsSound}
-use Rattle.math_shards.specs.Shards.{JoinTo, counted, width_for}
+use Rattle.math_shards.specs.Joining.{ArePolynomialsOf, HaveConflict, HoldsShards, IsDueBeside, IsSound}
+use Rattle.math_shards.specs.Shards.{JoinTo, counted, distinct_indices, width_for}
 use Rattle.math_shards.proofs.FilledShards.{filled_with_sound}
 use Rattle.math_shards.proofs.JoinedShards.{domain_is_small, joined_numbers}
 use Rattle.math_shards.proofs.PackedData.{data_stand}
-use Rattle.math_shards.proofs.RecoveredShards.{FitColumns, recovered_of_shards, shards_of_recovered}
 use Rattle.math_shards.proofs.ShardRows.{cells_of_recovered}
+use Rattle.math_shards.proofs.RecoveredShards.{FitColumns, recovered_of_shards, shards_of_recovered}
+
+-- where polynomials are those of data, the cells of their first `min` rows unpack to the number of the data, the data, and further words
+pub words_of_polynomials : (words : List ℕ) (min r width : ℕ) (q : MatrixOf F) → 1 ≤ min → min ≤ r → IsOfSize q r width → All (λ word. word < 2 ^ 64) words → length words < 2 ^ 64
+    → ArePolynomialsOf words min q → (rest : List ℕ) × (words_of (take (min * q.cols) q.cells) ≡ counted words ++ rest)
+words_of_polynomials words min r width q some enough size each_word few same_as =
+    let stand = data_stand (min * width_for min words) words each_word few in
+    (stand.0, ap words_of (cells_of_recovered words min r width q some enough size same_as) ∙ stand.1)
 
 -- the shards are the first one and others, all sound; rows of e are filled with them, and q is recovered from these, which are `min` or more
 pub record AreRecoveredFrom (lg : ℕ) (first : Shard) (shards : List Shard) (e : EvaluationsOf F) (q : MatrixOf F) : Type 0 where
@@ -69,15 +76,8 @@ module _ (lg : ℕ) (first : Shard) (shards : List Shard) (e : EvaluationsOf F) 
       recovered_of_shards lg (length first.cells.items) first.min first.total words shards e q
       (domain_is_small first.total lg (omega (arith, least_is_positive, least_is_within)) r.short r.next) r.next r.holds r.some r.size r.fits r.enough each
 
-  -- and the cells of the first `min` rows unpack to the number of the data, the data, and further words
-  pub words_of_join : (words : List ℕ) → JoinTo words shards → (rest : List ℕ) × (words_of (take (first.min * q.cols) q.cells) ≡ counted words ++ rest)
-  words_of_join words j =
-      let stand = data_stand (first.min * width_for first.min words) words j.each_word j.few in
-      let cells = cells_of_recovered words first.min q.rows (length first.cells.items) q least_is_positive rows_are_enough size_of_recovered (recovered_of_join words j) in
-      (stand.0, ap words_of cells ∙ stand.1)
-
   -- where they join to none, they are inconsistent
-  pub inconsistent_due : ((words : List ℕ) → ¬ (JoinTo words shards)) → IsDueBeside first shards Inconsistent
+  pub inconsistent_due : ((words : List ℕ) → ¬ (JoinTo words shards)) → IsDueBeside (HaveConflict shards) (distinct_indices first.total shards) (λ words. JoinTo words shards) first shards Inconsistent
   inconsistent_due none =
       let filled = filled_with_sound lg (length first.cells.items) first shards e r.next.1 r.holds r.sound in
       (filled.0, omega (arith, r.enough, filled.1), none)

@@ -40,28 +40,46 @@ HasOtherCells shards s = Any (λ t. (t.index ≡ s.index) × ¬ (AllZip same t.c
 abbrev pub HaveConflict : List Shard → Type 0
 HaveConflict shards = Any (HasOtherCells shards) shards
 
--- all shards are sound, and no two have one index and unequal cells
-abbrev pub AreSound : Shard → List Shard → Type 0
-AreSound first shards = All (IsSound first) shards × ¬ (HaveConflict shards)
+-- the error says that a shard has other numbers than the first, or an index out of range, and so has the first one that is not sound
+abbrev pub IsUnsound : Shard → List Shard → Error → Type 0
+IsUnsound first shards (Memory e) = ⊥
+IsUnsound first shards TooFew = ⊥
+IsUnsound first shards Mismatch = HasUnsound first (λ s. ¬ (Matches first s)) shards
+IsUnsound first shards Index = HasUnsound first (λ s. Matches first s × (s.total ≤ s.index)) shards
+IsUnsound first shards Conflict = ⊥
+IsUnsound first shards Inconsistent = ⊥
 
--- what is wrong where there is a first shard, for each error but that memory ran out
-abbrev pub IsDueBeside : Shard → List Shard → Error → Type 0
-IsDueBeside first shards (Memory e) = ⊤
-IsDueBeside first shards Mismatch = HasUnsound first (λ s. ¬ (Matches first s)) shards
-IsDueBeside first shards Index = HasUnsound first (λ s. Matches first s × (s.total ≤ s.index)) shards
-IsDueBeside first shards Conflict = All (IsSound first) shards × HaveConflict shards
-IsDueBeside first shards TooFew = AreSound first shards × (distinct_indices first.total shards < first.min)
-IsDueBeside first shards Inconsistent = AreSound first shards × (first.min ≤ distinct_indices first.total shards) × ((words : List ℕ) → ¬ (JoinTo words shards))
+-- what is wrong where there is a first shard, for each error but that memory ran out; it is said what a conflict is, how many indices count, and which
+-- words are data of the shards
+abbrev pub IsDueBeside : Type 0 → ℕ → (List ℕ → Type 0) → Shard → List Shard → Error → Type 0
+IsDueBeside conflict indices data_of first shards (Memory e) = ⊤
+IsDueBeside conflict indices data_of first shards Mismatch = IsUnsound first shards Mismatch
+IsDueBeside conflict indices data_of first shards Index = IsUnsound first shards Index
+IsDueBeside conflict indices data_of first shards Conflict = All (IsSound first) shards × conflict
+IsDueBeside conflict indices data_of first shards TooFew = (All (IsSound first) shards × ¬ conflict) × (indices < first.min)
+IsDueBeside conflict indices data_of first shards Inconsistent =
+    (All (IsSound first) shards × ¬ conflict) × (first.min ≤ indices) × ((words : List ℕ) → ¬ (data_of words))
 
--- what is wrong with the shards, for each error but that memory ran out; of none of them there are too few
+-- what is wrong where there is no shard: there are too few
+abbrev pub IsDueOfNone : Error → Type 0
+IsDueOfNone (Memory e) = ⊤
+IsDueOfNone TooFew = ⊤
+IsDueOfNone Mismatch = ⊥
+IsDueOfNone Index = ⊥
+IsDueOfNone Conflict = ⊥
+IsDueOfNone Inconsistent = ⊥
+
+-- what is wrong with the shards, for each error but that memory ran out, where it is said of shards what a conflict is, how many indices below a number
+-- count, and which words are their data
+abbrev pub IsDueFor : (List Shard → Type 0) → (ℕ → List Shard → ℕ) → (List ℕ → List Shard → Type 0) → List Shard → Error → Type 0
+IsDueFor conflict indices data_of [] e = IsDueOfNone e
+IsDueFor conflict indices data_of (first ∷ rest) e =
+    let shards = first ∷ rest in
+    IsDueBeside (conflict shards) (indices first.total shards) (λ words. data_of words shards) first shards e
+
+-- what is wrong with shards that are joined: unequal cells of one index are a conflict, and distinct indices count
 abbrev pub IsDue : List Shard → Error → Type 0
-IsDue [] (Memory e) = ⊤
-IsDue [] TooFew = ⊤
-IsDue [] Mismatch = ⊥
-IsDue [] Index = ⊥
-IsDue [] Conflict = ⊥
-IsDue [] Inconsistent = ⊥
-IsDue (first ∷ rest) e = IsDueBeside first (first ∷ rest) e
+IsDue = IsDueFor HaveConflict distinct_indices JoinTo
 
 -- the error says that memory ran out
 abbrev pub IsMemory : Error → Type 0
@@ -73,8 +91,12 @@ IsMemory Conflict = ⊥
 IsMemory Inconsistent = ⊥
 
 -- the answer is the error only where it is due; and there it is, or memory ran out
+abbrev pub RefusesWhereDue : {X : Type 0} → Result X Error → (Error → Type 0) → Error → Type 0
+RefusesWhereDue result due e = (result ≡ Err e → due e) × (due e → MatchResult result (λ _. ⊥) (λ f. (f ≡ e) ⊎ IsMemory f))
+
+-- so it is of shards that are joined
 abbrev pub RefusesExactly : {X : Type 0} → Result X Error → List Shard → Error → Type 0
-RefusesExactly result shards e = (result ≡ Err e → IsDue shards e) × (IsDue shards e → MatchResult result (λ _. ⊥) (λ f. (f ≡ e) ⊎ IsMemory f))
+RefusesExactly result shards = RefusesWhereDue result (IsDue shards)
 
 -- the row of each shard's index holds its cells, and exactly these rows are filled
 pub record HoldsShards (lg width : ℕ) (shards : List Shard) (e : EvaluationsOf F) : Type 0 where

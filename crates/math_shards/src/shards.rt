@@ -14,11 +14,13 @@
 ghost use Rattle.std.specs.Prelude.{◌≡◌, alloc_error};
 ghost use Rattle.math_shards.specs.declared.shards.Error.TheVariants.{Memory};
 
+mod correcting;
 mod encoding;
 mod joining;
 mod layout;
 mod splitting;
 
+pub use correcting::{Joined, join_corrected};
 pub use joining::join;
 use math_base::fields::goldilocks::F;
 pub use splitting::split;

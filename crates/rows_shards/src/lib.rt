@@ -5,7 +5,7 @@ use math_base::algebra::Mem;
 use math_base::fields::goldilocks::F;
 use math_codec::codec::{EncodeSize, Read, Write};
 use math_samples::elements::Element;
-use math_shards::shards::{Error, Shard, join, split};
+use math_shards::shards::{Error, Shard, join, join_corrected, split};
 use rows_base::answer::{put, put_all, put_bytes};
 use rows_base::fault::Fault;
 use rows_base::words::{bytes, elements, numbers, parted, short};
@@ -16,6 +16,8 @@ pub fn run(alloc: Global, call: &str, arguments: &str, text: &mut String) -> Res
     match call {
         "split" => split_words(alloc, arguments, text)?,
         "join" => join_shards(alloc, arguments, text)?,
+        "join_corrected" => join_wrong_shards(alloc, arguments, text)?,
+        "join_each_pair" => join_each_pair(alloc, arguments, text)?,
         "join_each_set" => join_each_set(alloc, arguments, text)?,
         "write_shard" => write_shard(alloc, arguments, text)?,
         "read_shard" => read_shard(alloc, arguments, text)?,
@@ -87,15 +89,81 @@ fn put_joined(alloc: Global, shards: &[Shard], text: &mut String) -> Result<(), 
     Ok(())
 }
 
-/// `join INDEX MIN TOTAL : CELL .. ; ..`: `data` and the words, or the refusal.
-fn join_shards(alloc: Global, arguments: &str, text: &mut String) -> Result<(), Fault> {
+/// The shards that a text writes, with `;` between them.
+fn shards_in(alloc: Global, text: &str) -> Result<Vec<Shard>, Fault> {
     let mut shards = Vec::new(alloc);
-    if !arguments.trim().is_empty() {
-        for part in arguments.split(';') {
+    if !text.trim().is_empty() {
+        for part in text.split(';') {
             shards.push(shard_in(alloc, part)?)?;
         }
     }
+    Ok(shards)
+}
+
+/// `join INDEX MIN TOTAL : CELL .. ; ..`: `data` and the words, or the refusal.
+fn join_shards(alloc: Global, arguments: &str, text: &mut String) -> Result<(), Fault> {
+    let shards = shards_in(alloc, arguments)?;
     put_joined(alloc, &shards, text)
+}
+
+/// `join_corrected SHARD ; ..`: `data` and the words, `left out` and the positions, or the refusal.
+fn join_wrong_shards(alloc: Global, arguments: &str, text: &mut String) -> Result<(), Fault> {
+    let shards = shards_in(alloc, arguments)?;
+    match join_corrected(alloc, &shards) {
+        Ok(joined) => {
+            text.push_str(" data")?;
+            put_all(text, &joined.words)?;
+            text.push_str(" left out")?;
+            for position in &joined.left_out {
+                put(text, *position as u64)?;
+            }
+        }
+        Err(Error::Memory(e)) => return Err(Fault::Memory(e)),
+        Err(error) => write!(text, " refused {error}")?,
+    }
+    Ok(())
+}
+
+/// Whether the shards, with one more in cell k of each of two, are corrected to the words, and these
+/// two left out.
+fn is_pair_left_out(
+    alloc: Global,
+    shards: &[Shard],
+    pair: &[usize],
+    k: usize,
+    words: &[u64],
+) -> Result<bool, Fault> {
+    let mut given = Vec::new(alloc);
+    for (position, shard) in shards.iter().enumerate() {
+        let cell = pair.contains(&position).then_some(k);
+        given.push(copy_of(alloc, shard, cell)?)?;
+    }
+    match join_corrected(alloc, &given) {
+        Ok(joined) => Ok(joined.words.as_slice() == words && joined.left_out.as_slice() == pair),
+        Err(Error::Memory(e)) => Err(Fault::Memory(e)),
+        Err(_) => Ok(false),
+    }
+}
+
+/// `join_each_pair MIN TOTAL ; W ..`: for how many pairs of shards and cells of these, with one more
+/// in this cell of both, the words are given back and the pair is left out.
+fn join_each_pair(alloc: Global, arguments: &str, text: &mut String) -> Result<(), Fault> {
+    let (head, data) = parted(arguments, ';')?;
+    let (min, total) = parted(head.trim(), ' ')?;
+    let data = numbers(alloc, data)?;
+    let shards = shards_of(alloc, &data, short(min)?, short(total)?)?;
+    let mut found = 0u64;
+    for i in 0..shards.len() {
+        for j in i + 1..shards.len() {
+            for k in 0..shards[i].cells.len() {
+                if is_pair_left_out(alloc, &shards, &[i, j], k, &data)? {
+                    found = found.saturating_add(1);
+                }
+            }
+        }
+    }
+    put(text, found)?;
+    Ok(())
 }
 
 /// A copy of a shard, with one more in a cell where `changed` names it.

@@ -4,7 +4,4 @@ pub mod UnpackedBytes
 pub mod OneBlock
 pub mod CellCounts
 pub mod BlockErrors
-pub mod Indices
-pub mod SameShards
-pub mod LeftOut
-pub mod MendedShards
+pub mod OneWrong

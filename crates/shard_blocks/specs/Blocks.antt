@@ -1,37 +1,22 @@
 -- Shards that give a block of bytes back, and what is wrong with those that give none.
-use Rattle.std.specs.Prelude.{◌≡◌, ℕ, ◌<◌, ◌≤◌, ◌^◌, ◌⊎◌, List, [], ◌∷◌, All, Result, Err, MatchResult, ⊤}
+use Rattle.std.specs.Prelude.{◌≡◌, ℕ, ◌<◌, ◌≤◌, ◌^◌, List, All, Result}
 use Rattle.math_shards.specs.declared.shards.Shard.{Shard}
 use Rattle.math_shards.specs.declared.shards.Error.{Error}
-use Rattle.math_shards.specs.declared.shards.Error.TheVariants.{Memory, TooFew, Mismatch, Index, Conflict, Inconsistent}
 use Rattle.math_shards.specs.Shards.{AreShardsOf, IsSameAsOne, JoinTo, distinct_indices}
-use Rattle.math_shards.specs.Joining.{AreSound, IsDue, IsMemory}
+use Rattle.math_shards.specs.Joining.{HaveConflict, IsDueFor, RefusesWhereDue}
 use Rattle.shard_blocks.specs.BlockWords.{AreBytes, words_of_bytes}
 
 -- the shards give this block back
 abbrev pub JoinToBlock : List ℕ → List Shard → Type 0
 JoinToBlock bytes shards = AreBytes bytes × JoinTo (words_of_bytes bytes) shards
 
--- the shards give no block back
-abbrev pub FitNoBlock : List Shard → Type 0
-FitNoBlock shards = (bytes : List ℕ) → ¬ (JoinToBlock bytes shards)
-
--- the shards are sound, no two of one index have unequal cells, enough have distinct indices, and yet they give no block back
-abbrev pub AreInconsistent : List Shard → Type 0
-AreInconsistent [] = ⊥
-AreInconsistent (first ∷ rest) = AreSound first (first ∷ rest) × (first.min ≤ distinct_indices first.total (first ∷ rest)) × FitNoBlock (first ∷ rest)
-
 -- what is wrong with the shards of a block, for each error but that memory ran out
 abbrev pub IsBlockDue : List Shard → Error → Type 0
-IsBlockDue shards (Memory e) = ⊤
-IsBlockDue shards TooFew = IsDue shards TooFew
-IsBlockDue shards Mismatch = IsDue shards Mismatch
-IsBlockDue shards Index = IsDue shards Index
-IsBlockDue shards Conflict = IsDue shards Conflict
-IsBlockDue shards Inconsistent = AreInconsistent shards
+IsBlockDue = IsDueFor HaveConflict distinct_indices JoinToBlock
 
 -- the answer is the error only where it is due; and there it is, or memory ran out
 abbrev pub RefusesBlockExactly : {X : Type 0} → Result X Error → List Shard → Error → Type 0
-RefusesBlockExactly result shards e = (result ≡ Err e → IsBlockDue shards e) × (IsBlockDue shards e → MatchResult result (λ _. ⊥) (λ f. (f ≡ e) ⊎ IsMemory f))
+RefusesBlockExactly result shards = RefusesWhereDue result (IsBlockDue shards)
 
 -- shards give one block back at most
 abbrev pub HaveOneBlock : Type 0

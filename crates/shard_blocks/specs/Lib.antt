@@ -1,3 +1,3 @@
 pub mod BlockWords
 pub mod Blocks
-pub mod Mending
+pub mod Correcting

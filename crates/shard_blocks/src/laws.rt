@@ -1,7 +1,9 @@
-//! What follows from the contracts of `split_block`, `join_block` and `mend_block` together.
+//! What follows from the contracts of `split_block`, `join_block` and
+//! `join_block_corrected` together.
 
 ghost use Rattle.shard_blocks.specs.Blocks.{ChosenShardsGiveBlock, HaveOneBlock};
-ghost use Rattle.shard_blocks.specs.Mending.{LeaveOneOut};
+ghost use Rattle.shard_blocks.specs.Correcting.{HaveOneCorrectedBlock, JoinedAreCorrect};
+ghost use Rattle.shard_blocks.specs.Correcting.{OneWrongIsCorrected};
 
 /// Shards give one block back at most, and any `min` shards of a `split_block` with distinct
 /// indices give back what was split. So do shards that are the same as these, as copies are, and
@@ -11,8 +13,11 @@ pub fn joined_blocks()
     ensures chosen { ChosenShardsGiveBlock }
 {}
 
-/// Of shards that fit no block, at least `min` + 2 with distinct indices, one at most can be left
-/// out so that the others fit one.
-pub fn mended_blocks()
-    ensures { LeaveOneOut }
+/// However some shards are wrong, they have one block at most; it is what `join_block` gives back
+/// where it gives one, and where the numbers of all shards agree and two more distinct indices are
+/// there than give a block back, it is what all shards but one give.
+pub fn corrected_blocks()
+    ensures once { HaveOneCorrectedBlock }
+    ensures joined { JoinedAreCorrect }
+    ensures one_wrong { OneWrongIsCorrected }
 {}

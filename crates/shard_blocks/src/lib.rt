@@ -7,18 +7,16 @@
 //! zeros, are those of no block.
 //!
 //! Where more than `min` distinct indices are there, damage to one shard is found: the others fix
-//! the block, and the damaged one is no shard of it. Damage to several may go unnoticed. Where at
-//! least `min` + 2 are there and just one is damaged, it is known by this: the others fit a block.
-//! Two leavings out cannot both do so. For what both leave has at least `min` shards, which have
-//! one block, and each of the two shards then fits that block, beside which it was kept: all shards
-//! would fit.
+//! the block, and the damaged one is no shard of it. Damage to several may go unnoticed. Of m
+//! distinct indices (m - `min`) / 2 may be damaged, and `join_block_corrected` gives the block, and
+//! says which shards are not of it.
 #![tactic(auto)]
 
 mod blocks;
+mod correcting;
 pub mod laws;
-mod mending;
 mod words;
 
 pub use blocks::{cells_for, join_block, split_block};
+pub use correcting::{JoinedBlock, join_block_corrected};
 pub use math_shards::shards::{Error, Shard};
-pub use mending::{Mended, mend_block};

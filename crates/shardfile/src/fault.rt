@@ -7,8 +7,10 @@ use thiserror::Error;
 /// Why the work was not done. Texts name the file or the block that is meant.
 #[derive(Debug, Drop, Error)]
 pub enum Fault {
-    #[error("usage: shardfile split [--force] MIN TOTAL FILE | join [--force] FILE OUT | check FILE")]
+    #[error("usage: shardfile split [--force] [--to FOLDER] MIN TOTAL FILE | join [--force] FILE OUT | check FILE | --help | --version")]
     Usage,
+    #[error("refused: a word is no UTF-8 text: give the file such a name, or a link to it (ln -s), and call it by this")]
+    Words,
     #[error("refused: out of memory")]
     Memory(AllocError),
     #[error("refused: {0}")]
@@ -17,6 +19,10 @@ pub enum Fault {
     File(String, io::Error),
     #[error("refused: {0}: is there already, and only --force replaces it")]
     Exists(String),
+    #[error("refused: {0}: is a file that is read here, or has the name of a shard")]
+    Input(String),
+    #[error("refused: {0}: another run is splitting it")]
+    Busy(String),
     #[error("refused: {0}: not a regular file")]
     NotRegular(String),
     #[error("refused: {0}: changed while it was read")]
@@ -27,6 +33,8 @@ pub enum Fault {
     NoShard(String),
     #[error("refused: {0}: the shards are of several splits, and no split has the most")]
     Tie(String),
+    #[error("refused: {0}: no shard file has the length that its header says")]
+    Length(String),
     #[error("refused: {0}: {1} shards are there, and {2} are needed")]
     TooFew(String, usize, u32),
     #[error("refused: block {0}: {1}")]

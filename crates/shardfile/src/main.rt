@@ -15,8 +15,77 @@ mod splitting;
 
 use fault::Fault;
 use shard_format::header::MOST_SHARDS;
+use std::env;
+use std::io::ErrorKind;
 use std::process::ExitCode;
-use std::{env, io};
+
+/// The version of the repository.
+const VERSION: &str = "shardfile 1.0.0\n";
+
+/// What `--help` prints.
+const HELP: &str = "\
+shardfile: a file in TOTAL shard files, any MIN of which give it back
+
+  shardfile split [--force] [--to FOLDER] MIN TOTAL FILE
+      writes FILE.0, FILE.1 and on, TOTAL in all, beside FILE or into FOLDER
+  shardfile join [--force] FILE OUT
+      restores the file as OUT from the shard files FILE.0 and on that are there
+  shardfile check FILE
+      says which shard files are there, whether they fit, and what join would do
+
+  --force   replaces files that are there
+  --        a name that begins so is written ./--name
+
+For example, any 6 of the 16 files photos.tar.0 to photos.tar.15 may be lost:
+
+  shardfile split 10 16 photos.tar
+  shardfile check photos.tar
+  shardfile join photos.tar restored.tar
+
+Status: 0 done (check: all shards are there and fit), 1 refused, 2 wrong words.
+With just MIN shards damage is not found. Nothing is hidden, and nothing is signed.
+A run that was stopped leaves files shardfile-*.partial, which can be removed.
+";
+
+/// What the words after the command ask for.
+#[derive(Drop)]
+struct Options<'a> {
+    /// The words that are no option.
+    words: Vec<&'a str>,
+    force: bool,
+    to: Option<&'a str>,
+    help: bool,
+}
+
+/// Sorts the words. It refuses an option that is none, an empty word, and `--to` with no word after it.
+fn read_options<'a>(rt: &HostRuntime, words: &'a [String]) -> Result<Options<'a>, Fault> {
+    let mut options = Options {
+        words: Vec::new(rt.alloc()),
+        force: false,
+        to: None,
+        help: false,
+    };
+    let mut is_folder = false;
+    for word in words {
+        let word = word.as_str();
+        match word {
+            _ if is_folder && !word.is_empty() => {
+                options.to = Some(word);
+                is_folder = false;
+            }
+            "--force" => options.force = true,
+            "--help" => options.help = true,
+            "--to" => is_folder = true,
+            "" => return Err(Fault::Usage),
+            _ if word.starts_with("--") => return Err(Fault::Usage),
+            _ => options.words.push(word)?,
+        }
+    }
+    if is_folder {
+        return Err(Fault::Usage);
+    }
+    Ok(options)
+}
 
 /// The number that a word writes in decimal.
 fn number(word: &str) -> Result<u32, Fault> {
@@ -24,8 +93,8 @@ fn number(word: &str) -> Result<u32, Fault> {
 }
 
 /// `MIN TOTAL FILE`: the shard files of the file.
-fn split(rt: &HostRuntime, words: &[&str], force: bool) -> Result<(), Fault> {
-    let [min, total, file] = words else {
+fn split(rt: &HostRuntime, options: &Options) -> Result<(), Fault> {
+    let [min, total, file] = options.words.as_slice() else {
         return Err(Fault::Usage);
     };
     let min = number(min)?;
@@ -33,24 +102,27 @@ fn split(rt: &HostRuntime, words: &[&str], force: bool) -> Result<(), Fault> {
     if min == 0 || total < min || total > MOST_SHARDS {
         return Err(Fault::Usage);
     }
-    splitting::split(rt, min, total, file, force)
+    splitting::split(rt, min, total, file, options.to, options.force)
 }
 
 /// `FILE OUT`: the file that the shard files give.
-fn join(rt: &HostRuntime, words: &[&str], force: bool) -> Result<(), Fault> {
-    let [file, out] = words else {
+fn join(rt: &HostRuntime, options: &Options) -> Result<(), Fault> {
+    let [file, out] = options.words.as_slice() else {
         return Err(Fault::Usage);
     };
-    joining::join(rt, file, out, force)
+    if options.to.is_some() {
+        return Err(Fault::Usage);
+    }
+    joining::join(rt, file, out, options.force)
 }
 
 /// `FILE`: what is to be said of the shard files. It refuses, once that is said, where not all are there and
 /// fit.
-fn check(rt: &HostRuntime, words: &[&str], force: bool) -> Result<(), Fault> {
-    let [file] = words else {
+fn check(rt: &HostRuntime, options: &Options) -> Result<(), Fault> {
+    let [file] = options.words.as_slice() else {
         return Err(Fault::Usage);
     };
-    if force {
+    if options.force || options.to.is_some() {
         return Err(Fault::Usage);
     }
     let (text, is_whole) = joining::check(rt, file)?;
@@ -62,27 +134,32 @@ fn check(rt: &HostRuntime, words: &[&str], force: bool) -> Result<(), Fault> {
 }
 
 /// Writes the text to standard output.
-fn print(rt: &HostRuntime, text: &str) -> io::Result<()> {
-    print!(rt; "{text}")
+fn print(rt: &HostRuntime, text: &str) -> Result<(), Fault> {
+    print!(rt; "{text}")?;
+    Ok(())
 }
 
-/// Does what the words ask for. The word `--force` may stand anywhere after the first.
-fn run(rt: &HostRuntime) -> Result<(), Fault> {
-    let words: Vec<String> = env::args(rt)?.skip(1).collect(rt.alloc())?;
-    let (command, rest) = words.split_first().ok_or(Fault::Usage)?;
-    let mut others = Vec::new(rt.alloc());
-    let mut force = false;
-    for word in rest {
-        if word.as_str() == "--force" {
-            force = true;
-        } else {
-            others.push(word.as_str())?;
-        }
+/// The words after the program's name. It refuses one that is no text.
+fn words_given(rt: &HostRuntime) -> Result<Vec<String>, Fault> {
+    match env::args(rt) {
+        Ok(words) => Ok(words.skip(1).collect(rt.alloc())?),
+        Err(error) if error.kind() == ErrorKind::InvalidData => Err(Fault::Words),
+        Err(error) => Err(Fault::Io(error)),
     }
+}
+
+/// Does what the words ask for. Options may stand anywhere after the first.
+fn run(rt: &HostRuntime) -> Result<(), Fault> {
+    let words = words_given(rt)?;
+    let (command, rest) = words.split_first().ok_or(Fault::Usage)?;
+    let options = read_options(rt, rest)?;
     match command.as_str() {
-        "split" => split(rt, &others, force),
-        "join" => join(rt, &others, force),
-        "check" => check(rt, &others, force),
+        "--help" => print(rt, HELP),
+        "--version" => print(rt, VERSION),
+        "split" | "join" | "check" if options.help => print(rt, HELP),
+        "split" => split(rt, &options),
+        "join" => join(rt, &options),
+        "check" => check(rt, &options),
         _ => Err(Fault::Usage),
     }
 }

@@ -12,7 +12,7 @@ pub fn shard_name(rt: &HostRuntime, file: &str, number: u32) -> Result<String, F
 }
 
 /// The number that a name ends with after the file's own and a point, as `shard_name` writes it.
-fn number_in(rt: &HostRuntime, file: &str, name: &str) -> Result<Option<u32>, Fault> {
+pub fn number_in(rt: &HostRuntime, file: &str, name: &str) -> Result<Option<u32>, Fault> {
     let Some(rest) = name.strip_prefix(file) else {
         return Ok(None);
     };
@@ -26,8 +26,8 @@ fn number_in(rt: &HostRuntime, file: &str, name: &str) -> Result<Option<u32>, Fa
     Ok((is_so_written && number < MOST_SHARDS).then_some(number))
 }
 
-/// The folder that a file lies in, and its name there.
-fn folder_and_name(rt: &HostRuntime, file: &str) -> Result<(String, String), Fault> {
+/// The folder that a file lies in, with a slash at its end, and its name there.
+pub fn folder_and_name(rt: &HostRuntime, file: &str) -> Result<(String, String), Fault> {
     match file.rsplit_once('/') {
         Some((folder, name)) => Ok((format!(in rt.alloc(); "{folder}/")?, owned(rt, name)?)),
         None => Ok((owned(rt, "./")?, owned(rt, file)?)),

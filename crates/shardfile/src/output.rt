@@ -3,88 +3,247 @@
 ghost use Rattle.std.specs.Prelude.{◌≡◌, ◌+◌, ◌≤◌, length, IfOk, OnOk, OnErr};
 
 use crate::fault::Fault;
+use crate::names::folder_and_name;
 use math_codec::codec::Write;
 use shard_blocks::Shard;
 use std::alloc::Global;
 use std::fs;
-use std::fs::File;
+use std::fs::{File, Metadata, OpenOptions, Permissions};
 use std::io::{self, ErrorKind};
+use std::os::unix::fs::{MetadataExt, OpenOptionsExt, PermissionsExt};
+use std::random::RandomSource;
 
-/// Whether the name may be taken: nothing is there, or a regular file that is to be replaced.
-///
-/// It refuses where something is there that is not to be replaced, or is no regular file.
-pub fn check_name(rt: &HostRuntime, path: &str, force: bool) -> Result<(), Fault> {
-    match fs::symlink_metadata(rt, path) {
-        Ok(metadata) if !metadata.is_file() => Err(Fault::NotRegular(owned(rt, path)?)),
-        Ok(_) if force => Ok(()),
-        Ok(_) => Err(Fault::Exists(owned(rt, path)?)),
-        Err(error) if error.kind() == ErrorKind::NotFound => Ok(()),
-        Err(error) => Err(Fault::File(owned(rt, path)?, error)),
-    }
-}
+/// How many shard files are kept open at once, at most. Others are opened again for each block.
+pub const MOST_KEPT_OPEN: usize = 24;
+
+/// The rights that a file can give: to read, write and run it, for its owner, its group and all.
+const ALL_RIGHTS: u32 = 0o777;
+
+/// Those that the program itself needs to write a file.
+const OWN_RIGHTS: u32 = 0o600;
 
 /// The text, as one that an error can carry.
 pub fn owned(rt: &HostRuntime, text: &str) -> Result<String, Fault> {
     Ok(String::from_str(rt.alloc(), text)?)
 }
 
-/// A file that is written beside its final name, under that name and `.partial`.
+/// The rights that a file gives.
+pub fn rights_of(metadata: &Metadata) -> u32 {
+    metadata.mode() & ALL_RIGHTS
+}
+
+/// Which file of the system it is.
+#[derive(Clone, Copy, PartialEq, Eq)]
+pub struct Identity {
+    device: u64,
+    node: u64,
+}
+
+impl Identity {
+    /// The identity of the file that this is said of.
+    pub fn new(metadata: &Metadata) -> Identity {
+        Identity {
+            device: metadata.dev(),
+            node: metadata.ino(),
+        }
+    }
+}
+
+/// Refuses where the name is that of a file which is read.
+pub fn check_no_input(rt: &HostRuntime, path: &str, input: Identity) -> Result<(), Fault> {
+    match fs::symlink_metadata(rt, path) {
+        Ok(metadata) if Identity::new(&metadata) == input => Err(Fault::Input(owned(rt, path)?)),
+        _ => Ok(()),
+    }
+}
+
+/// The rights that a file may have under the name: those of the regular file that is to be replaced, or all
+/// where nothing is there.
+///
+/// It refuses where something is there that is not to be replaced, or is no regular file.
+fn rights_at(rt: &HostRuntime, path: &str, force: bool) -> Result<u32, Fault> {
+    match fs::symlink_metadata(rt, path) {
+        Ok(metadata) if !metadata.is_file() => Err(Fault::NotRegular(owned(rt, path)?)),
+        Ok(metadata) if force => Ok(rights_of(&metadata)),
+        Ok(_) => Err(Fault::Exists(owned(rt, path)?)),
+        Err(error) if error.kind() == ErrorKind::NotFound => Ok(ALL_RIGHTS),
+        Err(error) => Err(Fault::File(owned(rt, path)?, error)),
+    }
+}
+
+/// What the output files of a run have in common.
+#[derive(Drop)]
+pub struct Manner {
+    /// Whether regular files are replaced.
+    force: bool,
+    /// The rights that they give at most.
+    rights: u32,
+    /// A random number, in the names that they have while they are written.
+    token: u64,
+}
+
+impl Manner {
+    /// That of a run whose outputs give these rights at most, with a random number of its own.
+    pub fn new(rt: &HostRuntime, force: bool, rights: u32) -> Result<Manner, Fault> {
+        let mut token = [0u8; 8];
+        rt.fill_bytes(&mut token)?;
+        Ok(Manner {
+            force,
+            rights,
+            token: u64::from_le_bytes(token),
+        })
+    }
+
+    /// The name that the output with this number has in the folder of the path while it is written.
+    fn name_beside(&self, rt: &HostRuntime, path: &str, number: usize) -> Result<String, Fault> {
+        let (folder, _) = folder_and_name(rt, path)?;
+        let token = self.token;
+        Ok(format!(in rt.alloc(); "{folder}shardfile-{token:016x}-{number}.partial")?)
+    }
+}
+
+/// A file that is written in the folder of its final name, under a name that no other run has.
 #[derive(Drop)]
 pub struct Partial {
-    file: File,
+    /// The open file, where it is kept open.
+    file: Option<File>,
     path: String,
     beside: String,
     force: bool,
+    rights: u32,
 }
 
 impl Partial {
-    /// A new file beside the name, which has to be free, or with `force` that of a regular file.
-    pub fn create(rt: &HostRuntime, path: String, force: bool) -> Result<Partial, Fault> {
-        check_name(rt, path.as_str(), force)?;
-        let beside = format!(in rt.alloc(); "{path}.partial")?;
-        check_name(rt, beside.as_str(), force)?;
-        if force {
-            let _removed = fs::remove_file(rt, beside.as_str());
-        }
-        match File::create_new(rt, beside.as_str()) {
+    /// A new file in the folder of the name, which has to be free, or with `force` that of a regular file.
+    /// Meanwhile it gives no right but to its owner beyond those that it may give in the end.
+    fn create(
+        rt: &HostRuntime,
+        path: String,
+        how: &Manner,
+        number: usize,
+    ) -> Result<Partial, Fault> {
+        let rights = how.rights & rights_at(rt, path.as_str(), how.force)?;
+        let beside = how.name_beside(rt, path.as_str(), number)?;
+        match created(rt, beside.as_str(), rights | OWN_RIGHTS) {
             Ok(file) => Ok(Partial {
-                file,
+                file: Some(file),
                 path,
                 beside,
-                force,
+                force: how.force,
+                rights,
             }),
-            Err(error) => Err(Fault::File(beside, error)),
+            Err(error) => Err(Fault::File(path, error)),
         }
+    }
+
+    /// The fault that the system finds with it.
+    fn fault(&self, rt: &HostRuntime, error: io::Error) -> Result<Fault, Fault> {
+        Ok(Fault::File(owned(rt, self.path.as_str())?, error))
     }
 
     /// Writes the bytes at the end.
-    fn append(&mut self, alloc: Global, bytes: &[u8]) -> Result<(), Fault> {
-        match io::Write::write_all(&mut self.file, bytes) {
+    fn append(&mut self, rt: &HostRuntime, bytes: &[u8]) -> Result<(), Fault> {
+        let written = match &mut self.file {
+            Some(file) => io::Write::write_all(file, bytes),
+            None => append_to(rt, self.beside.as_str(), bytes),
+        };
+        match written {
             Ok(()) => Ok(()),
-            Err(error) => Err(Fault::File(String::from_str(alloc, self.path.as_str())?, error)),
+            Err(error) => Err(self.fault(rt, error)?),
         }
     }
 
-    /// Has the system write all to the device.
-    fn sync(&self, rt: &HostRuntime) -> Result<(), Fault> {
-        match self.file.sync_all() {
+    /// Closes the file, which is opened again for each write.
+    fn close(&mut self) {
+        self.file = None;
+    }
+
+    /// Has the system write all to the device, and takes away the rights that it may not give in the end. The
+    /// name is looked at again.
+    fn settle(&self, rt: &HostRuntime) -> Result<(), Fault> {
+        let rights = self.rights & rights_at(rt, self.path.as_str(), self.force)?;
+        let settled = match &self.file {
+            Some(file) => settle_file(file, rights),
+            None => settle_at(rt, self.beside.as_str(), rights),
+        };
+        match settled {
             Ok(()) => Ok(()),
-            Err(error) => Err(Fault::File(owned(rt, self.path.as_str())?, error)),
+            Err(error) => Err(self.fault(rt, error)?),
         }
     }
 
-    /// Gives the file its final name, which is looked at again.
+    /// Gives the file its final name, in place of the file that may be replaced.
     fn rename(&self, rt: &HostRuntime) -> Result<(), Fault> {
-        check_name(rt, self.path.as_str(), self.force)?;
+        rights_at(rt, self.path.as_str(), self.force)?;
         match fs::rename(rt, self.beside.as_str(), self.path.as_str()) {
             Ok(()) => Ok(()),
-            Err(error) => Err(Fault::File(owned(rt, self.path.as_str())?, error)),
+            Err(error) => Err(self.fault(rt, error)?),
+        }
+    }
+
+    /// Gives the file its final name. Where none may be replaced, this is by a second name, which the system
+    /// gives only where nothing is there; by renaming only where it gives no second names.
+    fn take_name(&self, rt: &HostRuntime) -> Result<(), Fault> {
+        if self.force {
+            return self.rename(rt);
+        }
+        match fs::hard_link(rt, self.beside.as_str(), self.path.as_str()) {
+            Ok(()) => {
+                self.remove(rt);
+                Ok(())
+            }
+            Err(error) if error.kind() == ErrorKind::AlreadyExists => {
+                Err(Fault::Exists(owned(rt, self.path.as_str())?))
+            }
+            Err(_) => self.rename(rt),
         }
     }
 
     /// Removes the file, where it has not its final name yet.
     fn remove(&self, rt: &HostRuntime) {
         let _removed = fs::remove_file(rt, self.beside.as_str());
+    }
+}
+
+/// A new file with these rights less those that the system takes from every new one. It refuses where
+/// anything is there.
+fn created(rt: &HostRuntime, path: &str, rights: u32) -> io::Result<File> {
+    OpenOptions::new()
+        .read(true)
+        .write(true)
+        .create_new(true)
+        .mode(rights)
+        .open(rt, path)
+}
+
+/// Writes the bytes at the end of the file that is there.
+fn append_to(rt: &HostRuntime, path: &str, bytes: &[u8]) -> io::Result<()> {
+    let mut file = OpenOptions::new().append(true).open(rt, path)?;
+    io::Write::write_all(&mut file, bytes)
+}
+
+/// Has the system write all of the file to the device, and takes away each right but these.
+fn settle_file(file: &File, rights: u32) -> io::Result<()> {
+    let given = rights_of(&file.metadata()?);
+    if given & rights != given {
+        file.set_permissions(Permissions::from_mode(given & rights))?;
+    }
+    file.sync_all()
+}
+
+/// As `settle_file`, for the file that is there.
+fn settle_at(rt: &HostRuntime, path: &str, rights: u32) -> io::Result<()> {
+    settle_file(&fs::open(rt, path)?, rights)
+}
+
+/// Has the system write the folder to the device, where it opens folders and does so.
+fn sync_folder(rt: &HostRuntime, folder: String) -> Result<(), Fault> {
+    let Ok(open) = fs::open(rt, folder.as_str()) else {
+        return Ok(());
+    };
+    match open.sync_all() {
+        Err(error) if error.kind() != ErrorKind::InvalidInput => Err(Fault::File(folder, error)),
+        _ => Ok(()),
     }
 }
 
@@ -101,12 +260,12 @@ impl Restored {
     pub fn create(
         rt: &HostRuntime,
         path: String,
-        force: bool,
+        how: &Manner,
         length: u64,
     ) -> Result<Restored, Fault>
         ensures { IfOk result (λ r. r.left ≡ length) }
     {
-        let partial = Partial::create(rt, path, force)?;
+        let partial = Partial::create(rt, path, how, 0)?;
         Ok(Restored {
             partial,
             left: length,
@@ -114,11 +273,11 @@ impl Restored {
     }
 
     /// Writes the next bytes.
-    pub fn write(&mut self, alloc: Global, bytes: &[u8]) -> Result<(), Fault>
+    pub fn write(&mut self, rt: &HostRuntime, bytes: &[u8]) -> Result<(), Fault>
         requires { length bytes.now ≤ self.old.left }
         ensures { OnOk result (self.new.left + length bytes.now ≡ self.old.left) }
     {
-        self.partial.append(alloc, bytes)?;
+        self.partial.append(rt, bytes)?;
         self.left -= bytes.len() as u64;
         Ok(())
     }
@@ -140,10 +299,12 @@ impl Restored {
     }
 }
 
-/// Gives a file its final name.
+/// Gives a file its final name. No memory is taken once it has it.
 fn named(rt: &HostRuntime, partial: &Partial) -> Result<(), Fault> {
-    partial.sync(rt)?;
-    partial.rename(rt)
+    partial.settle(rt)?;
+    let (folder, _) = folder_and_name(rt, partial.path.as_str())?;
+    partial.take_name(rt)?;
+    sync_folder(rt, folder)
 }
 
 /// The shard files of a file of known length that are being written.
@@ -170,24 +331,28 @@ impl ShardFiles {
         &mut self,
         rt: &HostRuntime,
         path: String,
-        force: bool,
+        how: &Manner,
         header: &[u8],
     ) -> Result<(), Fault>
         ensures { self.new.left ≡ self.old.left }
     {
         self.partials.reserve(1)?;
-        let mut partial = Partial::create(rt, path, force)?;
-        let written = partial.append(rt.alloc(), header);
+        let number = self.partials.len();
+        let mut partial = Partial::create(rt, path, how, number)?;
+        let written = partial.append(rt, header);
+        if number >= MOST_KEPT_OPEN {
+            partial.close();
+        }
         self.partials.push(partial)?;
         written
     }
 
     /// Writes the shards of the next so many bytes of the file, one to each of the files.
-    pub fn write(&mut self, alloc: Global, shards: &[Shard], bytes: u64) -> Result<(), Fault>
+    pub fn write(&mut self, rt: &HostRuntime, shards: &[Shard], bytes: u64) -> Result<(), Fault>
         requires { bytes ≤ self.old.left }
         ensures { OnOk result (self.new.left + bytes ≡ self.old.left) }
     {
-        append_all(alloc, &mut self.partials, shards)?;
+        append_all(rt, &mut self.partials, shards)?;
         self.left -= bytes;
         Ok(())
     }
@@ -212,12 +377,12 @@ impl ShardFiles {
 }
 
 /// Writes a shard at the end of each file.
-fn append_all(alloc: Global, partials: &mut [Partial], shards: &[Shard]) -> Result<(), Fault> {
-    let mut encoded = Vec::new(alloc);
+fn append_all(rt: &HostRuntime, partials: &mut [Partial], shards: &[Shard]) -> Result<(), Fault> {
+    let mut encoded = Vec::new(rt.alloc());
     for (partial, shard) in partials.iter_mut().zip(shards) {
         encoded.clear();
-        encode(alloc, shard, &mut encoded)?;
-        partial.append(alloc, &encoded)?;
+        encode(rt.alloc(), shard, &mut encoded)?;
+        partial.append(rt, &encoded)?;
     }
     Ok(())
 }
@@ -231,13 +396,18 @@ fn encode(alloc: Global, shard: &Shard, out: &mut Vec<u8>) -> Result<(), Fault> 
     Ok(())
 }
 
-/// Gives the files their final names, once the system has written all of them to the device.
+/// Gives the files, which lie in one folder, their final names, in order, once the system has written all of
+/// them to the device. No memory is taken once the first has it.
 fn all_named(rt: &HostRuntime, partials: &[Partial]) -> Result<(), Fault> {
+    let Some(first) = partials.first() else {
+        return Ok(());
+    };
     for partial in partials {
-        partial.sync(rt)?;
+        partial.settle(rt)?;
     }
+    let (folder, _) = folder_and_name(rt, first.path.as_str())?;
     for partial in partials {
-        partial.rename(rt)?;
+        partial.take_name(rt)?;
     }
-    Ok(())
+    sync_folder(rt, folder)
 }

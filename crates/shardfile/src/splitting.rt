@@ -3,36 +3,51 @@
 ghost use Rattle.std.specs.Prelude.{◌≡◌, ◌≤◌, ◌^◌, OnOk};
 
 use crate::fault::Fault;
-use crate::names::{numbers_there, shard_name};
-use crate::output::{ShardFiles, owned};
+use crate::names::{folder_and_name, numbers_there, shard_name};
+use crate::output::{Identity, Manner, ShardFiles, check_no_input, owned, rights_of};
 use crate::progress::Progress;
 use shard_blocks::split_block;
 use shard_format::header::{Header, header_bytes};
 use std::fs;
-use std::fs::File;
+use std::fs::{File, Metadata, TryLockError};
 use std::io::{ErrorKind, Read};
 
-/// Writes the shard files of a file, any `min` of which give it back.
+/// Writes the shard files of a file, any `min` of which give it back: beside it, or into the folder that is
+/// given.
 ///
-/// It refuses, beside what the system refuses, where the file is no regular one or changes meanwhile, where
-/// a shard file is there already and is not to be replaced, and where one is there with a number of `total`
-/// or more. Where it refuses, no new shard file is there.
-pub fn split(rt: &HostRuntime, min: u32, total: u32, file: &str, force: bool) -> Result<(), Fault>
+/// It refuses, beside what the system refuses, where the file is no regular one, changes meanwhile or is being
+/// split by another run, where a shard file is there already and is not to be replaced, and where one is there
+/// with a number of `total` or more. Where it refuses, no new shard file is there.
+pub fn split(
+    rt: &HostRuntime,
+    min: u32,
+    total: u32,
+    file: &str,
+    to: Option<&str>,
+    force: bool,
+) -> Result<(), Fault>
     requires some { 1 ≤ min }
     requires within { min ≤ total }
 {
-    let (mut source, length) = open_source(rt, file)?;
-    check_beyond(rt, file, total)?;
+    let (mut source, metadata) = open_source(rt, file)?;
+    let target = target_of(rt, file, to)?;
+    check_beyond(rt, target.as_str(), total)?;
     let block = (Header::largest_block(min, total) / 4).max(1);
     let header = Header {
         index: 0,
         min,
         total,
         block,
-        length,
+        length: metadata.len(),
     };
-    let mut files = ShardFiles::new(rt.alloc(), length);
-    match fill(rt, &mut source, file, &header, force, &mut files) {
+    let how = Manner::new(rt, force, rights_of(&metadata))?;
+    let mut files = ShardFiles::new(rt.alloc(), header.length);
+    let input = Identity::new(&metadata);
+    if let Err(fault) = begin(rt, target.as_str(), input, &header, &how, &mut files) {
+        files.discard(rt);
+        return Err(fault);
+    }
+    match fill(rt, &mut source, file, &header, &mut files) {
         Ok(()) => files.finish(rt),
         Err(fault) => {
             files.discard(rt);
@@ -41,8 +56,18 @@ pub fn split(rt: &HostRuntime, min: u32, total: u32, file: &str, force: bool) ->
     }
 }
 
-/// The regular file with this name, and its length.
-fn open_source(rt: &HostRuntime, file: &str) -> Result<(File, u64), Fault> {
+/// The name that the shard files have before their numbers: that of the file, in its folder or in another
+/// one.
+fn target_of(rt: &HostRuntime, file: &str, to: Option<&str>) -> Result<String, Fault> {
+    let Some(folder) = to else {
+        return owned(rt, file);
+    };
+    let (_, name) = folder_and_name(rt, file)?;
+    Ok(format!(in rt.alloc(); "{folder}/{name}")?)
+}
+
+/// The regular file with this name, which no other run is splitting, and what the system says of it.
+fn open_source(rt: &HostRuntime, file: &str) -> Result<(File, Metadata), Fault> {
     let metadata = match fs::metadata(rt, file) {
         Ok(metadata) => metadata,
         Err(error) => return Err(Fault::File(owned(rt, file)?, error)),
@@ -50,9 +75,14 @@ fn open_source(rt: &HostRuntime, file: &str) -> Result<(File, u64), Fault> {
     if !metadata.is_file() {
         return Err(Fault::NotRegular(owned(rt, file)?));
     }
-    match fs::open(rt, file) {
-        Ok(source) => Ok((source, metadata.len())),
-        Err(error) => Err(Fault::File(owned(rt, file)?, error)),
+    let source = match fs::open(rt, file) {
+        Ok(source) => source,
+        Err(error) => return Err(Fault::File(owned(rt, file)?, error)),
+    };
+    // Where the system has no locks, there is none.
+    match source.try_lock() {
+        Err(TryLockError::WouldBlock) => Err(Fault::Busy(owned(rt, file)?)),
+        _ => Ok((source, metadata)),
     }
 }
 
@@ -65,13 +95,12 @@ fn check_beyond(rt: &HostRuntime, file: &str, total: u32) -> Result<(), Fault> {
     }
 }
 
-/// Begins the shard files, and writes the shards of each block.
+/// Writes the shards of each block.
 fn fill(
     rt: &HostRuntime,
     source: &mut File,
     file: &str,
     split: &Header,
-    force: bool,
     files: &mut ShardFiles,
 ) -> Result<(), Fault>
     requires some { 1 ≤ split.now.min }
@@ -79,24 +108,24 @@ fn fill(
     requires block { 1 ≤ split.now.block }
     ensures { OnOk result (files.new.left ≡ 0) }
 {
-    begin(rt, file, split, force, files)?;
     let mut progress = Progress::new(rt, split.length);
     while files.left > 0 {
         let size = files.left.min(u64::from(split.block));
         let bytes = bytes_of(rt, source, file, size as usize)?;
         let shards = split_block(rt.alloc(), &bytes, split.min, split.total)?;
-        files.write(rt.alloc(), &shards, size)?;
+        files.write(rt, &shards, size)?;
         progress.print_percentage(rt, files.left);
     }
     check_end(rt, source, file)
 }
 
-/// Begins the shard files with their headers.
+/// Begins the shard files with their headers. None of them is the file itself.
 fn begin(
     rt: &HostRuntime,
-    file: &str,
+    target: &str,
+    source: Identity,
     split: &Header,
-    force: bool,
+    how: &Manner,
     files: &mut ShardFiles,
 ) -> Result<(), Fault>
     ensures { files.new.left ≡ files.old.left }
@@ -104,7 +133,9 @@ fn begin(
     for index in 0..split.total {
         let header = Header { index, ..*split };
         let bytes = header_bytes(rt.alloc(), &header)?;
-        files.add(rt, shard_name(rt, file, index)?, force, &bytes)?;
+        let name = shard_name(rt, target, index)?;
+        check_no_input(rt, name.as_str(), source)?;
+        files.add(rt, name, how, &bytes)?;
     }
     Ok(())
 }

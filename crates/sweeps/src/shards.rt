@@ -3,24 +3,44 @@
 use crate::encodings::memory_alone;
 use commonware_math::algebra::Mem;
 use commonware_math::codec::{Read, Write};
-use commonware_math::shards::{Error, Shard, join, split};
+use commonware_math::fields::goldilocks::F;
+use commonware_math::shards::{Error, Joined, Shard, join, join_corrected, split};
 use std::alloc::{AllocError, Global};
 use sweeps_base::table::Calls;
 
 /// What is swept.
-pub const NAMES: [&str; 4] = ["split", "join", "Shard::write", "Shard::read_cfg"];
+pub const NAMES: [&str; 5] = [
+    "split",
+    "join",
+    "join_corrected",
+    "Shard::write",
+    "Shard::read_cfg",
+];
 
 /// Shard 0 of the word 1, of which four are made and three give it back.
 pub const SHARD: [u8; 12] = [0, 3, 4, 1, 0, 0, 0, 0, 0, 0, 0, 3];
 
-/// The words that shards give back, refused for want of memory alone: it is `None` where they are refused
-/// otherwise.
-fn joined(alloc: Global, shards: &[Shard]) -> Mem<Option<Vec<u64>>> {
-    match join(alloc, shards) {
-        Ok(words) => Ok(Some(words)),
+/// What shards give back, refused for want of memory alone: it is `None` where they are refused otherwise.
+fn found<T: Drop>(joined: Result<T, Error>) -> Mem<Option<T>> {
+    match joined {
+        Ok(found) => Ok(Some(found)),
         Err(Error::Memory(refused)) => Err(refused),
         Err(_) => Ok(None),
     }
+}
+
+/// The shards of the word 1, of which three give it back; a cell of the first is another where these are
+/// corrected.
+fn given_shards(alloc: Global, name: &str) -> Mem<Vec<Shard>> {
+    let mut shards = split(alloc, &[1], 3, 5)?;
+    if name == "join_corrected" {
+        if let Some(shard) = shards.first_mut() {
+            if let Some(cell) = shard.cells.first_mut() {
+                *cell = F::from(9);
+            }
+        }
+    }
+    Ok(shards)
 }
 
 /// Writes a shard of fewer than 2^32 cells.
@@ -44,6 +64,7 @@ pub struct Given {
 pub enum Answer {
     Shards(Vec<Shard>),
     Words(Option<Vec<u64>>),
+    Corrected(Option<Joined>),
     Written,
     Shard(Option<Shard>),
 }
@@ -51,9 +72,9 @@ pub enum Answer {
 impl Calls for Given {
     type Answer = Answer;
 
-    fn new(alloc: Global, _name: &str) -> Mem<Given> {
+    fn new(alloc: Global, name: &str) -> Mem<Given> {
         Ok(Given {
-            shards: split(alloc, &[1], 3, 4)?,
+            shards: given_shards(alloc, name)?,
             out: Vec::from_slice(alloc, &[7])?,
             input: &SHARD,
         })
@@ -63,7 +84,8 @@ impl Calls for Given {
         let Given { shards, out, input } = self;
         match name {
             "split" => Ok(Answer::Shards(split(alloc, &[1], 3, 4)?)),
-            "join" => Ok(Answer::Words(joined(alloc, shards)?)),
+            "join" => Ok(Answer::Words(found(join(alloc, shards))?)),
+            "join_corrected" => Ok(Answer::Corrected(found(join_corrected(alloc, shards))?)),
             "Shard::write" => {
                 write_shard(alloc, shards.first().ok_or(AllocError)?, out)?;
                 Ok(Answer::Written)

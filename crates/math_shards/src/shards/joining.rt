@@ -2,7 +2,7 @@
 
 ghost use Rattle.std.specs.Prelude.{◌≡◌, ◌↔◌, ◌+◌, ◌*◌, ◌<◌, ◌≤◌, ◌^◌, ◌++◌, ℕ, List, All, length};
 ghost use Rattle.std.specs.Prelude.{take, IsTrue, IsSome, IfOk, IfErr, IfSome, OnOk, MatchResult};
-ghost use Rattle.std.specs.Prelude.{◌⊎◌};
+ghost use Rattle.std.specs.Prelude.{◌⊎◌, false, replicate};
 ghost use Rattle.std.specs.Int.{IsNextPowerOfTwo, IsPowerOfTwo};
 ghost use Rattle.std.specs.List.{AllZip};
 ghost use Rattle.math_base.specs.Elements.{same};
@@ -11,8 +11,8 @@ ghost use Rattle.math_ntt.specs.Evaluations.{IsFilledAt};
 ghost use Rattle.math_transforms.specs.Matrices.{IsOfSize};
 ghost use Rattle.math_shards.specs.Shards.{counted, JoinTo};
 ghost use Rattle.math_shards.specs.Joining.{ArePolynomialsOf, HoldsIfFilled, HoldsOthers};
-ghost use Rattle.math_shards.specs.Joining.{HoldsShards, IsDue, IsDueBeside, IsMemory, IsSound};
-ghost use Rattle.math_shards.specs.Joining.{Matches, RefusesExactly};
+ghost use Rattle.math_shards.specs.Joining.{HaveConflict, HoldsShards, IsDue, IsMemory, IsSound};
+ghost use Rattle.math_shards.specs.Joining.{IsUnsound, Matches, RefusesExactly};
 ghost use Rattle.math_shards.specs.declared.shards.Error.TheVariants.{TooFew, Mismatch, Index};
 ghost use Rattle.math_shards.specs.declared.shards.Error.TheVariants.{Conflict, Inconsistent};
 
@@ -63,13 +63,10 @@ fn recovered_data(alloc: Global, shards: &[Shard]) -> Result<Vec<u64>, Error>
         return Err(Error::TooFew);
     }
     let recovered = values.recover(alloc)?;
-    let Some(data) = data_in(alloc, &recovered, first.min)? else {
-        return Err(Error::Inconsistent);
-    };
-    if !are_of(alloc, &recovered, &data, first)? {
-        return Err(Error::Inconsistent);
+    match data_of(alloc, &recovered, first)? {
+        Some(data) => Ok(data),
+        None => Err(Error::Inconsistent),
     }
-    Ok(data)
 }
 
 /// Whether the numbers and the number of cells are those of the first shard, and such as shards
@@ -85,9 +82,9 @@ fn matches(first: &Shard, shard: &Shard) -> bool
 }
 
 /// Refuses the first shard that does not match the first one, or whose index is out of range.
-fn check_numbers(shards: &[Shard], first: &Shard) -> Result<(), Error>
+pub(super) fn check_numbers(shards: &[Shard], first: &Shard) -> Result<(), Error>
     ensures ok { IfOk result (λ _. All (IsSound first.now) shards.now) }
-    ensures err { IfErr result (IsDueBeside first.now shards.now) }
+    ensures err { IfErr result (IsUnsound first.now shards.now) }
 {
     for shard in shards {
         if !matches(first, shard) {
@@ -101,7 +98,7 @@ fn check_numbers(shards: &[Shard], first: &Shard) -> Result<(), Error>
 }
 
 /// Whether both have the same cells.
-fn are_equal(cells: &[F], others: &[F]) -> bool
+pub(super) fn are_equal(cells: &[F], others: &[F]) -> bool
     requires { length cells.now ≡ length others.now }
     ensures { IsTrue result ↔ AllZip same cells.now others.now }
 {
@@ -122,20 +119,32 @@ fn lg_of(points: usize) -> usize
     points.trailing_zeros() as usize
 }
 
+/// The vector of values for shards like the first one, of which no row is filled.
+pub(super) fn no_rows(alloc: Global, first: &Shard) -> Mem<EvaluationVector<F>>
+    ensures empty { IfOk result (λ e. (lg : ℕ) × IsNextPowerOfTwo first.now.total (2 ^ lg)
+        × IsOfSize e.matrix (2 ^ lg) (length first.now.cells.items)
+        × (e.filled ≡ replicate (2 ^ lg) false)) }
+    ensures total { IfOk result (λ _. first.now.total < 2 ^ 32) }
+{
+    let points = (first.total as usize).next_power_of_two();
+    let cols = first.cells.len();
+    if points.checked_mul(cols).is_none() {
+        return Err(AllocError);
+    }
+    let values = EvaluationVector::empty(alloc, lg_of(points), cols)?;
+    Ok(values)
+}
+
 /// The vector of values in which the row of each shard's index is filled with its cells.
 fn gathered(alloc: Global, shards: &[Shard], first: &Shard) -> Result<EvaluationVector<F>, Error>
     requires { All (IsSound first.now) shards.now }
     ensures ok { IfOk result (λ e. (lg : ℕ) × IsNextPowerOfTwo first.now.total (2 ^ lg)
         × HoldsShards lg (length first.now.cells.items) shards.now e) }
     ensures total { IfOk result (λ _. first.now.total < 2 ^ 32) }
-    ensures err { IfErr result (IsDueBeside first.now shards.now) }
+    ensures err { IfErr result
+        (λ e. IsMemory e ⊎ ((e ≡ Conflict) × HaveConflict shards.now)) }
 {
-    let points = (first.total as usize).next_power_of_two();
-    let cols = first.cells.len();
-    if points.checked_mul(cols).is_none() {
-        return Err(Error::Memory(AllocError));
-    }
-    let mut values = EvaluationVector::empty(alloc, lg_of(points), cols)?;
+    let mut values = no_rows(alloc, first)?;
     for shard in shards {
         fill_row_of(alloc, &mut values, shard)?;
     }
@@ -213,4 +222,31 @@ fn are_of(alloc: Global, recovered: &PolynomialVector<F>, data: &[u64], first: &
     let polynomials = polynomials(alloc, &rows, first.total)?;
     let answer = recovered.equals(alloc, &polynomials)?;
     Ok(answer)
+}
+
+/// The data whose polynomials these are, where there are such data.
+pub(super) fn data_of(
+    alloc: Global,
+    recovered: &PolynomialVector<F>,
+    first: &Shard,
+) -> Mem<Option<Vec<u64>>>
+    requires some { 1 ≤ first.now.min }
+    requires within { first.now.min ≤ first.now.total }
+    requires size { IsOfSize recovered.now recovered.now.rows (length first.now.cells.items) }
+    requires rows { IsNextPowerOfTwo first.now.total recovered.now.rows }
+    ensures each_word { IfOk result
+        (λ answer. IfSome answer (λ found. All (λ word. word < 2 ^ 64) found.items)) }
+    ensures some { IfOk result (λ answer. IfSome answer
+        (λ found. ArePolynomialsOf found.items first.now.min recovered.now)) }
+    ensures none { (words : List ℕ) → All (λ word. word < 2 ^ 64) words → length words < 2 ^ 64
+        → ArePolynomialsOf words first.now.min recovered.now
+        → IfOk result (λ answer. IsSome answer) }
+{
+    let Some(data) = data_in(alloc, recovered, first.min)? else {
+        return Ok(None);
+    };
+    if !are_of(alloc, recovered, &data, first)? {
+        return Ok(None);
+    }
+    Ok(Some(data))
 }

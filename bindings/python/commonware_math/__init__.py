@@ -1,0 +1,419 @@
+"""Data cut into shards, and polynomials over the Goldilocks field, by a library whose every function is proved.
+
+>>> shards = split(b"any three of five shards give these bytes back", 3, 5)
+>>> join({4: shards[4], 0: shards[0], 2: shards[2]}, 3, 5)
+b'any three of five shards give these bytes back'
+
+An element of the field is a whole number below ``MODULUS``, 2**64 - 2**32 + 1. Words are a contiguous buffer of
+unsigned 64-bit numbers, as ``array('Q')``, a memoryview or an array of numpy; where a call only reads them they may
+be any numbers in a list, too. What a call writes in place it writes without a copy, and not at all where it raises.
+
+No call shares anything with another, and others run meanwhile: calls on buffers of their own may run in threads at
+the same time. Nothing may change a buffer while a call has it.
+"""
+
+from __future__ import annotations
+
+import builtins
+import ctypes
+import sys
+from array import array
+from typing import Any, Iterable, Mapping, Sequence, Union
+
+from . import _library
+from ._library import library as _lib
+
+__all__ = [
+    "MODULUS", "version", "shard_size", "split", "join", "join_corrected", "evaluate", "interpolate", "recover", "correct",
+    "eval", "decode", "weights", "weights_at_roots", "encode_poly", "decode_poly", "Error", "OutOfMemory", "OutOfRange",
+    "WrongSize", "TooFew", "Mismatch", "WrongIndex", "Conflict", "Inconsistent", "EndOfBuffer", "InvalidVarint",
+    "InvalidLength", "ExtraData", "Repeated",
+]
+
+#: P, the modulus of the field
+MODULUS = 2**64 - 2**32 + 1
+
+Words = Union[Sequence[int], "array[int]", memoryview, Any]
+Bytes = Union[bytes, bytearray, memoryview, Any]
+
+
+class Error(Exception):
+    """A call was refused, and nothing was written. ``status`` is what the library answered.
+
+    >>> try:
+    ...     eval([MODULUS], 5)
+    ... except Error as error:
+    ...     print(error.status, error)
+    2 out of range
+    """
+
+    status: int = 0
+
+    def __init__(self) -> None:
+        text = ctypes.create_string_buffer(32)
+        _lib.cwm_status_text(self.status, text, len(text))
+        super().__init__(text.value.decode())
+
+
+class OutOfMemory(Error, MemoryError):
+    """Memory ran out."""
+
+    status = 1
+
+
+class OutOfRange(Error, ValueError):
+    """A word is ``MODULUS`` or more, or a byte that says whether a row is filled is neither 0 nor 1."""
+
+    status = 2
+
+
+class WrongSize(Error, ValueError):
+    """A number of words, rows or columns is none that the call takes."""
+
+    status = 3
+
+
+class TooFew(Error):
+    """Fewer than ``min`` shards are there, or fewer filled rows than coefficients."""
+
+    status = 4
+
+
+class Mismatch(Error, ValueError):
+    """Not 1 <= ``min`` <= ``total``, or shards of different lengths."""
+
+    status = 5
+
+
+class WrongIndex(Error, ValueError):
+    """An index is not below the total, or of weights not above the one before it."""
+
+    status = 6
+
+
+class Conflict(Error):
+    """Two shards have one index and unequal words. A mapping has no such: ``join`` never raises it."""
+
+    status = 7
+
+
+class Inconsistent(Error):
+    """Nothing fits: the shards are those of no data, or no polynomial is near the values."""
+
+    status = 8
+
+
+class EndOfBuffer(Error, ValueError):
+    """The bytes end within a polynomial."""
+
+    status = 9
+
+
+class InvalidVarint(Error, ValueError):
+    """The bytes begin with no length."""
+
+    status = 10
+
+
+class InvalidLength(Error, ValueError):
+    """The length is zero."""
+
+    status = 11
+
+
+class ExtraData(Error, ValueError):
+    """Bytes follow the polynomial."""
+
+    status = 12
+
+
+class Repeated(Error, ValueError):
+    """A point is there twice."""
+
+    status = 13
+
+
+_ERRORS = {error.status: error for error in Error.__subclasses__()}
+
+
+def _done(status: int) -> None:
+    if status:
+        raise _ERRORS[status]()
+
+
+def _number(value: int, bits: int) -> int:
+    """The number, where so many bits hold it: ctypes would cut it off."""
+    if not 0 <= value < 1 << bits:
+        raise OverflowError(f"{value} is no number of {bits} bits")
+    return value
+
+
+def _indices(values: Iterable[int]) -> tuple[Any, int]:
+    numbers = [_number(value, 32) for value in values]
+    return (ctypes.c_uint32 * max(1, len(numbers)))(*numbers), len(numbers)
+
+
+def _marks(filled: Any) -> tuple[Any, int]:
+    """One byte a row: those of a buffer of bytes, or what is true of other items."""
+    try:
+        are_bytes = memoryview(filled).itemsize == 1
+    except TypeError:
+        are_bytes = False
+    return _library.read_bytes(filled if are_bytes else bytes(bool(item) for item in filled))
+
+
+def _array(at: Any, count: int) -> "array[int]":
+    found = array("Q")
+    found.frombytes(memoryview(at).cast("B")[: 8 * count])
+    return found
+
+
+def version() -> tuple[int, int, int]:
+    """The version of the library: major, minor and patch.
+
+    >>> version() >= (1, 0, 0)
+    True
+    """
+    number: int = _lib.cwm_version()
+    return number // 10000, number // 100 % 100, number % 100
+
+
+def shard_size(length: int, min: int, total: int) -> int:
+    """How many bytes each of ``total`` shards of so many bytes has, of which any ``min`` give them back.
+
+    >>> shard_size(1000, 4, 6)
+    264
+    """
+    size = ctypes.c_size_t()
+    _done(_lib.cwm_shard_bytes_sizes(_number(length, 64), _number(min, 32), _number(total, 32), ctypes.byref(size)))
+    return size.value
+
+
+def split(data: Bytes, min: int, total: int) -> list[bytes]:
+    """The shards of the bytes: ``total`` of one length each, of which any ``min`` give the bytes back.
+
+    Keep the index of each beside it, and ``min`` and ``total``. The shards hide nothing of the data. Cut large data
+    into blocks of some 256 KiB and split each by itself: that is faster, and takes little memory.
+
+    >>> shards = split(b"0123456789", 2, 3)
+    >>> [len(shard) for shard in shards]
+    [24, 24, 24]
+    """
+    at, count = _library.read_bytes(data)
+    size = shard_size(count, min, total)
+    out = _library.bytes_of(total * size)
+    _done(_lib.cwm_split_bytes(at, count, min, total, out, total * size))
+    view = memoryview(out).cast("B")
+    return [bytes(view[i * size : (i + 1) * size]) for i in range(total)]
+
+
+def join(shards: Mapping[int, Bytes], min: int, total: int) -> bytes:
+    """The bytes that the shards, each under its index, give back: ``min`` of them or more.
+
+    Where there are more than ``min``, damage to one is sure to be found, and raises ``Inconsistent`` or
+    ``OutOfRange``; where there are just ``min``, it may not be. Bound ``total`` before you join shards of strangers:
+    the memory that is taken grows with it.
+
+    >>> shards = split(b"0123456789", 2, 3)
+    >>> join({2: shards[2], 0: shards[0]}, 2, 3)
+    b'0123456789'
+    >>> join({2: shards[2]}, 2, 3)
+    Traceback (most recent call last):
+    commonware_math.TooFew: too few
+    """
+    indices, count = _indices(shards)
+    rows = [memoryview(shard) for shard in shards.values()]
+    if any(row.nbytes != rows[0].nbytes for row in rows):
+        raise Mismatch()
+    together = b"".join(rows)
+    at, length = _library.read_bytes(together)
+    room = builtins.min(_number(min, 32), count) * (length // count if count else 0)
+    out, written = _library.bytes_of(room), ctypes.c_size_t()
+    _done(_lib.cwm_join_bytes(indices, count, min, _number(total, 32), at, length, out, room, ctypes.byref(written)))
+    return bytes(memoryview(out).cast("B")[: written.value])
+
+
+def join_corrected(shards: Mapping[int, Bytes], min: int, total: int) -> tuple[bytes, list[int]]:
+    """As ``join``, where some of the shards are wrong and nobody knows which: gives the bytes, and the indices of those.
+
+    Of n shards at most (n - min) / 2 may be wrong. Where no bytes are so near, it raises ``Inconsistent``.
+
+    >>> shards = split(b"0123456789", 2, 4)
+    >>> join_corrected({0: shards[0], 1: shards[1], 2: shards[0], 3: shards[3]}, 2, 4)
+    (b'0123456789', [2])
+    """
+    indices, count = _indices(shards)
+    rows = [memoryview(shard) for shard in shards.values()]
+    if any(row.nbytes != rows[0].nbytes for row in rows):
+        raise Mismatch()
+    together = b"".join(rows)
+    if len(together) % 8:
+        raise WrongSize()
+    cells = array("Q", together)
+    if sys.byteorder == "little":
+        cells.byteswap()
+    at, length = _library.read(cells)
+    room = builtins.min(_number(min, 32), count) * (length // count if count else 0)
+    out, written, many = _library.words(room), ctypes.c_size_t(), ctypes.c_size_t()
+    wrong = (ctypes.c_size_t * builtins.max(1, count))()
+    _done(
+        _lib.cwm_join_corrected(
+            indices, count, min, _number(total, 32), at, length, out, room, ctypes.byref(written), wrong, count, ctypes.byref(many)
+        )
+    )
+    # The words are the number of the bytes, and then these, the lowest first, with zeros after the last.
+    words = _array(out, written.value)
+    size = words[0] if words else 0
+    if not words or -(-size // 8) != len(words) - 1:
+        raise Inconsistent()
+    if sys.byteorder == "big":
+        words.byteswap()
+    data = words[1:].tobytes()
+    if any(data[size:]):
+        raise Inconsistent()
+    return data[:size], sorted(indices[i] for i in wrong[: many.value])
+
+
+def evaluate(cells: Words, cols: int = 1) -> None:
+    """Puts the values at all points of a domain in place of the coefficients, in each column.
+
+    Cell (i, k) is ``cells[i * cols + k]``. There are N rows, a power of two; row i holds coefficient i of each
+    polynomial, and gets the values at point i, power i of the root of order N.
+
+    >>> cells = array("Q", [4, 6, 8, 0])
+    >>> evaluate(cells)
+    >>> cells[0] == 4 + 6 + 8
+    True
+    """
+    at, count = _library.borrowed(cells)
+    _done(_lib.cwm_evaluate(at, count, _number(cols, 64)))
+
+
+def interpolate(cells: Words, cols: int = 1) -> None:
+    """The way back from ``evaluate``: puts the coefficients in place of the values, in each column.
+
+    >>> cells = array("Q", [4, 6, 8, 0])
+    >>> evaluate(cells)
+    >>> interpolate(cells)
+    >>> list(cells)
+    [4, 6, 8, 0]
+    """
+    at, count = _library.borrowed(cells)
+    _done(_lib.cwm_interpolate(at, count, _number(cols, 64)))
+
+
+def recover(cells: Words, filled: Any, cols: int = 1) -> None:
+    """Puts the coefficients in place of the values of the rows that are filled; the other rows may hold anything.
+
+    ``filled`` has one item a row. Polynomials of at most m coefficients come back from any m rows.
+
+    >>> cells = array("Q", [4, 6, 0, 0])
+    >>> evaluate(cells)
+    >>> cells[0] = cells[3] = 0
+    >>> recover(cells, [False, True, True, False])
+    >>> list(cells)
+    [4, 6, 0, 0]
+    """
+    at, count = _library.borrowed(cells)
+    marks, rows = _marks(filled)
+    _done(_lib.cwm_recover(at, count, _number(cols, 64), marks, rows))
+
+
+def correct(cells: Words, filled: Any, count: int, cols: int = 1) -> list[int]:
+    """As ``recover``, where some of the filled rows are wrong: gives which, by rising number.
+
+    The polynomials have at most ``count`` coefficients; of m filled rows at most (m - count) / 2 may be wrong. Where
+    no polynomials are so near, it raises ``Inconsistent``.
+
+    >>> cells = array("Q", [4, 6, 0, 0])
+    >>> evaluate(cells)
+    >>> cells[2] += 1
+    >>> correct(cells, [True] * 4, 2), list(cells)
+    ([2], [4, 6, 0, 0])
+    """
+    at, length = _library.borrowed(cells)
+    marks, rows = _marks(filled)
+    room = rows // 2
+    wrong, written = (ctypes.c_size_t * builtins.max(1, room))(), ctypes.c_size_t()
+    _done(_lib.cwm_correct(at, length, _number(cols, 64), marks, rows, _number(count, 64), wrong, room, ctypes.byref(written)))
+    return list(wrong[: written.value])
+
+
+def eval(coefficients: Words, x: int) -> int:
+    """The value at x of the polynomial with these coefficients, from the constant upwards.
+
+    >>> eval([4, 6, 8], 5)
+    234
+    """
+    at, count = _library.read(coefficients)
+    value = ctypes.c_uint64()
+    _done(_lib.cwm_eval(at, count, _number(x, 64), ctypes.byref(value)))
+    return value.value
+
+
+def decode(points: Words, values: Words, count: int) -> tuple["array[int]", list[int]]:
+    """The ``count`` coefficients of the only polynomial that has all n values but at most (n - count) / 2, and the
+    places of those.
+
+    >>> coefficients, wrong = decode([1, 2, 3, 4], [3, 5, 8, 9], 2)
+    >>> list(coefficients), wrong
+    ([1, 2], [2])
+    """
+    points_at, n = _library.read(points)
+    values_at, m = _library.read(values)
+    room = builtins.max(0, n - _number(count, 64)) // 2
+    found = _library.words(builtins.min(count, n + 1))
+    wrong, written = (ctypes.c_size_t * builtins.max(1, room))(), ctypes.c_size_t()
+    count = builtins.min(count, n + 1)
+    _done(_lib.cwm_decode(points_at, n, values_at, m, found, count, wrong, room, ctypes.byref(written)))
+    return _array(found, count), list(wrong[: written.value])
+
+
+def weights(points: Words, x: int) -> "array[int]":
+    """For each of n points a weight: the values at the points, each times its weight, add up to the value at x, for
+    every polynomial of at most n coefficients.
+
+    >>> list(weights([1, 2], 3)) == [MODULUS - 1, 2]
+    True
+    """
+    at, count = _library.read(points)
+    found = _library.words(count)
+    _done(_lib.cwm_weights(at, count, _number(x, 64), found, count))
+    return _array(found, count)
+
+
+def weights_at_roots(total: int, indices: Iterable[int], x: int) -> "array[int]":
+    """The same weights for the points of a domain that have these indices, which rise and are below ``total``. The
+    domain has ``total`` points, rounded up to a power of two.
+
+    >>> list(weights_at_roots(2, [0, 1], 1))
+    [1, 0]
+    """
+    at, count = _indices(indices)
+    found = _library.words(count)
+    _done(_lib.cwm_weights_at_roots(_number(total, 32), at, count, _number(x, 64), found, count))
+    return _array(found, count)
+
+
+def encode_poly(coefficients: Words) -> bytes:
+    """The encoding of the polynomial: how many coefficients, then each as 8 bytes, highest first.
+
+    >>> encode_poly([4, 6]).hex()
+    '0200000000000000040000000000000006'
+    """
+    at, count = _library.read(coefficients)
+    out, written = _library.bytes_of(8 * count + 5), ctypes.c_size_t()
+    _done(_lib.cwm_encode_poly(at, count, out, 8 * count + 5, ctypes.byref(written)))
+    return bytes(out[: written.value])
+
+
+def decode_poly(encoded: Bytes) -> "array[int]":
+    """The coefficients of the polynomial that the bytes encode, and nothing more.
+
+    >>> list(decode_poly(encode_poly([4, 6])))
+    [4, 6]
+    """
+    at, count = _library.read_bytes(encoded)
+    found, written = _library.words(count // 8), ctypes.c_size_t()
+    _done(_lib.cwm_decode_poly(at, count, found, count // 8, ctypes.byref(written)))
+    return _array(found, written.value)

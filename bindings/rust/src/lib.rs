@@ -1,0 +1,441 @@
+//! Data cut into shards, and polynomials over the Goldilocks field, by a library whose every function is proved.
+//!
+//! ```
+//! let data = b"any three of five shards give these bytes back";
+//! let shards = commonware_math::split_bytes(data, 3, 5)?;
+//! let left = [(4, &shards[4]), (0, &shards[0]), (2, &shards[2])];
+//! assert_eq!(commonware_math::join_bytes(&left, 3, 5)?, data);
+//! # Ok::<(), commonware_math::Error>(())
+//! ```
+//!
+//! An element of the field is a whole number below [`MODULUS`], in a `u64`. Cells lie row by row: cell (i, k) is
+//! `cells[i * cols + k]`, and each column is a polynomial of its own. A domain has N points, N a power of two up to
+//! 2^32: point i is power i of the root of order N.
+//!
+//! What a call writes in place it does not change where it is refused. No call shares anything with another, so calls
+//! may run in threads at the same time.
+#![deny(missing_docs, unsafe_op_in_unsafe_fn)]
+#![deny(unsafe_code)]
+
+#[allow(unsafe_code, missing_docs)]
+mod library;
+
+use std::fmt;
+
+/// P, the modulus of the field: 2^64 - 2^32 + 1.
+pub const MODULUS: u64 = 0xffff_ffff_0000_0001;
+
+/// Why a call was refused.
+#[derive(Clone, Copy, Debug, PartialEq, Eq, Hash)]
+#[non_exhaustive]
+pub enum Error {
+    /// Memory ran out.
+    OutOfMemory,
+    /// A word is [`MODULUS`] or more.
+    OutOfRange,
+    /// A number of words, rows or columns is none that the call takes.
+    WrongSize,
+    /// Fewer than `min` distinct indices of shards are there, or fewer filled rows than coefficients.
+    TooFew,
+    /// Not 1 <= `min` <= `total`, or shards of different lengths.
+    Mismatch,
+    /// An index is not below the total, or of weights not above the one before it.
+    WrongIndex,
+    /// Two shards have one index and unequal words.
+    Conflict,
+    /// Nothing fits: the shards are those of no data, or no polynomial is near the values.
+    Inconsistent,
+    /// The bytes end within a polynomial.
+    EndOfBuffer,
+    /// The bytes begin with no length.
+    InvalidVarint,
+    /// The length is zero.
+    InvalidLength,
+    /// Bytes follow the polynomial.
+    ExtraData,
+    /// A point is there twice.
+    Repeated,
+    /// A status that this package doesn't know.
+    Unknown(u32),
+}
+
+/// The errors, by their statuses from 1 on.
+const ERRORS: [Error; 13] = [
+    Error::OutOfMemory,
+    Error::OutOfRange,
+    Error::WrongSize,
+    Error::TooFew,
+    Error::Mismatch,
+    Error::WrongIndex,
+    Error::Conflict,
+    Error::Inconsistent,
+    Error::EndOfBuffer,
+    Error::InvalidVarint,
+    Error::InvalidLength,
+    Error::ExtraData,
+    Error::Repeated,
+];
+
+impl Error {
+    fn of_status(status: u32) -> Error {
+        let place = (status as usize).wrapping_sub(1);
+        ERRORS.get(place).copied().unwrap_or(Error::Unknown(status))
+    }
+
+    /// The number that the library has for it.
+    ///
+    /// ```
+    /// assert_eq!(commonware_math::Error::OutOfRange.status(), 2);
+    /// ```
+    pub fn status(self) -> u32 {
+        match self {
+            Error::Unknown(status) => status,
+            _ => ERRORS.iter().position(|error| *error == self).map_or(0, |place| place as u32 + 1),
+        }
+    }
+}
+
+impl fmt::Display for Error {
+    fn fmt(&self, f: &mut fmt::Formatter<'_>) -> fmt::Result {
+        f.write_str(&library::status_text(self.status()))
+    }
+}
+
+impl std::error::Error for Error {}
+
+/// The version of the library: major, minor and patch.
+///
+/// ```
+/// assert_eq!(commonware_math::version().0, 1);
+/// ```
+pub fn version() -> (u32, u32, u32) {
+    let number = library::version();
+    (number / 10_000, number / 100 % 100, number % 100)
+}
+
+/// So many items, all zero.
+fn zeros<T: Clone + Default>(count: usize) -> Result<Vec<T>, Error> {
+    let mut items = Vec::new();
+    items.try_reserve_exact(count).map_err(|_| Error::OutOfMemory)?;
+    items.resize(count, T::default());
+    Ok(items)
+}
+
+/// The value at x of the polynomial with these coefficients, from the constant upwards.
+///
+/// There are 1 to 2^32 - 1 of them, else [`Error::WrongSize`].
+///
+/// ```
+/// // 4 + 6 X + 8 X^2
+/// assert_eq!(commonware_math::eval(&[4, 6, 8], 5)?, 234);
+/// # Ok::<(), commonware_math::Error>(())
+/// ```
+pub fn eval(coefficients: &[u64], x: u64) -> Result<u64, Error> {
+    let mut value = 0;
+    library::eval(coefficients, x, &mut value)?;
+    Ok(value)
+}
+
+/// Puts the values at all points of a domain in place of the coefficients, in each column.
+///
+/// Row i holds coefficient i of each polynomial, and gets the values at point i. `cols` is 1 or more and the number of
+/// rows a power of two, else [`Error::WrongSize`].
+///
+/// ```
+/// let mut cells = [4, 6, 8, 0];
+/// commonware_math::evaluate(&mut cells, 1)?;
+/// assert_eq!(cells[0], 4 + 6 + 8);
+/// # Ok::<(), commonware_math::Error>(())
+/// ```
+pub fn evaluate(cells: &mut [u64], cols: usize) -> Result<(), Error> {
+    library::evaluate(cells, cols)
+}
+
+/// The way back from [`evaluate`]: puts the coefficients in place of the values, in each column.
+///
+/// ```
+/// let mut cells = [4, 6, 8, 0];
+/// commonware_math::evaluate(&mut cells, 1)?;
+/// commonware_math::interpolate(&mut cells, 1)?;
+/// assert_eq!(cells, [4, 6, 8, 0]);
+/// # Ok::<(), commonware_math::Error>(())
+/// ```
+pub fn interpolate(cells: &mut [u64], cols: usize) -> Result<(), Error> {
+    library::interpolate(cells, cols)
+}
+
+/// Puts the coefficients in place of the values of the rows that are filled; the other rows may hold anything.
+///
+/// `filled` has one item a row. Polynomials of at most m coefficients come back from any m rows.
+///
+/// ```
+/// let mut cells = [4, 6, 0, 0];
+/// commonware_math::evaluate(&mut cells, 1)?;
+/// cells[0] = u64::MAX;
+/// cells[3] = u64::MAX;
+/// commonware_math::recover(&mut cells, 1, &[false, true, true, false])?;
+/// assert_eq!(cells, [4, 6, 0, 0]);
+/// # Ok::<(), commonware_math::Error>(())
+/// ```
+pub fn recover(cells: &mut [u64], cols: usize, filled: &[bool]) -> Result<(), Error> {
+    library::recover(cells, cols, filled)
+}
+
+/// As [`recover`], where some of the filled rows are wrong: gives which, by rising number.
+///
+/// The polynomials have at most `count` coefficients; of m filled rows at most (m - count) / 2 may be wrong. Where no
+/// polynomials are so near: [`Error::Inconsistent`].
+///
+/// ```
+/// let mut cells = [4, 6, 0, 0];
+/// commonware_math::evaluate(&mut cells, 1)?;
+/// cells[2] += 1;
+/// assert_eq!(commonware_math::correct(&mut cells, 1, &[true; 4], 2)?, [2]);
+/// assert_eq!(cells, [4, 6, 0, 0]);
+/// # Ok::<(), commonware_math::Error>(())
+/// ```
+pub fn correct(cells: &mut [u64], cols: usize, filled: &[bool], count: usize) -> Result<Vec<usize>, Error> {
+    let mut wrong = zeros(filled.len() / 2)?;
+    let mut written = 0;
+    library::correct(cells, cols, filled, count, &mut wrong, &mut written)?;
+    wrong.truncate(written);
+    Ok(wrong)
+}
+
+/// What [`decode`] found.
+#[derive(Clone, Debug, PartialEq, Eq)]
+pub struct Decoded {
+    /// The coefficients, from the constant upwards.
+    pub coefficients: Vec<u64>,
+    /// The places of the values that are wrong, by rising number.
+    pub wrong: Vec<usize>,
+}
+
+/// The `count` coefficients of the only polynomial that has all n values at the points but at most (n - count) / 2.
+///
+/// Where there is none: [`Error::Inconsistent`]; where a point is there twice: [`Error::Repeated`].
+///
+/// ```
+/// // 1 + 2 X, and one value that is not
+/// let found = commonware_math::decode(&[1, 2, 3, 4], &[3, 5, 8, 9], 2)?;
+/// assert_eq!(found.coefficients, [1, 2]);
+/// assert_eq!(found.wrong, [2]);
+/// # Ok::<(), commonware_math::Error>(())
+/// ```
+pub fn decode(points: &[u64], values: &[u64], count: usize) -> Result<Decoded, Error> {
+    if count > points.len() {
+        return Err(Error::WrongSize);
+    }
+    let mut coefficients = zeros(count)?;
+    let mut wrong = zeros((points.len() - count) / 2)?;
+    let mut written = 0;
+    library::decode(points, values, &mut coefficients, &mut wrong, &mut written)?;
+    wrong.truncate(written);
+    Ok(Decoded { coefficients, wrong })
+}
+
+/// For each of n points a weight: the values at the points, each times its weight, add up to the value at x, for every
+/// polynomial of at most n coefficients.
+///
+/// Where x is one of the points, the first such has weight 1 and the others 0; and else, where a point is there twice,
+/// all weights are 0.
+///
+/// ```
+/// assert_eq!(commonware_math::weights(&[1, 2], 3)?, [commonware_math::MODULUS - 1, 2]);
+/// # Ok::<(), commonware_math::Error>(())
+/// ```
+pub fn weights(points: &[u64], x: u64) -> Result<Vec<u64>, Error> {
+    let mut found = zeros(points.len())?;
+    library::weights(points, x, &mut found)?;
+    Ok(found)
+}
+
+/// The same weights for the points of a domain that have these indices, which rise and are below `total`. The domain
+/// has `total` points, rounded up to a power of two.
+///
+/// ```
+/// assert_eq!(commonware_math::weights_at_roots(2, &[0, 1], 1)?, [1, 0]);
+/// # Ok::<(), commonware_math::Error>(())
+/// ```
+pub fn weights_at_roots(total: u32, indices: &[u32], x: u64) -> Result<Vec<u64>, Error> {
+    let mut found = zeros(indices.len())?;
+    library::weights_at_roots(total, indices, x, &mut found)?;
+    Ok(found)
+}
+
+/// The encoding of the polynomial: how many coefficients, then each as 8 bytes, highest first.
+///
+/// ```
+/// let bytes = commonware_math::encode_poly(&[4, 6])?;
+/// assert_eq!(bytes, [2, 0, 0, 0, 0, 0, 0, 0, 4, 0, 0, 0, 0, 0, 0, 0, 6]);
+/// # Ok::<(), commonware_math::Error>(())
+/// ```
+pub fn encode_poly(coefficients: &[u64]) -> Result<Vec<u8>, Error> {
+    let mut out = zeros(coefficients.len().saturating_mul(8).saturating_add(5))?;
+    let mut written = 0;
+    library::encode_poly(coefficients, &mut out, &mut written)?;
+    out.truncate(written);
+    Ok(out)
+}
+
+/// The coefficients of the polynomial that the bytes encode, and nothing more.
+///
+/// ```
+/// let bytes = commonware_math::encode_poly(&[4, 6])?;
+/// assert_eq!(commonware_math::decode_poly(&bytes)?, [4, 6]);
+/// assert_eq!(commonware_math::decode_poly(&bytes[..9]), Err(commonware_math::Error::EndOfBuffer));
+/// # Ok::<(), commonware_math::Error>(())
+/// ```
+pub fn decode_poly(bytes: &[u8]) -> Result<Vec<u64>, Error> {
+    let mut out = zeros(bytes.len() / 8)?;
+    let mut count = 0;
+    library::decode_poly(bytes, &mut out, &mut count)?;
+    out.truncate(count);
+    Ok(out)
+}
+
+/// How many words each of `total` shards of so many words has, of which any `min` give them back.
+///
+/// ```
+/// assert_eq!(commonware_math::shard_sizes(10, 4, 8)?, 3);
+/// # Ok::<(), commonware_math::Error>(())
+/// ```
+pub fn shard_sizes(words: usize, min: u32, total: u32) -> Result<usize, Error> {
+    let mut cells = 0;
+    library::shard_sizes(words, min, total, &mut cells)?;
+    Ok(cells)
+}
+
+/// The shards of the words: `total` rows of as many words as [`shard_sizes`] says, of which any `min` give the data
+/// back. Words of the data may be any; those of shards are below [`MODULUS`].
+///
+/// ```
+/// let (min, total) = (4, 8);
+/// let data = [u64::MAX; 10];
+/// let size = commonware_math::shard_sizes(data.len(), min, total)?;
+/// let shards = commonware_math::split(&data, min, total)?;
+/// assert_eq!(shards.len(), total as usize * size);
+/// # Ok::<(), commonware_math::Error>(())
+/// ```
+pub fn split(data: &[u64], min: u32, total: u32) -> Result<Vec<u64>, Error> {
+    let mut cells = zeros(total as usize * shard_sizes(data.len(), min, total)?)?;
+    library::split(data, min, total, &mut cells)?;
+    Ok(cells)
+}
+
+/// The words that the shards give back: row i of the cells is the shard with index i of the indices.
+///
+/// Where more than `min` distinct indices are there, damage to one shard is sure to be found, and where there are just
+/// `min` it may not be. Bound `total` before you join shards of strangers: the memory that is taken grows with it.
+///
+/// ```
+/// let shards = commonware_math::split(&[7, 8, 9], 1, 2)?;
+/// let second = &shards[shards.len() / 2..];
+/// assert_eq!(commonware_math::join(&[1], 1, 2, second)?, [7, 8, 9]);
+/// # Ok::<(), commonware_math::Error>(())
+/// ```
+pub fn join(indices: &[u32], min: u32, total: u32, cells: &[u64]) -> Result<Vec<u64>, Error> {
+    let cols = cells.len() / indices.len().max(1);
+    let mut data = zeros((min as usize).min(indices.len()) * cols)?;
+    let mut written = 0;
+    library::join(indices, min, total, cells, &mut data, &mut written)?;
+    data.truncate(written);
+    Ok(data)
+}
+
+/// What [`join_corrected`] found.
+#[derive(Clone, Debug, PartialEq, Eq)]
+pub struct Joined {
+    /// The words of the data.
+    pub data: Vec<u64>,
+    /// The rows that are no shards of the data, by rising number.
+    pub left_out: Vec<usize>,
+}
+
+/// As [`join`], where some of the shards are wrong and nobody knows which: gives the data and the rows that are wrong.
+///
+/// An index whose shards have unequal cells counts as missing. Of i distinct indices that are left at most
+/// (i - `min`) / 2 may have wrong shards; where there are no data so near: [`Error::Inconsistent`].
+///
+/// ```
+/// let mut shards = commonware_math::split(&[7, 8, 9], 1, 3)?;
+/// let size = shards.len() / 3;
+/// shards[2 * size] ^= 1;
+/// let found = commonware_math::join_corrected(&[0, 1, 2], 1, 3, &shards)?;
+/// assert_eq!(found.data, [7, 8, 9]);
+/// assert_eq!(found.left_out, [2]);
+/// # Ok::<(), commonware_math::Error>(())
+/// ```
+pub fn join_corrected(indices: &[u32], min: u32, total: u32, cells: &[u64]) -> Result<Joined, Error> {
+    let cols = cells.len() / indices.len().max(1);
+    let mut data = zeros((min as usize).min(indices.len()) * cols)?;
+    let mut left_out = zeros(indices.len())?;
+    let (mut written, mut many) = (0, 0);
+    library::join_corrected(indices, min, total, cells, &mut data, &mut written, &mut left_out, &mut many)?;
+    data.truncate(written);
+    left_out.truncate(many);
+    Ok(Joined { data, left_out })
+}
+
+/// How many bytes each of `total` shards of so many bytes has, of which any `min` give them back.
+///
+/// ```
+/// assert_eq!(commonware_math::shard_bytes_sizes(1000, 4, 6)?, 264);
+/// # Ok::<(), commonware_math::Error>(())
+/// ```
+pub fn shard_bytes_sizes(bytes: usize, min: u32, total: u32) -> Result<usize, Error> {
+    let mut size = 0;
+    library::shard_bytes_sizes(bytes, min, total, &mut size)?;
+    Ok(size)
+}
+
+/// The shards of the bytes: `total` of one length each, of which any `min` give the bytes back.
+///
+/// Keep the index of each beside it, and `min` and `total`; how many bytes there were need not be kept. The shards hide
+/// nothing of the data. Cut large data into blocks of some 256 KiB and split each by itself: that is faster, and takes
+/// little memory.
+///
+/// ```
+/// let shards = commonware_math::split_bytes(b"0123456789", 2, 3)?;
+/// assert_eq!(shards.iter().map(Vec::len).collect::<Vec<_>>(), [24, 24, 24]);
+/// # Ok::<(), commonware_math::Error>(())
+/// ```
+pub fn split_bytes(data: &[u8], min: u32, total: u32) -> Result<Vec<Vec<u8>>, Error> {
+    let size = shard_bytes_sizes(data.len(), min, total)?;
+    let mut shards = zeros(total as usize * size)?;
+    library::split_bytes(data, min, total, &mut shards)?;
+    Ok(shards.chunks_exact(size).map(<[u8]>::to_vec).collect())
+}
+
+/// The bytes that the shards, each beside its index, give back: `min` of them or more, in any order.
+///
+/// Shards of different lengths are refused with [`Error::Mismatch`]. Where more than `min` distinct indices are there,
+/// damage to one shard is sure to be found, and where there are just `min` it may not be. Bound `total` before you join
+/// shards of strangers: the memory that is taken grows with it.
+///
+/// ```
+/// use commonware_math::{join_bytes, split_bytes, Error};
+///
+/// let shards = split_bytes(b"0123456789", 2, 3)?;
+/// assert_eq!(join_bytes(&[(2, &shards[2]), (0, &shards[0])], 2, 3)?, b"0123456789");
+/// assert_eq!(join_bytes(&[(2, &shards[2])], 2, 3), Err(Error::TooFew));
+/// # Ok::<(), Error>(())
+/// ```
+pub fn join_bytes<S: AsRef<[u8]>>(shards: &[(u32, S)], min: u32, total: u32) -> Result<Vec<u8>, Error> {
+    let size = shards.first().map_or(0, |(_, shard)| shard.as_ref().len());
+    let mut together = Vec::new();
+    together.try_reserve_exact(size.saturating_mul(shards.len())).map_err(|_| Error::OutOfMemory)?;
+    let mut indices = Vec::new();
+    for (index, shard) in shards {
+        if shard.as_ref().len() != size {
+            return Err(Error::Mismatch);
+        }
+        indices.push(*index);
+        together.extend_from_slice(shard.as_ref());
+    }
+    let mut data = zeros((min as usize).min(shards.len()) * size)?;
+    let mut written = 0;
+    library::join_bytes(&indices, min, total, &together, &mut data, &mut written)?;
+    data.truncate(written);
+    Ok(data)
+}

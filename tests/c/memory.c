@@ -1,0 +1,165 @@
+/* How much memory each call takes at most, counted in the bytes that are asked for, beside the bound that the header says.
+ *
+ * It is linked to the archive with malloc, realloc and free wrapped. A line for each call; the status is 1 where one takes more. */
+#include "commonware_math.h"
+
+#include <stdio.h>
+#include <stdlib.h>
+#include <string.h>
+
+void *__real_malloc(size_t size);
+void __real_free(void *at);
+
+enum { BEFORE = 16 };
+static size_t now, peak;
+
+/* A block with its size in front. */
+void *__wrap_malloc(size_t size) {
+  char *at = __real_malloc(size + BEFORE);
+  if (at == NULL) return NULL;
+  memcpy(at, &size, sizeof size);
+  now += size;
+  if (now > peak) peak = now;
+  return at + BEFORE;
+}
+
+void __wrap_free(void *at) {
+  size_t size;
+  if (at == NULL) return;
+  memcpy(&size, (char *)at - BEFORE, sizeof size);
+  now -= size;
+  __real_free((char *)at - BEFORE);
+}
+
+/* As a block may be that can't grow where it lies: the old one and the new one are there at once. */
+void *__wrap_realloc(void *at, size_t size) {
+  size_t old;
+  if (at == NULL) return __wrap_malloc(size);
+  memcpy(&old, (char *)at - BEFORE, sizeof old);
+  void *to = __wrap_malloc(size);
+  if (to == NULL) return NULL;
+  memcpy(to, at, old < size ? old : size);
+  __wrap_free(at);
+  return to;
+}
+
+/* For each call the most that was taken, in parts of its words, and what the header allows. */
+static struct {
+  const char *name;
+  double most, taken;
+} calls[20];
+static int failed;
+
+/* What was taken since the last count, beside so many words. */
+static void count(const char *name, uint32_t status, double most, size_t words) {
+  double taken = (double)peak / 8 / (double)words;
+  int i = 0;
+  while (calls[i].name != NULL && strcmp(calls[i].name, name) != 0) i++;
+  calls[i].name = name, calls[i].most = most;
+  if (taken > calls[i].taken) calls[i].taken = taken;
+  if (status != CWM_DONE || now != 0) failed = 1, printf("%s: %s, %zu bytes kept\n", name, cwm_status_name(status), now);
+  peak = 0;
+}
+
+static void *block(size_t size) {
+  void *at = __real_malloc(size);
+  if (at == NULL) exit(2);
+  return at;
+}
+
+enum { LG = 12, ROWS = 1 << LG, MOST_COLS = 16, CELLS = ROWS * MOST_COLS, POINTS = 256, BLOCK = 1 << 16, ROOM = 1 << 22 };
+
+static uint64_t *a, *b, *c;
+static uint8_t *filled;
+static size_t *wrong, written;
+static uint32_t *indices;
+
+/* Words below P. */
+static void fill(uint64_t *at, size_t n) {
+  for (size_t i = 0; i < n; i++) at[i] = i * 0x9e3779b97f4a7c15 % CWM_MODULUS;
+}
+
+/* Every rows / missing-th row is missing. */
+static void leave_out(size_t missing) {
+  for (size_t i = 0; i < ROWS; i++) filled[i] = missing == 0 || i % (ROWS / missing) != 0;
+}
+
+static void domains(void) {
+  for (size_t cols = 1; cols <= MOST_COLS; cols *= 4) {
+    size_t n = ROWS * cols;
+    fill(a, n);
+    count("cwm_evaluate", cwm_evaluate(a, n, cols), 1, n + ROWS + 64);
+    count("cwm_interpolate", cwm_interpolate(a, n, cols), 1, n + ROWS + 64);
+    for (size_t missing = 0; missing <= ROWS; missing = missing ? 8 * missing : 1) {
+      leave_out(missing);
+      count("cwm_recover", cwm_recover(a, n, cols, filled, ROWS), 1, n + 4 * ROWS + 1024);
+      /* a quarter of the coefficients, and rows of their values spoiled */
+      fill(b, n);
+      memset(b + n / 4, 0, 8 * (n - n / 4));
+      if (cwm_evaluate(b, n, cols) != CWM_DONE) exit(2);
+      leave_out(missing < ROWS / 4 ? missing : 0);
+      for (size_t i = 0; i < missing / 8; i++) b[i * cols] = 1;
+      peak = 0;
+      count("cwm_correct", cwm_correct(b, n, cols, filled, ROWS, ROWS / 4, wrong, ROWS / 2, &written), 3, n + 4 * ROWS + 1024);
+    }
+  }
+}
+
+static void points(void) {
+  for (size_t k = 0; k <= POINTS; k += 64)
+    for (size_t spoiled = 0; spoiled <= (POINTS - k) / 2; spoiled += 32) {
+      for (uint64_t i = 0; i < POINTS; i++) a[i] = i + 1, b[i] = k > 0 ? 7 : 0;
+      for (size_t i = 0; i < spoiled; i++) b[i] = 8 + i;
+      peak = 0;
+      count("cwm_decode", cwm_decode(a, POINTS, b, POINTS, c, k, wrong, POINTS, &written), 9, POINTS);
+    }
+  count("cwm_weights", cwm_weights(a, POINTS, 5000, b, POINTS), 3, POINTS);
+  for (uint32_t x = 0; x < 2; x++)
+    for (size_t n = 1; n <= ROWS; n *= 2) count("cwm_weights_at_roots", cwm_weights_at_roots(ROWS, indices, n, 5 * x, b, n), 7, ROWS);
+  for (size_t n = 64; n <= CELLS; n *= 4) {
+    fill(a, n);
+    count("cwm_eval", cwm_eval(a, n, 5, b), 0.125, 1024);
+    uint8_t *bytes = block(8 * n + 5);
+    count("cwm_encode_poly", cwm_encode_poly(a, n, bytes, 8 * n + 5, &written), 1, 64);
+    count("cwm_decode_poly", cwm_decode_poly(bytes, written, b, n, &written), 0, 64);
+    __real_free(bytes);
+  }
+}
+
+/* Shards of BLOCK bytes, of which `min` of `total` give them back; N is `total` rounded up to a power of two. */
+static void shards(uint32_t min, uint32_t total) {
+  uint8_t *bytes = block(ROOM), *back = block(ROOM);
+  uint64_t *cells = block(ROOM);
+  size_t size, cols, many, rows = 1;
+  while (rows < total) rows *= 2;
+  memset(back, 7, BLOCK);
+  fill(a, BLOCK / 8);
+  if (cwm_shard_bytes_sizes(BLOCK, min, total, &size) != CWM_DONE || size * total > ROOM) exit(2);
+  if (cwm_shard_sizes(BLOCK / 8, min, total, &cols) != CWM_DONE || 8 * cols * total > ROOM) exit(2);
+  size_t words = rows * cols + 64 * rows;
+  peak = 0;
+  count("cwm_split", cwm_split(a, BLOCK / 8, min, total, cells, total * cols), 7, words);
+  count("cwm_split_bytes", cwm_split_bytes(back, BLOCK, min, total, bytes, total * size), 8, words);
+  for (uint32_t k = min; k <= total; k += total > min ? total - min : 1) {
+    count("cwm_join", cwm_join(indices, k, min, total, cells, k * cols, b, CELLS, &written), 9, words);
+    count("cwm_join_bytes", cwm_join_bytes(indices, k, min, total, bytes, k * size, back, ROOM, &written), 10, words);
+  }
+  for (uint32_t i = 0; i < (total - min) / 2; i++) cells[i * cols] = 1;
+  count("cwm_join_corrected", cwm_join_corrected(indices, total, min, total, cells, total * cols, b, CELLS, &written, wrong, total, &many), 9, words);
+  __real_free(bytes), __real_free(back), __real_free(cells);
+}
+
+int main(void) {
+  static const uint32_t splits[][2] = {{1, 1}, {1, 2}, {1, 16}, {2, 3}, {10, 16}, {9, 17}, {20, 40}, {129, 200}, {200, 200}};
+  a = block(8 * CELLS), b = block(8 * CELLS), c = block(8 * CELLS), filled = block(ROWS);
+  wrong = block(ROWS * sizeof *wrong), indices = block(ROWS * sizeof *indices);
+  for (uint32_t i = 0; i < ROWS; i++) indices[i] = i;
+  domains();
+  points();
+  for (size_t i = 0; i < sizeof splits / sizeof *splits; i++) shards(splits[i][0], splits[i][1]);
+  for (int i = 0; calls[i].name != NULL; i++) {
+    printf("%-22s %5.2f of %5.2f%s\n", calls[i].name, calls[i].taken, calls[i].most, calls[i].taken > calls[i].most ? ", FAILED" : "");
+    failed |= calls[i].taken > calls[i].most;
+  }
+  return failed;
+}
