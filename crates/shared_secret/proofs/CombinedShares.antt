@@ -45,25 +45,6 @@ module _ {A : Type 0} (R : RingOf A) (E : IsEquality R.same) (G : IsGroup R.same
   pub not_zero : (b : Bool) (x z : A) → (IsTrue b ↔ R.same x z) → b ≡ false → R.same z R.zero → ¬ (R.same x R.zero)
   not_zero b x z answer e s h = absurd (true≢false (sym (answer.1 (E.transitive _ _ _ h (E.symmetric _ _ s))) ∙ e))
 
-  pub repeated_index : (shares : List (Share A)) (i : ℕ) (s : Share A) (x : A) (xs : List A) (k : ℕ) → i < length shares → s ≡ get_or shares i s → R.same x (point R s.index)
-      → ArePointsOf (take i shares) xs → IsFirstPlace R.same x xs k → SomeAreSame R.same (points R shares)
-  repeated_index shares i s x xs k l at p h first =
-      let alike = alike_points (take i shares) xs h in
-      let count : length xs ≡ length (take i shares) = length_all_zip R.same xs (points R (take i shares)) alike ∙ length-map (take i shares) (λ u. point R u.index) in
-      let below : k < i = omega (arith, first.0, count, length-take-le i shares (omega arith)) in
-      let here : get_or (points R shares) i x ≡ point R s.index = get_or-map (λ u. point R u.index) shares i s x l ∙ ap (λ u. point R u.index) (sym at) in
-      let there : get_or (points R (take i shares)) k x ≡ get_or (points R shares) k x =
-      get_or-map (λ u. point R u.index) (take i shares) k s x (omega (arith, first.0, count)) ∙ ap (λ u. point R u.index) (get_or-take i shares k s below)
-      ∙ sym (get_or-map (λ u. point R u.index) shares k s x (omega (arith, below, l))) in
-      let same : R.same (get_or xs k x) (get_or (points R shares) k x) = subst (λ y. R.same (get_or xs k x) y) there (AllZip-get_or R.same xs (points R (take i shares)) k x x alike first.0) in (
-        k,
-        i,
-        x,
-        below,
-        omega (arith, l, length-map shares (λ u. point R u.index)),
-        subst (λ y. R.same (get_or (points R shares) k x) y) (sym here) (E.transitive _ _ _ (E.symmetric _ _ same) (E.transitive _ _ _ first.1 p)),
-      )
-
   pub combinable : (t : ℕ) (shares : List (Share A)) (xs : List A) → t ≤ length shares → ArePointsOf shares xs → All (λ x. ¬ (R.same x R.zero)) xs → AreApart R.same xs → AreCombinable R t shares
   combinable t shares xs enough h nonzero apart =
       let alike = alike_points shares xs h in

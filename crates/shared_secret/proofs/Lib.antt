@@ -4,3 +4,8 @@ pub mod DealtShares
 pub mod CombinedShares
 pub mod DealingSteps
 pub mod CorrectedShares
+pub mod NestedPolynomials
+pub mod ExplainedValues
+pub mod ListsOfElements
+pub mod ExplainedShares
+pub mod RefusedShares

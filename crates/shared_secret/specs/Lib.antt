@@ -1,3 +1,4 @@
 pub mod Shares
 pub mod ShareLaws
 pub mod CorrectedShares
+pub mod Explanations

@@ -4,7 +4,7 @@ use Rattle.std.specs.Prelude.{◌≡◌, ◌≢◌, ◌≤◌, ℕ, List, length
 use Rattle.math_theory.specs.Coefficients.{coefficient}
 use Rattle.math_base.specs.Members.{RingOf, SpaceOf}
 use Rattle.shared_secret.specs.declared.shares.Share.{Share}
-use Rattle.shared_secret.specs.Shares.{AreDealt, AreCombinable, IsCombined, IsVerified}
+use Rattle.shared_secret.specs.Shares.{AreAtDistinctPoints, AreDealt, AreCombinable, IsCombined, IsRepeatedFirst, IsVerified, IsZeroFirst}
 
 -- t or more of the shares that are dealt with a polynomial of at most t coefficients, no two of one index, are combinable, and to its constant alone
 abbrev pub AnySharesCombine : {A : Type 0} → RingOf A → Type 0
@@ -24,3 +24,8 @@ abbrev pub VerifiedGiveCommitted : {A B : Type 0} → SpaceOf A B → RingOf B �
 VerifiedGiveCommitted {A} {B} S R generator = (commitment : List A) (shares : List (Share B)) (answer : B)
     → length commitment ≤ length shares → All (IsVerified S R generator commitment) shares → IsCombined R shares answer
     → S.same (S.scaling generator answer) (coefficient S.zero commitment 0)
+
+-- no two of these hold of the same shares: they are at distinct points other than zero, the first that can't be taken has the point zero, and it has the point of one before it
+abbrev pub RefusalsExclude : {A : Type 0} → RingOf A → Type 0
+RefusalsExclude {A} R = (shares : List (Share A))
+    → (AreAtDistinctPoints R shares → ¬ (IsZeroFirst R shares)) × (AreAtDistinctPoints R shares → ¬ (IsRepeatedFirst R shares)) × (IsZeroFirst R shares → ¬ (IsRepeatedFirst R shares))

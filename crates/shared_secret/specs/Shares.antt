@@ -1,6 +1,6 @@
 -- Shares of a secret: the points of their indices, and what is dealt, combined and verified.
 use Rattle.std.specs.List.{range_with_len}
-use Rattle.std.specs.Prelude.{◌≡◌, ◌-◌, ◌≤◌, ℕ, List, Option, Some, length, map, drop, slice_get, slice_index_or, ◌<◌, All}
+use Rattle.std.specs.Prelude.{◌≡◌, ◌-◌, ◌≤◌, ℕ, List, Option, Some, length, map, drop, take, slice_get, slice_index_or, ◌<◌, All}
 use Rattle.rand_core.specs.Stream.{Stream}
 use Rattle.math_theory.specs.Interpolation.{AreApart}
 use Rattle.math_theory.specs.Powers.{multiple}
@@ -33,6 +33,19 @@ HasZeroPoint R n = (index : ℕ) × (0 < index) × (index ≤ n) × R.same (poin
 -- the point of one of the shares is zero
 abbrev pub HasZeroIndex : {A : Type 0} → RingOf A → List (Share A) → Type 0
 HasZeroIndex {A} R shares = (i : ℕ) × (x : A) × (i < length shares) × R.same (slice_index_or (points R shares) i x) R.zero
+
+-- no share has the point zero, and no two have one point
+abbrev pub AreAtDistinctPoints : {A : Type 0} → RingOf A → List (Share A) → Type 0
+AreAtDistinctPoints R shares = (¬ (HasZeroIndex R shares)) × AreApart R.same (points R shares)
+
+-- of the shares, the first that can't stand with those before it has the point zero
+abbrev pub IsZeroFirst : {A : Type 0} → RingOf A → List (Share A) → Type 0
+IsZeroFirst {A} R shares = (k : ℕ) × (x : A) × (k < length shares) × AreAtDistinctPoints R (take k shares) × R.same (slice_index_or (points R shares) k x) R.zero
+
+-- of the shares, the first that can't stand with those before it has the point of one of them, which is not zero
+abbrev pub IsRepeatedFirst : {A : Type 0} → RingOf A → List (Share A) → Type 0
+IsRepeatedFirst {A} R shares = (k : ℕ) × (x : A) × (k < length shares) × AreAtDistinctPoints R (take k shares) × (¬ (R.same (slice_index_or (points R shares) k x) R.zero))
+    × ((i : ℕ) × (i < k) × R.same (slice_index_or (points R shares) i x) (slice_index_or (points R shares) k x))
 
 -- t coefficients: the secret, and then the next samples of a source, which they take from `before` to `after`
 pub record IsSampled {A : Type 0} (sample : Stream → Option A × Stream) (secret : A) (t : ℕ) (before after : Stream) (p : List A) : Type 0 where

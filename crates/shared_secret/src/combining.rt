@@ -1,11 +1,11 @@
 //! Combining of shares.
 
-ghost use Rattle.std.specs.Prelude.{◌≡◌, ◌<◌, ◌≤◌, List, length, All, IfOk, IfErr};
+ghost use Rattle.std.specs.Prelude.{◌≡◌, ◌↔◌, ◌<◌, ◌≤◌, List, length, All, IfOk, IfErr};
 ghost use Rattle.std.specs.List.{AllZip, enumerate_from};
 ghost use Rattle.std.specs.Map.{values_of};
-ghost use Rattle.math_theory.specs.Interpolation.{AreApart, SomeAreSame};
+ghost use Rattle.math_theory.specs.Interpolation.{AreApart};
 ghost use Rattle.math_base.specs.Polynomials.{AreWeightsAt, value_in_ring};
-ghost use Rattle.shared_secret.specs.Shares.{AreCombinable, AreSharesOf, IsCombined, HasZeroIndex, point, points};
+ghost use Rattle.shared_secret.specs.Shares.{AreCombinable, AreSharesOf, IsCombined, IsRepeatedFirst, IsZeroFirst, point};
 ghost use Rattle.shared_secret.specs.declared.error.CombineError.TheVariants.{TooFewShares, ZeroIndex, RepeatedIndex};
 
 use crate::error::CombineError;
@@ -22,18 +22,17 @@ use std::alloc::Global;
 /// that polynomial; so any t shares of a deal combine to its secret. A share with another value than it was
 /// dealt gives another secret, unnoticed; `verify` finds such a share.
 ///
-/// It refuses with `TooFewShares` where there are fewer than t, then at the first share whose index it can't
-/// take: with `ZeroIndex` where the index has the point zero, and with `RepeatedIndex` where it has the point
-/// of an index before it; or with `Memory`.
+/// It refuses with `TooFewShares` exactly where there are fewer than t, else at the first share whose index it
+/// can't take: with `ZeroIndex` where the index has the point zero, and with `RepeatedIndex` where it has the
+/// point of an index before it; or with `Memory`. By `laws::refusals_exclude` no two of these are due.
 pub fn combine<F: Field>(alloc: Global, t: u32, shares: &[Share<F>]) -> Result<F, CombineError>
     ensures combinable { IfOk result (λ _. AreCombinable F.Ring t shares.now) }
     ensures combined { IfOk result (λ secret. IsCombined F.Ring shares.now secret) }
     ensures constant { IfOk result (λ secret. (p : List F) → length p ≤ length shares.now
         → AreSharesOf F.Ring p shares.now → F.same secret (value_in_ring F.Ring p F.zero)) }
-    ensures few { IfErr result (λ error. error ≡ TooFewShares → length shares.now < t) }
-    ensures zero { IfErr result (λ error. error ≡ ZeroIndex → HasZeroIndex F.Ring shares.now) }
-    ensures repeated { IfErr result (λ error. error ≡ RepeatedIndex
-        → SomeAreSame F.same (points F.Ring shares.now)) }
+    ensures few { IfErr result (λ error. error ≡ TooFewShares ↔ length shares.now < t) }
+    ensures zero { IfErr result (λ error. error ≡ ZeroIndex → IsZeroFirst F.Ring shares.now) }
+    ensures repeated { IfErr result (λ error. error ≡ RepeatedIndex → IsRepeatedFirst F.Ring shares.now) }
 {
     if shares.len() < t as usize {
         return Err(CombineError::TooFewShares);
@@ -54,9 +53,8 @@ pub(super) fn distinct_points<F: Field>(
     ensures nonzero { IfOk result (λ xs. All (λ x. ¬ (F.same x F.zero)) xs.items) }
     ensures apart { IfOk result (λ xs. AreApart F.same xs.items) }
     ensures few { IfErr result (λ error. ¬ (error ≡ TooFewShares)) }
-    ensures zero { IfErr result (λ error. error ≡ ZeroIndex → HasZeroIndex F.Ring shares.now) }
-    ensures repeated { IfErr result (λ error. error ≡ RepeatedIndex
-        → SomeAreSame F.same (points F.Ring shares.now)) }
+    ensures zero { IfErr result (λ error. error ≡ ZeroIndex → IsZeroFirst F.Ring shares.now) }
+    ensures repeated { IfErr result (λ error. error ≡ RepeatedIndex → IsRepeatedFirst F.Ring shares.now) }
 {
     let zero = F::zero(alloc)?;
     let mut out: Vec<F> = Vec::with_capacity(alloc, shares.len())?;

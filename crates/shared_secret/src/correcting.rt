@@ -1,10 +1,9 @@
 //! Combining of shares of which some are wrong.
 
-ghost use Rattle.std.specs.Prelude.{◌≡◌, ◌<◌, List, length, IfOk, IfErr, IfSome, IfNone};
-ghost use Rattle.math_theory.specs.Interpolation.{SomeAreSame};
+ghost use Rattle.std.specs.Prelude.{◌≡◌, ◌↔◌, ◌<◌, List, length, IfOk, IfErr, IfSome, IfNone};
 ghost use Rattle.math_base.specs.Polynomials.{value_in_ring};
 ghost use Rattle.shared_secret.specs.CorrectedShares.{AreWithinRadius, IsCorrected};
-ghost use Rattle.shared_secret.specs.Shares.{AreCombinable, HasZeroIndex, points};
+ghost use Rattle.shared_secret.specs.Shares.{AreCombinable, IsRepeatedFirst, IsZeroFirst};
 ghost use Rattle.shared_secret.specs.declared.error.CombineError.TheVariants.{TooFewShares, ZeroIndex, RepeatedIndex};
 
 use crate::combining::{copied_values, distinct_points};
@@ -37,10 +36,9 @@ pub fn combine_corrected<F: Field>(
     ensures found { IfOk result (λ answer. IfSome answer (λ c.
         IsCorrected F.Ring t shares.now c.secret c.wrong.items)) }
     ensures none { IfOk result (λ answer. IfNone answer ((p : List F) → ¬ (AreWithinRadius F.Ring t p shares.now))) }
-    ensures few { IfErr result (λ error. error ≡ TooFewShares → length shares.now < t) }
-    ensures zero { IfErr result (λ error. error ≡ ZeroIndex → HasZeroIndex F.Ring shares.now) }
-    ensures repeated { IfErr result (λ error. error ≡ RepeatedIndex
-        → SomeAreSame F.same (points F.Ring shares.now)) }
+    ensures few { IfErr result (λ error. error ≡ TooFewShares ↔ length shares.now < t) }
+    ensures zero { IfErr result (λ error. error ≡ ZeroIndex → IsZeroFirst F.Ring shares.now) }
+    ensures repeated { IfErr result (λ error. error ≡ RepeatedIndex → IsRepeatedFirst F.Ring shares.now) }
 {
     if shares.len() < t as usize {
         return Err(CombineError::TooFewShares);

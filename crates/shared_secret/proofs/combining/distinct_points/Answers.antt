@@ -7,17 +7,29 @@ use Rattle.std.proofs.lemmas.List.Quantifiers.{all_pairs_push}
 use Rattle.math_theory.specs.Interpolation.{IsFirstPlace}
 use Rattle.math_transforms.proofs.Members.{ring_members}
 use Rattle.shared_secret.specs.Shares.{point}
-use Rattle.shared_secret.proofs.CombinedShares.{repeated_index, alike_next, not_zero, no_value, value_of_some}
+use Rattle.shared_secret.proofs.CombinedShares.{alike_next, not_zero, no_value, value_of_some}
+use Rattle.shared_secret.proofs.RefusedShares.{zero_first, repeated_first}
 use Rattle.shared_secret.proofs.combining.distinct_points.Goals as goal
+
+pub returns-then-branch-clause-zero : goal.returns-then-branch-clause-zero
+returns-then-branch-clause-zero g c = λ _.
+    let R = ring_members g.F.Multiplicative.product g.F.Debug.debug_output g.F.Object.same g.F.Object.NEVER_REFUSES g.F.Additive.zero g.F.Additive.sum g.F.Additive.negative g.F.Ring.one in
+    let F = g.met.F in
+    let i = c.loop-share.invariant in
+    zero_first R F.Object.equality F.Additive.group c.args.shares.now c.loop-share.share-index c.share-item.result c.in_ok-x.x c.loop-share.out.items c.loop-share-test.true c.share-item.is
+    c.in_ok-x.ensures.ok i.points i.nonzero i.apart (F.Object.equality.transitive _ _ _ (c.in_ok-equals.ensures.ok.0 c.if-branch.true) c.in_ok-zero.ensures.ok)
 
 pub returns-then-is_some-clause-repeated : goal.returns-then-is_some-clause-repeated
 returns-then-is_some-clause-repeated g c = λ _.
     let R = ring_members g.F.Multiplicative.product g.F.Debug.debug_output g.F.Object.same g.F.Object.NEVER_REFUSES g.F.Additive.zero g.F.Additive.sum g.F.Additive.negative g.F.Ring.one in
     let F = g.met.F in
+    let i = c.loop-share.invariant in
     let found : is_some c.in_ok-first_place.field-0 ≡ true = cc in
     let place = value_of_some (λ k. IsFirstPlace R.same c.in_ok-x.x c.loop-share.out.items k) c.in_ok-first_place.field-0 found (rw c.deref.ensures.value at c.in_ok-first_place.ensures.some) in
-    repeated_index R F.Object.equality F.Additive.group c.args.shares.now c.loop-share.share-index c.share-item.result c.in_ok-x.x c.loop-share.out.items place.0
-    c.loop-share-test.true c.share-item.is c.in_ok-x.ensures.ok c.loop-share.invariant.points place.1
+    let nonzero : ¬ (R.same c.in_ok-x.x R.zero) =
+    not_zero R F.Object.equality F.Additive.group c.in_ok-equals.field-0 c.in_ok-x.x c.in_ok-zero.zero c.in_ok-equals.ensures.ok c.if-branch.false c.in_ok-zero.ensures.ok in
+    repeated_first R F.Object.equality F.Additive.group c.args.shares.now c.loop-share.share-index c.share-item.result c.in_ok-x.x c.loop-share.out.items place.0
+    c.loop-share-test.true c.share-item.is c.in_ok-x.ensures.ok i.points i.nonzero i.apart nonzero place.1
 
 pub loop-share-preserved : goal.loop-share-preserved
 loop-share-preserved g c =

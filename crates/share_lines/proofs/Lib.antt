@@ -1,0 +1,4 @@
+pub mod LettersRead
+pub mod SharesAreBytes
+pub mod SeenSlips
+pub mod LinesRead
