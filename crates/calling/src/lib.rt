@@ -13,8 +13,8 @@ use std::alloc::Global;
 
 /// The sum of the values of the polynomial at r and at s.
 ///
-/// `Poly::eval` promises the value up to the field's equality (`ok`), which for `F` is that both are one
-/// number; `+` of `F` promises the remainder of the sum by P (`add_gives`).
+/// `Poly::eval` promises the value up to the field's equality (`ok`), which for `F` is that both are
+/// one number; `+` of `F` promises the remainder of the sum by P (`add_gives`).
 pub fn sum_of_values(alloc: Global, polynomial: &Poly<F>, r: &F, s: &F) -> Mem<F>
     ensures { IfOk result (λ answer. number answer
         ≡ (number (value_at polynomial.now r.now) + number (value_at polynomial.now s.now)) % P) }

@@ -1,6 +1,7 @@
 //! The header of a shard file: seven words of eight bytes, highest byte first.
 //!
-//! They are the mark, the version, the index, `min`, `total`, the block size and the length of the file.
+//! They are the mark, the version, the index, `min`, `total`, the block size and the length of the
+//! file.
 
 ghost use Rattle.std.specs.Prelude.{◌≡◌, ◌↔◌, ◌<◌, ◌≤◌, ◌^◌, ◌++◌, length, take, refl, IsTrue, IfOk, OnOk, OnErr, MatchResult};
 ghost use Rattle.std.specs.Int.{w64, to_be_bytes};
@@ -86,7 +87,8 @@ impl Read for Header {
 
     ghost grows = { λ _ _. ⊥ };
 
-    /// Reads the mark, the version, and the five numbers, and refuses with the first fault of these.
+    /// Reads the mark, the version, and the five numbers, and refuses with the first fault of
+    /// these.
     #[tactic(auto, unfolding(crate::specs::Headers::scan_header))]
     fn read_cfg(alloc: Global, input: &mut &[u8], _cfg: &()) -> Result<Header, Error> {
         let mut rest = *input;
@@ -179,8 +181,9 @@ pub enum Verdict {
 }
 
 impl Header {
-    /// The greatest number of bytes that a block may have: 16 MiB, and so many that `total` / `min` blocks
-    /// have 32 MiB at most. The shards of a block take as much, and some bytes for their numbers.
+    /// The greatest number of bytes that a block may have: 16 MiB, and so many that `total` / `min`
+    /// blocks have 32 MiB at most. The shards of a block take as much, and some bytes for their
+    /// numbers.
     pub fn largest_block(min: u32, total: u32) -> u32
         requires { 1 ≤ total }
         ensures { result ≡ largest_block min total }
@@ -211,7 +214,8 @@ impl Header {
             && self.length == other.length
     }
 
-    /// Whether it is the header of the shard with this number of the split of which the other header is one.
+    /// Whether it is the header of the shard with this number of the split of which the other
+    /// header is one.
     pub fn judged(&self, number: u32, split: &Header) -> Verdict
         ensures fits { result ≡ Fits ↔ IsThatOf self.now number split.now }
         ensures impossible { result ≡ Impossible ↔ ¬ (IsPossible self.now) }

@@ -15,16 +15,17 @@ use commonware_math::poly::Interpolator;
 use math_transforms::weights::first_place;
 use std::alloc::Global;
 
-/// Combines the shares, in any order, to the secret: the sum of their values, each times the weight of its
-/// point for the value at zero.
+/// Combines the shares, in any order, to the secret: the sum of their values, each times the weight
+/// of its point for the value at zero.
 ///
-/// Where they are values of one polynomial of at most as many coefficients as shares, it is the constant of
-/// that polynomial; so any t shares of a deal combine to its secret. A share with another value than it was
-/// dealt gives another secret, unnoticed; `verify` finds such a share.
+/// Where they are values of one polynomial of at most as many coefficients as shares, it is the
+/// constant of that polynomial; so any t shares of a deal combine to its secret. A share with
+/// another value than it was dealt gives another secret, unnoticed; `verify` finds such a share.
 ///
-/// It refuses with `TooFewShares` exactly where there are fewer than t, else at the first share whose index it
-/// can't take: with `ZeroIndex` where the index has the point zero, and with `RepeatedIndex` where it has the
-/// point of an index before it; or with `Memory`. By `laws::refusals_exclude` no two of these are due.
+/// It refuses with `TooFewShares` exactly where there are fewer than t, else at the first share
+/// whose index it can't take: with `ZeroIndex` where the index has the point zero, and with
+/// `RepeatedIndex` where it has the point of an index before it; or with `Memory`. By
+/// `laws::refusals_exclude` no two of these are due.
 pub fn combine<F: Field>(alloc: Global, t: u32, shares: &[Share<F>]) -> Result<F, CombineError>
     ensures combinable { IfOk result (λ _. AreCombinable F.Ring t shares.now) }
     ensures combined { IfOk result (λ secret. IsCombined F.Ring shares.now secret) }
@@ -32,7 +33,8 @@ pub fn combine<F: Field>(alloc: Global, t: u32, shares: &[Share<F>]) -> Result<F
         → AreSharesOf F.Ring p shares.now → F.same secret (value_in_ring F.Ring p F.zero)) }
     ensures few { IfErr result (λ error. error ≡ TooFewShares ↔ length shares.now < t) }
     ensures zero { IfErr result (λ error. error ≡ ZeroIndex → IsZeroFirst F.Ring shares.now) }
-    ensures repeated { IfErr result (λ error. error ≡ RepeatedIndex → IsRepeatedFirst F.Ring shares.now) }
+    ensures repeated { IfErr result (λ error. error ≡ RepeatedIndex
+        → IsRepeatedFirst F.Ring shares.now) }
 {
     if shares.len() < t as usize {
         return Err(CombineError::TooFewShares);
@@ -49,12 +51,14 @@ pub(super) fn distinct_points<F: Field>(
     alloc: Global,
     shares: &[Share<F>],
 ) -> Result<Vec<F>, CombineError>
-    ensures points { IfOk result (λ xs. AllZip (λ share x. F.same x (point F.Ring share.index)) shares.now xs.items) }
+    ensures points { IfOk result (λ xs. AllZip (λ share x. F.same x (point F.Ring share.index))
+        shares.now xs.items) }
     ensures nonzero { IfOk result (λ xs. All (λ x. ¬ (F.same x F.zero)) xs.items) }
     ensures apart { IfOk result (λ xs. AreApart F.same xs.items) }
     ensures few { IfErr result (λ error. ¬ (error ≡ TooFewShares)) }
     ensures zero { IfErr result (λ error. error ≡ ZeroIndex → IsZeroFirst F.Ring shares.now) }
-    ensures repeated { IfErr result (λ error. error ≡ RepeatedIndex → IsRepeatedFirst F.Ring shares.now) }
+    ensures repeated { IfErr result (λ error. error ≡ RepeatedIndex
+        → IsRepeatedFirst F.Ring shares.now) }
 {
     let zero = F::zero(alloc)?;
     let mut out: Vec<F> = Vec::with_capacity(alloc, shares.len())?;
@@ -95,7 +99,8 @@ fn by_place<T: Drop>(alloc: Global, items: Vec<T>) -> Mem<Vec<(usize, T)>>
 
 /// Copies of the values, in order.
 pub(super) fn copied_values<T: Object>(alloc: Global, shares: &[Share<T>]) -> Mem<Vec<T>>
-    ensures { IfOk result (λ copies. AllZip (λ share copy. T.same copy share.value) shares.now copies.items) }
+    ensures { IfOk result (λ copies. AllZip (λ share copy. T.same copy share.value)
+        shares.now copies.items) }
 {
     let mut out = Vec::with_capacity(alloc, shares.len())?;
     for share in shares {

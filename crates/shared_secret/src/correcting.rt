@@ -20,11 +20,13 @@ pub struct Corrected<F: Drop> {
     pub wrong: Vec<usize>,
 }
 
-/// Combines n shares, in any order, of which at most (n - t) / 2 are wrong, to the secret, and says which are wrong.
+/// Combines n shares, in any order, of which at most (n - t) / 2 are wrong, to the secret, and says
+/// which are wrong.
 ///
-/// The secret is the constant of the polynomial of t coefficients that has all but at most (n - t) / 2 of the shares;
-/// there is one at most. It answers `None` exactly where there is none. Where more shares are wrong, that may be so, or
-/// they may fit another polynomial, whose constant is then answered.
+/// The secret is the constant of the polynomial of t coefficients that has all but at most (n - t)
+/// / 2 of the shares; there is one at most. It answers `None` exactly where there is none. Where
+/// more shares are wrong, that may be so, or they may fit another polynomial, whose constant is
+/// then answered.
 ///
 /// It refuses as `combine` does.
 pub fn combine_corrected<F: Field>(
@@ -35,10 +37,12 @@ pub fn combine_corrected<F: Field>(
     ensures combinable { IfOk result (λ _. AreCombinable F.Ring t shares.now) }
     ensures found { IfOk result (λ answer. IfSome answer (λ c.
         IsCorrected F.Ring t shares.now c.secret c.wrong.items)) }
-    ensures none { IfOk result (λ answer. IfNone answer ((p : List F) → ¬ (AreWithinRadius F.Ring t p shares.now))) }
+    ensures none { IfOk result (λ answer. IfNone answer
+        ((p : List F) → ¬ (AreWithinRadius F.Ring t p shares.now))) }
     ensures few { IfErr result (λ error. error ≡ TooFewShares ↔ length shares.now < t) }
     ensures zero { IfErr result (λ error. error ≡ ZeroIndex → IsZeroFirst F.Ring shares.now) }
-    ensures repeated { IfErr result (λ error. error ≡ RepeatedIndex → IsRepeatedFirst F.Ring shares.now) }
+    ensures repeated { IfErr result (λ error. error ≡ RepeatedIndex
+        → IsRepeatedFirst F.Ring shares.now) }
 {
     if shares.len() < t as usize {
         return Err(CombineError::TooFewShares);

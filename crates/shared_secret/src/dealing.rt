@@ -15,11 +15,12 @@ use std::alloc::Global;
 
 /// Deals the shares of the indices 1 to n, of which any t combine to the secret.
 ///
-/// They are the values of the polynomial whose constant is the secret and whose t - 1 other coefficients
-/// are the next samples of the source. t is at least 1, and at most n.
+/// They are the values of the polynomial whose constant is the secret and whose t - 1 other
+/// coefficients are the next samples of the source. t is at least 1, and at most n.
 ///
-/// It refuses with `TooManyWords` where one of these samples is refused, with `TooManyShares` where the
-/// point of one of the indices is zero, which only a field of characteristic at most n has, or with `Memory`.
+/// It refuses with `TooManyWords` where one of these samples is refused, with `TooManyShares` where
+/// the point of one of the indices is zero, which only a field of characteristic at most n has, or
+/// with `Memory`.
 pub fn deal<F: Field + Random, G: Rng + CryptoRng>(
     alloc: Global,
     secret: F,
@@ -30,7 +31,8 @@ pub fn deal<F: Field + Random, G: Rng + CryptoRng>(
     requires some { 0 < t }
     requires enough { t ≤ n }
     ensures dealt { IfOk result (λ shares. (p : List F)
-        × IsSampled F.sample secret t (G.stream rng.old) (G.stream rng.new) p × AreDealt F.Ring n p shares.items) }
+        × IsSampled F.sample secret t (G.stream rng.old) (G.stream rng.new) p
+        × AreDealt F.Ring n p shares.items) }
     ensures words { IfErr result (λ error. error ≡ TooManyWords
         → samples F.sample (t - 1) (G.stream rng.old) ≡ (None, G.stream rng.new)) }
     ensures points { IfErr result (λ error. error ≡ TooManyShares → HasZeroPoint F.Ring n) }
@@ -40,9 +42,11 @@ pub fn deal<F: Field + Random, G: Rng + CryptoRng>(
     Ok(shares)
 }
 
-/// Deals shares as `deal` does, and a commitment to their polynomial, by which each share can be verified.
+/// Deals shares as `deal` does, and a commitment to their polynomial, by which each share can be
+/// verified.
 ///
-/// The commitment is public: it is the generator scaled by each coefficient, the secret being the first.
+/// The commitment is public: it is the generator scaled by each coefficient, the secret being the
+/// first.
 pub fn deal_committed<K: CryptoGroup, G: Rng + CryptoRng>(
     alloc: Global,
     secret: K::Scalar,
@@ -76,7 +80,8 @@ fn sampled<F: Field + Random, G: Rng + CryptoRng>(
     rng: &mut G,
 ) -> Result<Poly<F>, DealError>
     requires { 0 < t }
-    ensures sampled { IfOk result (λ p. IsSampled F.sample secret t (G.stream rng.old) (G.stream rng.new) p) }
+    ensures sampled { IfOk result (λ p.
+        IsSampled F.sample secret t (G.stream rng.old) (G.stream rng.new) p) }
     ensures words { IfErr result (λ error. error ≡ TooManyWords
         → samples F.sample (t - 1) (G.stream rng.old) ≡ (None, G.stream rng.new)) }
     ensures shares { IfErr result (λ error. ¬ (error ≡ TooManyShares)) }

@@ -5,8 +5,8 @@ ghost use Rattle.shared_secret.specs.ShareLaws.{AnySharesCombine, DealtAreVerifi
 
 use commonware_math::algebra::{CryptoGroup, Field};
 
-/// Any t or more shares of a deal, no two of one index, are combined to its secret: `combine` refuses them for want
-/// of memory alone.
+/// Any t or more shares of a deal, no two of one index, are combined to its secret: `combine`
+/// refuses them for want of memory alone.
 pub fn any_shares_combine<F: Field>()
     ensures { AnySharesCombine F.Ring }
 {}
@@ -16,26 +16,28 @@ pub fn dealt_are_verified<K: CryptoGroup>()
     ensures { DealtAreVerified K.Space K.Scalar.Ring K.generator }
 {}
 
-/// Verified shares, at least as many as the commitment has coefficients, combine to a secret that is committed to:
-/// the generator scaled by it is the first coefficient of the commitment.
+/// Verified shares, at least as many as the commitment has coefficients, combine to a secret that
+/// is committed to: the generator scaled by it is the first coefficient of the commitment.
 pub fn verified_give_committed<K: CryptoGroup>()
     ensures { VerifiedGiveCommitted K.Space K.Scalar.Ring K.generator }
 {}
 
-/// Whatever the holders of t - 1 shares see, every secret explains it, and each by exactly one polynomial of t
-/// coefficients: the only one through the secret at zero and the shares at their points.
+/// Whatever the holders of t - 1 shares see, every secret explains it, and each by exactly one
+/// polynomial of t coefficients: the only one through the secret at zero and the shares at their
+/// points.
 ///
-/// Fewer shares leave more: with j of them there is exactly one such polynomial for each choice of its last t - 1 - j
-/// coefficients. So in a field of q elements each secret explains what they see in q to the power t - 1 - j ways, the
-/// same number for every secret.
+/// Fewer shares leave more: with j of them there is exactly one such polynomial for each choice of
+/// its last t - 1 - j coefficients. So in a field of q elements each secret explains what they see
+/// in q to the power t - 1 - j ways, the same number for every secret.
 pub fn each_secret_explains<F: Field>()
     ensures once { EachSecretExplainsOnce F.Ring }
     ensures last { EachSecretExplainsByLast F.Ring }
     ensures equally { EachSecretExplainsEquallyOften F.Ring }
 {}
 
-/// What `combine` and `combine_corrected` say of the points, where they give a secret and where they refuse them,
-/// excludes each other: so each stands exactly where it is due, but for want of memory.
+/// What `combine` and `combine_corrected` say of the points, where they give a secret and where
+/// they refuse them, excludes each other: so each stands exactly where it is due, but for want of
+/// memory.
 pub fn refusals_exclude<F: Field>()
     ensures { RefusalsExclude F.Ring }
 {}

@@ -1,9 +1,9 @@
 //! Secrets in shares, any t of which give the secret back.
 //!
-//! The secret is the constant of a polynomial of t coefficients over a field, the others being sampled
-//! from a source of random words. Share i is the value at the point of i, which is the i-fold sum of one.
-//! Any t shares fix the polynomial, so its value at zero, the secret, is a weighted sum of theirs. Fewer
-//! than t shares fit every secret equally.
+//! The secret is the constant of a polynomial of t coefficients over a field, the others being
+//! sampled from a source of random words. Share i is the value at the point of i, which is the
+//! i-fold sum of one. Any t shares fix the polynomial, so its value at zero, the secret, is a
+//! weighted sum of theirs. Fewer than t shares fit every secret equally.
 #![tactic(auto)]
 
 mod combining;

@@ -6,7 +6,8 @@ ghost use Rattle.shared_secret.specs.Shares.{point};
 use commonware_math::algebra::{Mem, Ring};
 use std::alloc::Global;
 
-/// A share: an index from 1 on, and the value at its point. How many shares combine is not written in it.
+/// A share: an index from 1 on, and the value at its point. How many shares combine is not written
+/// in it.
 #[derive(Debug, Drop)]
 pub struct Share<F: Drop> {
     /// The index.
@@ -17,8 +18,8 @@ pub struct Share<F: Drop> {
 
 /// The point of an index: the index-fold sum of one.
 ///
-/// Where the multiples of one repeat after p, as they do in a field of characteristic p, the indices i
-/// and i + p have one point, and p has the point zero.
+/// Where the multiples of one repeat after p, as they do in a field of characteristic p, the
+/// indices i and i + p have one point, and p has the point zero.
 pub fn point<R: Ring>(alloc: Global, index: u32) -> Mem<R>
     ensures ok { IfOk result (λ x. R.same x (point R.Ring index)) }
     ensures never { IsTrue R.NEVER_REFUSES → IsOk result }

@@ -8,8 +8,8 @@ use commonware_math::algebra::{CryptoGroup, Mem, Object, Space};
 use commonware_math::poly::Poly;
 use std::alloc::Global;
 
-/// Whether the generator scaled by the share's value is same as the commitment's value at the point of its
-/// index, as it is for each share that `deal_committed` deals with this commitment.
+/// Whether the generator scaled by the share's value is same as the commitment's value at the point
+/// of its index, as it is for each share that `deal_committed` deals with this commitment.
 ///
 /// It says nothing of the index: `combine` refuses the index zero.
 pub fn verify<K: CryptoGroup>(

@@ -1,0 +1,2 @@
+pub mod FingerprintSteps
+pub mod SeenChanges

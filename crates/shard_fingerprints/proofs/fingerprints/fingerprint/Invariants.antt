@@ -1,0 +1,14 @@
+use Rattle.std.proofs.Common.{◌≡◌, ◌≤◌, length, drop}
+use Rattle.math_base.specs.Elements.{number}
+use Rattle.shard_fingerprints.specs.Fingerprints.{fingerprint}
+use Rattle.shard_fingerprints.proofs.fingerprints.fingerprint.Given as goal
+
+-- the fingerprint of the words from place i on
+abbrev pub invariant-loop-i : goal.invariant-loop-i
+invariant-loop-i l = record {
+  value : number l.value ≡ number (fingerprint (drop l.i l.words) l.key);
+  within : l.i ≤ length l.words;
+}
+
+abbrev pub decreases-loop-i : goal.decreases-loop-i
+decreases-loop-i l = l.i

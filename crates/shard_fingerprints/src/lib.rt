@@ -1,0 +1,12 @@
+//! Fingerprints of lists of words, by which accidental damage to shards is seen.
+//!
+//! The words are the coefficients of a polynomial over the Goldilocks field, and their fingerprint
+//! is its value at a key. Two different lists of n words have one fingerprint under at most n - 1
+//! keys, since their difference has no more roots. So damage that does not depend on the key is
+//! missed under at most n - 1 of the P - 1 keys other than zero.
+#![tactic(auto)]
+
+mod fingerprints;
+pub mod laws;
+
+pub use fingerprints::fingerprint;
