@@ -14,52 +14,48 @@ pub fn run<R: Element>(
     arguments: &str,
     answer: &mut Answer<R>,
 ) -> Result<bool, Fault> {
-    match call {
-        "zero" | "one" | "coset_shift" | "coset_shift_inv" => constant(alloc, call, answer)?,
-        "neg" | "double" | "square" | "inv" | "div_2" | "clone" => {
-            put_of_one(alloc, call, arguments, answer)?
-        }
-        "add" | "sub" | "mul" => put_of_two(alloc, call, arguments, answer)?,
-        "scale" | "exp" => by_limbs(alloc, call, arguments, answer)?,
-        "msm" | "msm_naive" => weighted(alloc, call, arguments, answer)?,
-        "powers" => progression(alloc, arguments, answer)?,
-        "root_of_unity" => root(alloc, arguments, answer)?,
-        "equals" => same(alloc, arguments, answer)?,
-        _ => return run_parts(alloc, call, arguments, answer),
-    }
-    Ok(true)
+    let x = match call {
+        "zero" | "one" | "coset_shift" | "coset_shift_inv" => constant(alloc, call),
+        "neg" | "double" | "square" | "inv" | "div_2" | "clone" => of_one(alloc, call, arguments),
+        "add" | "sub" | "mul" => of_two(alloc, call, arguments),
+        "scale" | "exp" => by_limbs(alloc, call, arguments),
+        "msm" | "msm_naive" => weighted(alloc, call, arguments),
+        _ => return run_others(alloc, call, arguments, answer),
+    };
+    answer.found(x).and(Ok(true))
 }
 
-/// Runs a call that answers parts; `false` where it is none.
-fn run_parts<R: Element>(
+/// Runs a call that answers more than an element, or none; `false` where it is none.
+fn run_others<R: Element>(
     alloc: Global,
     call: &str,
     arguments: &str,
     answer: &mut Answer<R>,
 ) -> Result<bool, Fault> {
-    match call {
-        "parts" => parts(alloc, arguments, answer)?,
-        "parts_add" => parts_of_two(alloc, "add", arguments, answer)?,
-        "parts_sub" => parts_of_two(alloc, "sub", arguments, answer)?,
-        "parts_mul" => parts_of_two(alloc, "mul", arguments, answer)?,
+    let done = match call {
+        "powers" => progression(alloc, arguments, answer),
+        "root_of_unity" => root(alloc, arguments, answer),
+        "equals" => same(alloc, arguments, answer),
+        "parts" => parts(alloc, arguments, answer),
+        "parts_add" | "parts_sub" | "parts_mul" => parts_of_two(alloc, call, arguments, answer),
         _ => return Ok(false),
-    }
-    Ok(true)
+    };
+    done.and(Ok(true))
 }
 
 /// `zero`, `one`, `coset_shift`, `coset_shift_inv`.
-fn constant<R: Element>(alloc: Global, call: &str, answer: &mut Answer<R>) -> Mem<()> {
+fn constant<R: Element>(alloc: Global, call: &str) -> Result<R, Fault> {
     let x = match call {
-        "zero" => R::zero(alloc)?,
-        "one" => R::one(alloc)?,
-        "coset_shift" => R::coset_shift(alloc)?,
-        _ => R::coset_shift_inv(alloc)?,
+        "zero" => R::zero(alloc),
+        "one" => R::one(alloc),
+        "coset_shift" => R::coset_shift(alloc),
+        _ => R::coset_shift_inv(alloc),
     };
-    answer.element(x)
+    x.map_err(Fault::Memory)
 }
 
-/// `neg A`, `double A`, `square A`, `inv A`, `div_2 A`, `clone A`.
-fn of_one<R: Element>(alloc: Global, call: &str, x: R) -> Mem<R> {
+/// The operation of one element.
+fn changed<R: Element>(alloc: Global, call: &str, x: R) -> Mem<R> {
     let mut x = x;
     match call {
         "neg" => return x.neg(alloc),
@@ -72,81 +68,66 @@ fn of_one<R: Element>(alloc: Global, call: &str, x: R) -> Mem<R> {
     Ok(x)
 }
 
-/// Adds the answer of an operation of one element.
-fn put_of_one<R: Element>(
-    alloc: Global,
-    call: &str,
-    arguments: &str,
-    answer: &mut Answer<R>,
-) -> Result<(), Fault> {
+/// `neg A`, `double A`, `square A`, `inv A`, `div_2 A`, `clone A`.
+fn of_one<R: Element>(alloc: Global, call: &str, arguments: &str) -> Result<R, Fault> {
     let x = element::<R>(alloc, arguments)?;
-    answer.element(of_one(alloc, call, x)?)?;
-    Ok(())
+    changed(alloc, call, x).map_err(Fault::Memory)
 }
 
-/// `add A B`, `sub A B`, `mul A B`.
-fn of_two<R: Element>(alloc: Global, call: &str, a: R, b: &R) -> Mem<R> {
+/// The operation of two elements.
+fn combined<R: Element>(alloc: Global, call: &str, a: R, b: &R) -> Mem<R> {
     match call {
-        "add" => a.add(alloc, b),
-        "sub" => a.sub(alloc, b),
+        "add" | "parts_add" => a.add(alloc, b),
+        "sub" | "parts_sub" => a.sub(alloc, b),
         _ => a.mul(alloc, b),
     }
 }
 
-/// The operation of the two elements of `A B`.
-fn of_arguments<R: Element>(alloc: Global, call: &str, arguments: &str) -> Result<R, Fault> {
+/// `add A B`, `sub A B`, `mul A B`.
+fn of_two<R: Element>(alloc: Global, call: &str, arguments: &str) -> Result<R, Fault> {
     let (a, b) = parted(arguments, ' ')?;
     let a = element::<R>(alloc, a)?;
     let b = element::<R>(alloc, b)?;
-    Ok(of_two(alloc, call, a, &b)?)
-}
-
-/// Adds the answer of an operation of two elements.
-fn put_of_two<R: Element>(
-    alloc: Global,
-    call: &str,
-    arguments: &str,
-    answer: &mut Answer<R>,
-) -> Result<(), Fault> {
-    answer.element(of_arguments::<R>(alloc, call, arguments)?)?;
-    Ok(())
+    combined(alloc, call, a, &b).map_err(Fault::Memory)
 }
 
 /// `scale A @ LIMB ..`, `exp A @ LIMB ..`: the multiple and the power.
-fn by_limbs<R: Element>(
-    alloc: Global,
-    call: &str,
-    arguments: &str,
-    answer: &mut Answer<R>,
-) -> Result<(), Fault> {
+fn by_limbs<R: Element>(alloc: Global, call: &str, arguments: &str) -> Result<R, Fault> {
     let (x, limbs) = parted(arguments, '@')?;
-    let x = element::<R>(alloc, x)?;
     let limbs = numbers(alloc, limbs)?;
+    let x = element::<R>(alloc, x)?;
     let out = if call == "scale" {
-        x.scale(alloc, &limbs)?
+        x.scale(alloc, &limbs)
     } else {
-        x.exp(alloc, &limbs)?
+        x.exp(alloc, &limbs)
     };
-    answer.element(out)?;
-    Ok(())
+    out.map_err(Fault::Memory)
 }
 
 /// `msm P .. @ S ..`, `msm_naive P .. @ S ..`: the sum of the points, each scaled.
-fn weighted<R: Element>(
-    alloc: Global,
-    call: &str,
-    arguments: &str,
-    answer: &mut Answer<R>,
-) -> Result<(), Fault> {
+fn weighted<R: Element>(alloc: Global, call: &str, arguments: &str) -> Result<R, Fault> {
     let (points, scalars) = parted(arguments, '@')?;
     let points = elements::<R>(alloc, points)?;
     let scalars = elements::<R>(alloc, scalars)?;
     let sum = if call == "msm" {
-        R::msm(alloc, &points, &scalars)?
+        R::msm(alloc, &points, &scalars)
     } else {
-        msm_naive::<R, R>(alloc, &points, &scalars)?
+        msm_naive::<R, R>(alloc, &points, &scalars)
     };
-    answer.element(sum)?;
+    sum.map_err(Fault::Memory)
+}
+
+/// Adds the first powers of an element, each times `shift`.
+fn put_powers<R: Element>(
+    alloc: Global,
+    shift: R,
+    base: &R,
+    count: usize,
+    answer: &mut Answer<R>,
+) -> Mem<()> {
+    for power in powers(alloc, shift, base).take(count) {
+        answer.element(power?)?;
+    }
     Ok(())
 }
 
@@ -158,13 +139,10 @@ fn progression<R: Element>(
 ) -> Result<(), Fault> {
     let (terms, count) = parted(arguments, '@')?;
     let (shift, base) = parted(terms.trim(), ' ')?;
+    let count = number(count.trim())? as usize;
     let shift = element::<R>(alloc, shift)?;
     let base = element::<R>(alloc, base)?;
-    let count = number(count.trim())? as usize;
-    for power in powers(alloc, shift, &base).take(count) {
-        answer.element(power?)?;
-    }
-    Ok(())
+    put_powers(alloc, shift, &base, count, answer).map_err(Fault::Memory)
 }
 
 /// `root_of_unity LG`: the root, or `none`.
@@ -172,18 +150,17 @@ fn root<R: Element>(alloc: Global, arguments: &str, answer: &mut Answer<R>) -> R
     let lg = u8::try_from(number(arguments)?)
         .ok()
         .ok_or(Fault::OutOfRange("lg above 255"))?;
-    match R::root_of_unity(alloc, lg)? {
-        Some(root) => answer.element(root)?,
-        None => answer.text.push_str(" none")?,
-    }
-    Ok(())
+    let done = match R::root_of_unity(alloc, lg)? {
+        Some(root) => answer.element(root),
+        None => answer.text.push_str(" none"),
+    };
+    done.map_err(Fault::Memory)
 }
 
 /// `equals A ..`: for each element the place of the first that it equals.
 fn same<R: Element>(alloc: Global, arguments: &str, answer: &mut Answer<R>) -> Result<(), Fault> {
     let items = elements::<R>(alloc, arguments)?;
-    put_firsts(&mut answer.text, &items, |a: &R, b: &R| a.equals(alloc, b))?;
-    Ok(())
+    put_firsts(&mut answer.text, &items, |a: &R, b: &R| a.equals(alloc, b)).map_err(Fault::Memory)
 }
 
 /// Adds the two numbers that an element is shown by.
@@ -208,7 +185,6 @@ fn parts_of_two<R: Element>(
     arguments: &str,
     answer: &mut Answer<R>,
 ) -> Result<(), Fault> {
-    let out = of_arguments::<R>(alloc, call, arguments)?;
-    put_parts(&mut answer.text, &out)?;
-    Ok(())
+    let out = of_two::<R>(alloc, call, arguments)?;
+    put_parts(&mut answer.text, &out).map_err(Fault::Memory)
 }

@@ -28,6 +28,11 @@ impl<R: Element> Answer<R> {
         Ok(())
     }
 
+    /// Adds the element that was found, or says why there is none.
+    pub fn found(&mut self, x: Result<R, Fault>) -> Result<(), Fault> {
+        self.element(x?).map_err(Fault::Memory)
+    }
+
     /// Adds an element with a key, as `K:E`.
     pub fn keyed(&mut self, key: u64, x: R) -> Mem<()> {
         write!(self.text, " {key}:_")?;

@@ -10,27 +10,36 @@ use std::alloc::Global;
 
 /// Runs a call of this module; `false` where it is none.
 pub fn run(alloc: Global, call: &str, arguments: &str, text: &mut String) -> Result<bool, Fault> {
-    match call {
-        "operators" => {
-            let (a, b) = two_numbers(arguments)?;
-            operators(F::from(a), F::from(b), text)?;
-        }
-        "constants" => {
-            put_element(text, F::ROOT_OF_UNITY)?;
-            put_element(text, F::NOT_ROOT_OF_UNITY)?;
-            put_element(text, F::NOT_ROOT_OF_UNITY_INV)?;
-        }
-        "to_le_bytes" => put_bytes(text, &element::<F>(alloc, arguments)?.to_le_bytes())?,
-        "bits_to_elements" => put(
-            text,
-            F::bits_to_elements(number(arguments)? as usize) as u64,
-        )?,
-        "pack" => pack(alloc, arguments, text)?,
-        "unpack" => unpack(alloc, arguments, text)?,
-        "pack_unpack" => pack_unpack(alloc, arguments, text)?,
+    let done = match call {
+        "operators" => operators(arguments, text),
+        "constants" => constants(text).map_err(Fault::Memory),
+        "to_le_bytes" => to_le_bytes(alloc, arguments, text),
+        "bits_to_elements" => bits_to_elements(arguments, text),
+        "pack" => pack(alloc, arguments, text),
+        "unpack" => unpack(alloc, arguments, text),
+        "pack_unpack" => pack_unpack(alloc, arguments, text),
         _ => return Ok(false),
-    }
-    Ok(true)
+    };
+    done.and(Ok(true))
+}
+
+/// `constants`: the root of unity of the greatest order, the coset shift, and its inverse.
+fn constants(text: &mut String) -> Mem<()> {
+    put_element(text, F::ROOT_OF_UNITY)?;
+    put_element(text, F::NOT_ROOT_OF_UNITY)?;
+    put_element(text, F::NOT_ROOT_OF_UNITY_INV)
+}
+
+/// `to_le_bytes A`: the bytes of the element.
+fn to_le_bytes(alloc: Global, arguments: &str, text: &mut String) -> Result<(), Fault> {
+    let x = element::<F>(alloc, arguments)?;
+    put_bytes(text, &x.to_le_bytes()).map_err(Fault::Memory)
+}
+
+/// `bits_to_elements N`: how many elements hold N bits.
+fn bits_to_elements(arguments: &str, text: &mut String) -> Result<(), Fault> {
+    let bits = number(arguments)? as usize;
+    put(text, F::bits_to_elements(bits) as u64).map_err(Fault::Memory)
 }
 
 /// Adds the number of an element.
@@ -40,7 +49,13 @@ pub fn put_element(text: &mut String, x: F) -> Mem<()> {
 
 /// `operators A B`: a + b, a - b, a b and -a; again the first three with b by reference; and the first
 /// three in place.
-fn operators(a: F, b: F, text: &mut String) -> Mem<()> {
+fn operators(arguments: &str, text: &mut String) -> Result<(), Fault> {
+    let (a, b) = two_numbers(arguments)?;
+    put_operators(F::from(a), F::from(b), text).map_err(Fault::Memory)
+}
+
+/// Adds what the operators make of two elements.
+fn put_operators(a: F, b: F, text: &mut String) -> Mem<()> {
     let mut sum = a;
     sum += &b;
     let mut difference = a;
@@ -68,8 +83,7 @@ fn pack(alloc: Global, arguments: &str, text: &mut String) -> Result<(), Fault> 
 fn unpack(alloc: Global, arguments: &str, text: &mut String) -> Result<(), Fault> {
     let elements = elements::<F>(alloc, arguments)?;
     let words: Vec<u64> = F::stream_to_u64s(elements.iter().copied()).collect(alloc)?;
-    put_all(text, &words)?;
-    Ok(())
+    put_all(text, &words).map_err(Fault::Memory)
 }
 
 /// `pack_unpack W ..`: how many elements the words are packed into, and the words that these hold.
@@ -80,6 +94,5 @@ fn pack_unpack(alloc: Global, arguments: &str, text: &mut String) -> Result<(), 
     let back: Vec<u64> = F::stream_to_u64s(F::stream_from_u64s(words.iter().copied())).collect(
         alloc,
     )?;
-    put_all(text, &back)?;
-    Ok(())
+    put_all(text, &back).map_err(Fault::Memory)
 }

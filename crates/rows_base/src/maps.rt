@@ -9,19 +9,16 @@ use std::alloc::Global;
 
 /// Runs a call of this module; `false` where it is none.
 pub fn run(alloc: Global, call: &str, arguments: &str, text: &mut String) -> Result<bool, Fault> {
-    match call {
-        "map" => put_map(
-            &Map::from_iter_dedup(alloc, pairs(alloc, arguments)?)?,
-            text,
-        )?,
-        "try_map" => put_map(&Map::try_from_iter(alloc, pairs(alloc, arguments)?)?, text)?,
-        "map_get" => get(alloc, arguments, text)?,
-        "with_values" => with_values(alloc, arguments, text)?,
-        "two_way_map" => put_map(&two_way(alloc, arguments)?.into_map(), text)?,
-        "two_way_get" => two_way_get(alloc, arguments, text)?,
+    let done = match call {
+        "map" => put_found_map(map(alloc, arguments), text),
+        "try_map" => put_found_map(try_map(alloc, arguments), text),
+        "map_get" => get(alloc, arguments, text),
+        "with_values" => put_found_map(with_values(alloc, arguments), text),
+        "two_way_map" => put_found_map(two_way_map(alloc, arguments), text),
+        "two_way_get" => two_way_get(alloc, arguments, text),
         _ => return Ok(false),
-    }
-    Ok(true)
+    };
+    done.and(Ok(true))
 }
 
 /// The pairs `K:V` of two numbers.
@@ -44,6 +41,21 @@ fn put_map(map: &Map<u64, u64>, text: &mut String) -> Mem<()> {
     Ok(())
 }
 
+/// Adds the map that was found, or says why there is none.
+fn put_found_map(map: Result<Map<u64, u64>, Fault>, text: &mut String) -> Result<(), Fault> {
+    put_map(&map?, text).map_err(Fault::Memory)
+}
+
+/// `map K:V ..`: the pairs, of each key the first.
+fn map(alloc: Global, arguments: &str) -> Result<Map<u64, u64>, Fault> {
+    Map::from_iter_dedup(alloc, pairs(alloc, arguments)?).map_err(Fault::Memory)
+}
+
+/// `try_map K:V ..`: the pairs, refused where two of them have one key.
+fn try_map(alloc: Global, arguments: &str) -> Result<Map<u64, u64>, Fault> {
+    Map::try_from_iter(alloc, pairs(alloc, arguments)?).map_err(Fault::Pairs)
+}
+
 /// Adds a number that was found, or `none`.
 fn put_found(text: &mut String, found: Option<&u64>) -> Mem<()> {
     match found {
@@ -64,9 +76,7 @@ fn put_values(map: &Map<u64, u64>, keys: &[u64], text: &mut String) -> Mem<()> {
 fn get(alloc: Global, arguments: &str, text: &mut String) -> Result<(), Fault> {
     let (list, keys) = parted(arguments, '@')?;
     let keys = numbers(alloc, keys)?;
-    let map = Map::from_iter_dedup(alloc, pairs(alloc, list)?)?;
-    put_values(&map, &keys, text)?;
-    Ok(())
+    put_values(&map(alloc, list)?, &keys, text).map_err(Fault::Memory)
 }
 
 /// The keys of a map with these values.
@@ -78,17 +88,20 @@ fn valued(map: Map<u64, u64>, values: Vec<u64>) -> Result<Map<u64, u64>, Fault> 
 }
 
 /// `with_values K:V .. @ V ..`: the keys with these values.
-fn with_values(alloc: Global, arguments: &str, text: &mut String) -> Result<(), Fault> {
+fn with_values(alloc: Global, arguments: &str) -> Result<Map<u64, u64>, Fault> {
     let (list, values) = parted(arguments, '@')?;
     let values = numbers(alloc, values)?;
-    let map = Map::from_iter_dedup(alloc, pairs(alloc, list)?)?;
-    put_map(&valued(map, values)?, text)?;
-    Ok(())
+    valued(map(alloc, list)?, values)
+}
+
+/// The two-way map of the pairs, refused where two of them have one key or one value.
+fn two_way(alloc: Global, text: &str) -> Result<BiMap<u64, u64>, Fault> {
+    BiMap::try_from_iter(alloc, pairs(alloc, text)?).map_err(Fault::Pairs)
 }
 
 /// `two_way_map K:V ..`: the pairs in the order of the keys.
-fn two_way(alloc: Global, text: &str) -> Result<BiMap<u64, u64>, Fault> {
-    Ok(BiMap::try_from_iter(alloc, pairs(alloc, text)?)?)
+fn two_way_map(alloc: Global, arguments: &str) -> Result<Map<u64, u64>, Fault> {
+    Ok(two_way(alloc, arguments)?.into_map())
 }
 
 /// Adds the number of pairs, whether there is none, and for each number the value of it as a key and the
@@ -108,6 +121,5 @@ fn put_both_ways(map: &BiMap<u64, u64>, wanted: &[u64], text: &mut String) -> Me
 fn two_way_get(alloc: Global, arguments: &str, text: &mut String) -> Result<(), Fault> {
     let (list, wanted) = parted(arguments, '@')?;
     let wanted = numbers(alloc, wanted)?;
-    put_both_ways(&two_way(alloc, list)?, &wanted, text)?;
-    Ok(())
+    put_both_ways(&two_way(alloc, list)?, &wanted, text).map_err(Fault::Memory)
 }

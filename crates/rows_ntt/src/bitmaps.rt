@@ -9,22 +9,28 @@ use std::alloc::Global;
 
 /// Runs a call of this module; `false` where it is none.
 pub fn run(alloc: Global, call: &str, arguments: &str, text: &mut String) -> Result<bool, Fault> {
-    match call {
-        "bitmap" => put_bitmap(&bitmap(alloc, arguments)?, text)?,
-        "full_bitmap" => put(text, full(alloc, arguments)?.count_non_vanishing())?,
-        "bitmap_equals" => same(alloc, arguments, text)?,
+    let done = match call {
+        "bitmap" => put_bitmap(alloc, arguments, text),
+        "full_bitmap" => put_full(alloc, arguments, text),
+        "bitmap_equals" => same(alloc, arguments, text),
         _ => return Ok(false),
-    }
-    Ok(true)
+    };
+    done.and(Ok(true))
 }
 
 /// `full_bitmap LG`: how many points don't vanish, which all do not.
+fn put_full(alloc: Global, arguments: &str, text: &mut String) -> Result<(), Fault> {
+    let points = full(alloc, arguments)?;
+    put(text, points.count_non_vanishing()).map_err(Fault::Memory)
+}
+
+/// The bitmap of 2^LG points, none of which vanishes.
 fn full(alloc: Global, text: &str) -> Result<VanishingPoints, Fault> {
     let lg = short(text)?;
     if lg >= 64 {
         return Err(Fault::OutOfRange("lg above 63"));
     }
-    Ok(VanishingPoints::all_non_vanishing(alloc, lg)?)
+    VanishingPoints::all_non_vanishing(alloc, lg).map_err(Fault::Memory)
 }
 
 /// The bitmap of 2^LG points, all of which vanish.
@@ -33,7 +39,7 @@ pub fn empty(alloc: Global, text: &str) -> Result<VanishingPoints, Fault> {
     if lg >= 64 {
         return Err(Fault::OutOfRange("lg above 63"));
     }
-    Ok(VanishingPoints::new(alloc, lg)?)
+    VanishingPoints::new(alloc, lg).map_err(Fault::Memory)
 }
 
 /// Sets a point to one that does not vanish.
@@ -58,8 +64,13 @@ fn bitmap(alloc: Global, text: &str) -> Result<VanishingPoints, Fault> {
     Ok(points)
 }
 
+/// `bitmap LG I ..`: how many points don't vanish, and their indices.
+fn put_bitmap(alloc: Global, arguments: &str, text: &mut String) -> Result<(), Fault> {
+    put_points(&bitmap(alloc, arguments)?, text).map_err(Fault::Memory)
+}
+
 /// Adds how many points don't vanish, and their indices.
-fn put_bitmap(points: &VanishingPoints, text: &mut String) -> Mem<()> {
+fn put_points(points: &VanishingPoints, text: &mut String) -> Mem<()> {
     put(text, points.count_non_vanishing())?;
     let size: u64 = 1 << points.lg_size();
     for index in 0..size {
@@ -78,6 +89,6 @@ fn same(alloc: Global, arguments: &str, text: &mut String) -> Result<(), Fault> 
     }
     put_firsts(text, &items, |a: &VanishingPoints, b: &VanishingPoints| {
         Ok(a == b)
-    })?;
-    Ok(())
+    })
+    .map_err(Fault::Memory)
 }

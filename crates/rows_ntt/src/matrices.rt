@@ -17,21 +17,34 @@ pub fn run<R: Element>(
     arguments: &str,
     answer: &mut Answer<R>,
 ) -> Result<bool, Fault> {
-    match call {
-        "matrix" => whole(alloc, arguments, answer)?,
-        "matrix_clone" => copy(alloc, arguments, answer)?,
-        "matrix_mul" => product(alloc, arguments, answer)?,
-        "matrix_equals" => same(alloc, arguments, answer)?,
-        "rows" => rows(alloc, arguments, answer)?,
-        "row" => row(alloc, arguments, answer)?,
-        "cell" => cell(alloc, arguments, answer)?,
-        "set_cell" | "set_in_row" => put_changed(alloc, call, arguments, answer)?,
-        _ => return Ok(false),
-    }
-    Ok(true)
+    let m = match call {
+        "matrix" => matrix(alloc, arguments),
+        "matrix_clone" => copy(alloc, arguments),
+        "matrix_mul" => product(alloc, arguments),
+        "set_cell" | "set_in_row" => changed(alloc, call, arguments),
+        _ => return run_others(alloc, call, arguments, answer),
+    };
+    put_found(alloc, m, answer).and(Ok(true))
 }
 
-/// The matrix with these cells, and with zeros after them.
+/// Runs a call that answers no matrix; `false` where it is none.
+fn run_others<R: Element>(
+    alloc: Global,
+    call: &str,
+    arguments: &str,
+    answer: &mut Answer<R>,
+) -> Result<bool, Fault> {
+    let done = match call {
+        "matrix_equals" => same(alloc, arguments, answer),
+        "rows" => rows(alloc, arguments, answer),
+        "row" => row(alloc, arguments, answer),
+        "cell" => answer.found(cell(alloc, arguments)),
+        _ => return Ok(false),
+    };
+    done.and(Ok(true))
+}
+
+/// `matrix M`: the matrix with these cells, and with zeros after them.
 pub fn matrix<R: Element>(alloc: Global, text: &str) -> Result<Matrix<R>, Fault>
     ensures { IfOk result (λ m. length m.cells ≡ m.rows * m.cols) }
 {
@@ -42,8 +55,7 @@ pub fn matrix<R: Element>(alloc: Global, text: &str) -> Result<Matrix<R>, Fault>
         return Err(Fault::OutOfRange("2^64 cells"));
     }
     let cells = elements::<R>(alloc, cells)?;
-    let m = Matrix::init(alloc, rows, cols, cells)?;
-    Ok(m)
+    Matrix::init(alloc, rows, cols, cells).map_err(Fault::Memory)
 }
 
 /// The matrices of a text, with `;` between them.
@@ -66,17 +78,20 @@ pub fn put_matrix<R: Element>(alloc: Global, m: &Matrix<R>, answer: &mut Answer<
     Ok(())
 }
 
-/// `matrix M`: the matrix.
-fn whole<R: Element>(alloc: Global, arguments: &str, answer: &mut Answer<R>) -> Result<(), Fault> {
-    put_matrix(alloc, &matrix::<R>(alloc, arguments)?, answer)?;
-    Ok(())
+/// Adds the matrix that was found, or says why there is none.
+fn put_found<R: Element>(
+    alloc: Global,
+    m: Result<Matrix<R>, Fault>,
+    answer: &mut Answer<R>,
+) -> Result<(), Fault> {
+    put_matrix(alloc, &m?, answer).map_err(Fault::Memory)
 }
 
 /// `matrix_clone M`: a copy of the matrix.
-fn copy<R: Element>(alloc: Global, arguments: &str, answer: &mut Answer<R>) -> Result<(), Fault> {
-    let copy = matrix::<R>(alloc, arguments)?.clone(alloc)?;
-    put_matrix(alloc, &copy, answer)?;
-    Ok(())
+fn copy<R: Element>(alloc: Global, arguments: &str) -> Result<Matrix<R>, Fault> {
+    matrix::<R>(alloc, arguments)?
+        .clone(alloc)
+        .map_err(Fault::Memory)
 }
 
 /// Adds the rows, each after `;`.
@@ -90,8 +105,7 @@ fn put_rows<R: Element>(alloc: Global, m: &Matrix<R>, answer: &mut Answer<R>) ->
 
 /// `rows M`: the rows, each after `;`.
 fn rows<R: Element>(alloc: Global, arguments: &str, answer: &mut Answer<R>) -> Result<(), Fault> {
-    put_rows(alloc, &matrix::<R>(alloc, arguments)?, answer)?;
-    Ok(())
+    put_rows(alloc, &matrix::<R>(alloc, arguments)?, answer).map_err(Fault::Memory)
 }
 
 /// The product, where the shapes fit.
@@ -99,20 +113,15 @@ fn multiplied<R: Element>(alloc: Global, a: &Matrix<R>, b: &Matrix<R>) -> Result
     if a.cols() != b.rows() || a.rows().checked_mul(b.cols()).is_none() {
         return Err(Fault::OutOfRange("shapes that don't fit"));
     }
-    Ok(a.mul(alloc, b)?)
+    a.mul(alloc, b).map_err(Fault::Memory)
 }
 
 /// `matrix_mul M @ N`: the product.
-fn product<R: Element>(
-    alloc: Global,
-    arguments: &str,
-    answer: &mut Answer<R>,
-) -> Result<(), Fault> {
+fn product<R: Element>(alloc: Global, arguments: &str) -> Result<Matrix<R>, Fault> {
     let (a, b) = parted(arguments, '@')?;
     let a = matrix::<R>(alloc, a)?;
     let b = matrix::<R>(alloc, b)?;
-    put_matrix(alloc, &multiplied(alloc, &a, &b)?, answer)?;
-    Ok(())
+    multiplied(alloc, &a, &b)
 }
 
 /// `matrix_equals M ; N ; ..`: for each matrix the place of the first that it equals.
@@ -120,8 +129,8 @@ fn same<R: Element>(alloc: Global, arguments: &str, answer: &mut Answer<R>) -> R
     let items = matrices::<R>(alloc, arguments)?;
     put_firsts(&mut answer.text, &items, |a: &Matrix<R>, b: &Matrix<R>| {
         a.equals(alloc, b)
-    })?;
-    Ok(())
+    })
+    .map_err(Fault::Memory)
 }
 
 /// The cells of row i.
@@ -137,8 +146,7 @@ fn row<R: Element>(alloc: Global, arguments: &str, answer: &mut Answer<R>) -> Re
     let (m, i) = parted(arguments, '@')?;
     let i = number(i.trim())? as usize;
     let m = matrix::<R>(alloc, m)?;
-    answer.copies(alloc, row_of(&m, i)?)?;
-    Ok(())
+    answer.copies(alloc, row_of(&m, i)?).map_err(Fault::Memory)
 }
 
 /// A copy of the cell in row i and column j.
@@ -146,16 +154,15 @@ fn cell_of<R: Element>(alloc: Global, m: &Matrix<R>, i: usize, j: usize) -> Resu
     if i >= m.rows() || j >= m.cols() {
         return Err(Fault::OutOfRange("no such cell"));
     }
-    Ok(m[(i, j)].clone(alloc)?)
+    m[(i, j)].clone(alloc).map_err(Fault::Memory)
 }
 
 /// `cell M @ I J`: the cell in row I and column J.
-fn cell<R: Element>(alloc: Global, arguments: &str, answer: &mut Answer<R>) -> Result<(), Fault> {
+fn cell<R: Element>(alloc: Global, arguments: &str) -> Result<R, Fault> {
     let (m, place) = parted(arguments, '@')?;
     let (i, j) = two_numbers(place)?;
     let m = matrix::<R>(alloc, m)?;
-    answer.element(cell_of(alloc, &m, i as usize, j as usize)?)?;
-    Ok(())
+    cell_of(alloc, &m, i as usize, j as usize)
 }
 
 /// Puts x in row i and column j, by its index or, for `set_in_row`, through the row.
@@ -172,23 +179,12 @@ fn set<R: Element>(call: &str, m: &mut Matrix<R>, i: usize, j: usize, x: R) -> R
 }
 
 /// `set_cell M @ I J @ X`, `set_in_row M @ I J @ X`: the matrix, after X was put in row I and column J.
-fn put_changed<R: Element>(
-    alloc: Global,
-    call: &str,
-    arguments: &str,
-    answer: &mut Answer<R>,
-) -> Result<(), Fault> {
+fn changed<R: Element>(alloc: Global, call: &str, arguments: &str) -> Result<Matrix<R>, Fault> {
     let (m, rest) = parted(arguments, '@')?;
     let (place, x) = parted(rest, '@')?;
     let (i, j) = two_numbers(place)?;
     let mut m = matrix::<R>(alloc, m)?;
-    set(
-        call,
-        &mut m,
-        i as usize,
-        j as usize,
-        element::<R>(alloc, x)?,
-    )?;
-    put_matrix(alloc, &m, answer)?;
-    Ok(())
+    let x = element::<R>(alloc, x)?;
+    set(call, &mut m, i as usize, j as usize, x)?;
+    Ok(m)
 }

@@ -19,14 +19,14 @@ pub fn run<R: Element>(
     arguments: &str,
     answer: &mut Answer<R>,
 ) -> Result<bool, Fault> {
-    match call {
-        "coefficients_up_to" => first_rows(alloc, arguments, answer)?,
-        "polynomials_equal" => same_polynomials(alloc, arguments, answer)?,
-        "fill_rows" => fill_rows(alloc, arguments, answer)?,
-        "evaluations_equal" => same_evaluations(alloc, arguments, answer)?,
+    let done = match call {
+        "coefficients_up_to" => first_rows(alloc, arguments, answer),
+        "polynomials_equal" => same_polynomials(alloc, arguments, answer),
+        "fill_rows" => fill_rows(alloc, arguments, answer),
+        "evaluations_equal" => same_evaluations(alloc, arguments, answer),
         _ => return Ok(false),
-    }
-    Ok(true)
+    };
+    done.and(Ok(true))
 }
 
 /// The columns of the matrix `M` as polynomials of N coefficients at least, from `N @ M`.
@@ -53,7 +53,7 @@ pub fn padded<R: Element>(
     let Some(_cells) = rows.checked_mul(m.cols()) else {
         return Err(Fault::OutOfRange("too many cells"));
     };
-    Ok(m.as_polynomials(alloc, n)?)
+    m.as_polynomials(alloc, n).map_err(Fault::Memory)
 }
 
 /// Adds the first rows of coefficients, each after `;`.
@@ -79,17 +79,17 @@ fn first_rows<R: Element>(
 ) -> Result<(), Fault> {
     let (up_to, columns) = parted(arguments, '@')?;
     let up_to = number(up_to.trim())? as usize;
-    match polynomials::<R>(alloc, columns)? {
-        Some(v) => put_first(alloc, &v, up_to, answer)?,
-        None => answer.text.push_str(" none")?,
-    }
-    Ok(())
+    let done = match polynomials::<R>(alloc, columns)? {
+        Some(v) => put_first(alloc, &v, up_to, answer),
+        None => answer.text.push_str(" none"),
+    };
+    done.map_err(Fault::Memory)
 }
 
 /// A copy of a vector of polynomials, from `N @ M`.
 fn copied<R: Element>(alloc: Global, text: &str) -> Result<PolynomialVector<R>, Fault> {
     match polynomials::<R>(alloc, text)? {
-        Some(v) => Ok(v.clone(alloc)?),
+        Some(v) => v.clone(alloc).map_err(Fault::Memory),
         None => Err(Fault::OutOfRange("no polynomials")),
     }
 }
@@ -108,8 +108,8 @@ fn same_polynomials<R: Element>(
         &mut answer.text,
         &items,
         |a: &PolynomialVector<R>, b: &PolynomialVector<R>| a.equals(alloc, b),
-    )?;
-    Ok(())
+    )
+    .map_err(Fault::Memory)
 }
 
 /// Rows of values, some of which are filled.
@@ -174,8 +174,7 @@ fn fill_rows<R: Element>(
 ) -> Result<(), Fault> {
     let v = filled::<R>(alloc, arguments)?.vector;
     put(&mut answer.text, v.filled_rows() as u64)?;
-    put_matrix(alloc, &v.data(), answer)?;
-    Ok(())
+    put_matrix(alloc, &v.data(), answer).map_err(Fault::Memory)
 }
 
 /// `evaluations_equal LG COLUMNS @ ROW : CELL .. @ .. ; ..`: for each vector the place of the first that
@@ -193,6 +192,6 @@ fn same_evaluations<R: Element>(
         &mut answer.text,
         &items,
         |a: &EvaluationVector<R>, b: &EvaluationVector<R>| a.equals(alloc, b),
-    )?;
-    Ok(())
+    )
+    .map_err(Fault::Memory)
 }

@@ -17,12 +17,12 @@ pub fn run<R: Element>(
     arguments: &str,
     answer: &mut Answer<R>,
 ) -> Result<bool, Fault> {
-    match call {
-        "divide" => put_division(alloc, arguments, answer)?,
-        "decode" => put_decoded(alloc, arguments, answer)?,
+    let done = match call {
+        "divide" => put_division(alloc, arguments, answer),
+        "decode" => put_decoded(alloc, arguments, answer),
         _ => return Ok(false),
-    }
-    Ok(true)
+    };
+    done.and(Ok(true))
 }
 
 /// `divide P .. ; D ..`: quotient and remainder.
@@ -50,8 +50,7 @@ fn put_quotient<R: Element>(
     let (quotient, remainder) = divide(alloc, p, d)?;
     answer.copies(alloc, &quotient)?;
     answer.text.push_str(" ;")?;
-    answer.copies(alloc, &remainder)?;
-    Ok(())
+    answer.copies(alloc, &remainder).map_err(Fault::Memory)
 }
 
 /// `decode COUNT ; POINT .. ; VALUE ..`: the coefficients, `;`, and the wrong places, or `none`.
@@ -60,16 +59,21 @@ fn put_decoded<R: Element>(
     arguments: &str,
     answer: &mut Answer<R>,
 ) -> Result<(), Fault> {
-    let (count, rest) = parted(arguments, ';')?;
+    let done = match decoded_from::<R>(alloc, arguments)? {
+        Some(found) => put_found(alloc, &found, answer),
+        None => answer.text.push_str(" none"),
+    };
+    done.map_err(Fault::Memory)
+}
+
+/// What `decode` answers to `COUNT ; POINT .. ; VALUE ..`.
+fn decoded_from<R: Element>(alloc: Global, text: &str) -> Result<Option<Decoded<R>>, Fault> {
+    let (count, rest) = parted(text, ';')?;
     let (points, values) = parted(rest, ';')?;
     let count = number(count.trim())? as usize;
     let points = elements::<R>(alloc, points)?;
     let values = elements::<R>(alloc, values)?;
-    match decoded(alloc, &points, &values, count)? {
-        Some(found) => put_found(alloc, &found, answer)?,
-        None => answer.text.push_str(" none")?,
-    }
-    Ok(())
+    decoded(alloc, &points, &values, count)
 }
 
 /// What `decode` answers, where it may be called.
@@ -85,7 +89,7 @@ fn decoded<R: Field>(
     if !are_distinct(alloc, points)? {
         return Err(Fault::OutOfRange("points that repeat"));
     }
-    Ok(decode(alloc, points, values, count)?)
+    decode(alloc, points, values, count).map_err(Fault::Memory)
 }
 
 /// Adds the coefficients, `;`, and the wrong places.

@@ -20,15 +20,15 @@ pub fn run<G: Element + HashToGroup>(
 where
     <G as CryptoGroup>::Scalar: Element,
 {
-    match call {
-        "generator" => answer.element(G::generator(alloc)?)?,
-        "commit" => commit(alloc, arguments, answer)?,
-        "commit_eval" => commit_eval(alloc, arguments, answer)?,
-        "hash_to_group" => hash(alloc, arguments, answer)?,
-        "rand_to_group" => random(alloc, arguments, answer)?,
+    let done = match call {
+        "generator" => answer.found(G::generator(alloc).map_err(Fault::Memory)),
+        "commit" => commit(alloc, arguments, answer),
+        "commit_eval" => answer.found(commit_eval(alloc, arguments)),
+        "hash_to_group" => answer.found(hash(alloc, arguments)),
+        "rand_to_group" => answer.found(random(alloc, arguments)),
         _ => return Ok(false),
-    }
-    Ok(true)
+    };
+    done.and(Ok(true))
 }
 
 /// The commitment of the polynomial with these coefficients.
@@ -37,7 +37,7 @@ where
     <G as CryptoGroup>::Scalar: Element,
 {
     let p = polynomial::<<G as CryptoGroup>::Scalar>(alloc, text)?;
-    Ok(Poly::<G>::commit(alloc, p)?)
+    Poly::<G>::commit(alloc, p).map_err(Fault::Memory)
 }
 
 /// `commit C ..`: the stored coefficients of the commitment.
@@ -49,46 +49,30 @@ fn commit<G: Element + HashToGroup>(
 where
     <G as CryptoGroup>::Scalar: Element,
 {
-    put_stored(alloc, &committed::<G>(alloc, arguments)?, answer)?;
-    Ok(())
+    put_stored(alloc, &committed::<G>(alloc, arguments)?, answer).map_err(Fault::Memory)
 }
 
 /// `commit_eval C .. @ X`: the value of the commitment at X.
-fn commit_eval<G: Element + HashToGroup>(
-    alloc: Global,
-    arguments: &str,
-    answer: &mut Answer<G>,
-) -> Result<(), Fault>
+fn commit_eval<G: Element + HashToGroup>(alloc: Global, arguments: &str) -> Result<G, Fault>
 where
     <G as CryptoGroup>::Scalar: Element,
 {
     let (coefficients, x) = parted(arguments, '@')?;
     let commitment = committed::<G>(alloc, coefficients)?;
     let x = element::<<G as CryptoGroup>::Scalar>(alloc, x)?;
-    answer.element(commitment.eval(alloc, &x)?)?;
-    Ok(())
+    commitment.eval(alloc, &x).map_err(Fault::Memory)
 }
 
 /// `hash_to_group BYTE .. @ BYTE ..`: the element that a separator and a message hash to.
-fn hash<G: Element + HashToGroup>(
-    alloc: Global,
-    arguments: &str,
-    answer: &mut Answer<G>,
-) -> Result<(), Fault> {
+fn hash<G: Element + HashToGroup>(alloc: Global, arguments: &str) -> Result<G, Fault> {
     let (separator, message) = parted(arguments, '@')?;
     let separator = bytes(alloc, separator)?;
     let message = bytes(alloc, message)?;
-    answer.element(G::hash_to_group(alloc, &separator, &message)?)?;
-    Ok(())
+    G::hash_to_group(alloc, &separator, &message).map_err(Fault::Memory)
 }
 
 /// `rand_to_group W ..`: the element of a source.
-fn random<G: Element + HashToGroup>(
-    alloc: Global,
-    arguments: &str,
-    answer: &mut Answer<G>,
-) -> Result<(), Fault> {
+fn random<G: Element + HashToGroup>(alloc: Global, arguments: &str) -> Result<G, Fault> {
     let words = numbers(alloc, arguments)?;
-    answer.element(G::rand_to_group(alloc, &mut Listed::new(&words))?)?;
-    Ok(())
+    G::rand_to_group(alloc, &mut Listed::new(&words)).map_err(Fault::Memory)
 }

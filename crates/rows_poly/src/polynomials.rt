@@ -15,20 +15,33 @@ pub fn run<R: Element>(
     arguments: &str,
     answer: &mut Answer<R>,
 ) -> Result<bool, Fault> {
-    match call {
-        "eval" | "eval_msm" => eval(alloc, call, arguments, answer)?,
-        "lin_comb_eval" => combined(alloc, arguments, answer)?,
-        "poly_zero" => zero(alloc, answer)?,
-        "poly_clone" | "poly_neg" | "poly_double" => put_of_one(alloc, call, arguments, answer)?,
-        "poly_add" | "poly_sub" => put_of_two(alloc, call, arguments, answer)?,
-        "poly_scaled" | "translate" => by_element(alloc, call, arguments, answer)?,
-        "poly_scale" => by_limbs(alloc, arguments, answer)?,
-        "poly_msm" => weighted(alloc, arguments, answer)?,
-        "poly_equals" => same(alloc, arguments, answer)?,
-        "degree" => sizes(alloc, arguments, answer)?,
+    let p = match call {
+        "poly_zero" => Poly::<R>::zero(alloc).map_err(Fault::Memory),
+        "poly_clone" | "poly_neg" | "poly_double" => of_one(alloc, call, arguments),
+        "poly_add" | "poly_sub" => of_two(alloc, call, arguments),
+        "poly_scaled" | "translate" => by_element(alloc, call, arguments),
+        "poly_scale" => by_limbs(alloc, arguments),
+        "poly_msm" => weighted(alloc, arguments),
+        _ => return run_others(alloc, call, arguments, answer),
+    };
+    put_found(alloc, p, answer).and(Ok(true))
+}
+
+/// Runs a call that answers no polynomial; `false` where it is none.
+fn run_others<R: Element>(
+    alloc: Global,
+    call: &str,
+    arguments: &str,
+    answer: &mut Answer<R>,
+) -> Result<bool, Fault> {
+    let done = match call {
+        "eval" | "eval_msm" => answer.found(eval(alloc, call, arguments)),
+        "lin_comb_eval" => answer.found(combined(alloc, arguments)),
+        "poly_equals" => same(alloc, arguments, answer),
+        "degree" => sizes(alloc, arguments, answer),
         _ => return Ok(false),
-    }
-    Ok(true)
+    };
+    done.and(Ok(true))
 }
 
 /// The polynomial whose coefficients are the words, from the constant upwards.
@@ -54,23 +67,26 @@ pub fn put_stored<R: Element>(alloc: Global, p: &Poly<R>, answer: &mut Answer<R>
     answer.copies(alloc, p.coefficients())
 }
 
-/// `eval C .. @ X`, `eval_msm C .. @ X`: the value at X.
-fn eval<R: Element>(
+/// Adds the stored coefficients of the polynomial that was found, or says why there is none.
+fn put_found<R: Element>(
     alloc: Global,
-    call: &str,
-    arguments: &str,
+    p: Result<Poly<R>, Fault>,
     answer: &mut Answer<R>,
 ) -> Result<(), Fault> {
+    put_stored(alloc, &p?, answer).map_err(Fault::Memory)
+}
+
+/// `eval C .. @ X`, `eval_msm C .. @ X`: the value at X.
+fn eval<R: Element>(alloc: Global, call: &str, arguments: &str) -> Result<R, Fault> {
     let (coefficients, point) = parted(arguments, '@')?;
     let p = polynomial::<R>(alloc, coefficients)?;
     let x = element::<R>(alloc, point)?;
     let value = if call == "eval" {
-        p.eval(alloc, &x)?
+        p.eval(alloc, &x)
     } else {
-        p.eval_msm(alloc, &x)?
+        p.eval_msm(alloc, &x)
     };
-    answer.element(value)?;
-    Ok(())
+    value.map_err(Fault::Memory)
 }
 
 /// The weight and the point of `W:X`.
@@ -90,25 +106,15 @@ fn weighted_points<R: Element>(alloc: Global, text: &str) -> Result<Vec<(R, R)>,
 }
 
 /// `lin_comb_eval C .. @ W:X ..`: the sum of the values at the points X, each times its weight W.
-fn combined<R: Element>(
-    alloc: Global,
-    arguments: &str,
-    answer: &mut Answer<R>,
-) -> Result<(), Fault> {
+fn combined<R: Element>(alloc: Global, arguments: &str) -> Result<R, Fault> {
     let (coefficients, pairs) = parted(arguments, '@')?;
     let p = polynomial::<R>(alloc, coefficients)?;
     let pairs = weighted_points::<R>(alloc, pairs)?;
-    answer.element(p.lin_comb_eval(alloc, &pairs)?)?;
-    Ok(())
+    p.lin_comb_eval(alloc, &pairs).map_err(Fault::Memory)
 }
 
-/// `poly_zero`: the stored coefficients.
-fn zero<R: Element>(alloc: Global, answer: &mut Answer<R>) -> Mem<()> {
-    put_stored(alloc, &Poly::<R>::zero(alloc)?, answer)
-}
-
-/// `poly_clone C ..`, `poly_neg C ..`, `poly_double C ..`: the stored coefficients.
-fn of_one<R: Element>(alloc: Global, call: &str, p: Poly<R>) -> Mem<Poly<R>> {
+/// The operation of one polynomial.
+fn changed<R: Element>(alloc: Global, call: &str, p: Poly<R>) -> Mem<Poly<R>> {
     let mut p = p;
     match call {
         "poly_clone" => return p.clone(alloc),
@@ -118,87 +124,60 @@ fn of_one<R: Element>(alloc: Global, call: &str, p: Poly<R>) -> Mem<Poly<R>> {
     Ok(p)
 }
 
-/// Adds the stored coefficients of the answer of an operation of one polynomial.
-fn put_of_one<R: Element>(
-    alloc: Global,
-    call: &str,
-    arguments: &str,
-    answer: &mut Answer<R>,
-) -> Result<(), Fault> {
+/// `poly_clone C ..`, `poly_neg C ..`, `poly_double C ..`.
+fn of_one<R: Element>(alloc: Global, call: &str, arguments: &str) -> Result<Poly<R>, Fault> {
     let p = polynomial::<R>(alloc, arguments)?;
-    put_stored(alloc, &of_one(alloc, call, p)?, answer)?;
-    Ok(())
+    changed(alloc, call, p).map_err(Fault::Memory)
 }
 
 /// The sum for `poly_add`, else the difference.
-fn of_two<R: Element>(alloc: Global, call: &str, p: Poly<R>, q: &Poly<R>) -> Mem<Poly<R>> {
-    let mut p = p;
-    if call == "poly_add" {
-        p.add_assign(alloc, q)?;
-    } else {
-        p.sub_assign(alloc, q)?;
-    }
-    Ok(p)
-}
-
-/// `poly_add A .. @ B ..`, `poly_sub A .. @ B ..`: the stored coefficients.
-fn put_of_two<R: Element>(
+fn sum_or_difference<R: Element>(
     alloc: Global,
     call: &str,
-    arguments: &str,
-    answer: &mut Answer<R>,
-) -> Result<(), Fault> {
+    p: Poly<R>,
+    q: &Poly<R>,
+) -> Mem<Poly<R>> {
+    match call {
+        "poly_add" => p.add(alloc, q),
+        _ => p.sub(alloc, q),
+    }
+}
+
+/// `poly_add A .. @ B ..`, `poly_sub A .. @ B ..`.
+fn of_two<R: Element>(alloc: Global, call: &str, arguments: &str) -> Result<Poly<R>, Fault> {
     let (a, b) = parted(arguments, '@')?;
     let p = polynomial::<R>(alloc, a)?;
     let q = polynomial::<R>(alloc, b)?;
-    put_stored(alloc, &of_two(alloc, call, p, &q)?, answer)?;
-    Ok(())
+    sum_or_difference(alloc, call, p, &q).map_err(Fault::Memory)
 }
 
 /// `poly_scaled C .. @ X`: the multiple by X; `translate C .. @ X`: X is added to each coefficient.
-fn by_element<R: Element>(
-    alloc: Global,
-    call: &str,
-    arguments: &str,
-    answer: &mut Answer<R>,
-) -> Result<(), Fault> {
+fn by_element<R: Element>(alloc: Global, call: &str, arguments: &str) -> Result<Poly<R>, Fault> {
     let (coefficients, x) = parted(arguments, '@')?;
     let p = polynomial::<R>(alloc, coefficients)?;
     let x = element::<R>(alloc, x)?;
     let out = if call == "translate" {
-        p.translate(alloc, |c: &R| c.clone(alloc)?.add(alloc, &x))?
+        p.translate(alloc, |c: &R| c.clone(alloc)?.add(alloc, &x))
     } else {
-        Space::<R>::scaled(p, alloc, &x)?
+        Space::<R>::scaled(p, alloc, &x)
     };
-    put_stored(alloc, &out, answer)?;
-    Ok(())
+    out.map_err(Fault::Memory)
 }
 
-/// `poly_scale C .. @ LIMB ..`: the stored coefficients of the multiple.
-fn by_limbs<R: Element>(
-    alloc: Global,
-    arguments: &str,
-    answer: &mut Answer<R>,
-) -> Result<(), Fault> {
+/// `poly_scale C .. @ LIMB ..`: the multiple.
+fn by_limbs<R: Element>(alloc: Global, arguments: &str) -> Result<Poly<R>, Fault> {
     let (coefficients, limbs) = parted(arguments, '@')?;
-    let p = polynomial::<R>(alloc, coefficients)?;
     let limbs = numbers(alloc, limbs)?;
-    put_stored(alloc, &p.scale(alloc, &limbs)?, answer)?;
-    Ok(())
+    let p = polynomial::<R>(alloc, coefficients)?;
+    p.scale(alloc, &limbs).map_err(Fault::Memory)
 }
 
-/// `poly_msm A .. ; B .. ; .. @ S ..`: the stored coefficients of the sum of the multiples.
-fn weighted<R: Element>(
-    alloc: Global,
-    arguments: &str,
-    answer: &mut Answer<R>,
-) -> Result<(), Fault> {
+/// `poly_msm A .. ; B .. ; .. @ S ..`: the sum of the multiples.
+fn weighted<R: Element>(alloc: Global, arguments: &str) -> Result<Poly<R>, Fault> {
     let (points, scalars) = parted(arguments, '@')?;
     let points = polynomials::<R>(alloc, points)?;
     let scalars = elements::<R>(alloc, scalars)?;
-    let sum: Poly<R> = Space::<R>::msm(alloc, &points, &scalars)?;
-    put_stored(alloc, &sum, answer)?;
-    Ok(())
+    Space::<R>::msm(alloc, &points, &scalars).map_err(Fault::Memory)
 }
 
 /// `poly_equals A .. ; B .. ; ..`: for each polynomial the place of the first that it equals.
@@ -206,8 +185,8 @@ fn same<R: Element>(alloc: Global, arguments: &str, answer: &mut Answer<R>) -> R
     let items = polynomials::<R>(alloc, arguments)?;
     put_firsts(&mut answer.text, &items, |a: &Poly<R>, b: &Poly<R>| {
         a.equals(alloc, b)
-    })?;
-    Ok(())
+    })
+    .map_err(Fault::Memory)
 }
 
 /// Adds the degree, the exact degree, and the number of values that fix the polynomial.
@@ -222,6 +201,7 @@ fn put_sizes<R: Element>(alloc: Global, p: &Poly<R>, text: &mut String) -> Mem<(
 fn sizes<R: Element>(alloc: Global, arguments: &str, answer: &mut Answer<R>) -> Result<(), Fault> {
     let p = polynomial::<R>(alloc, arguments)?;
     put_sizes(alloc, &p, &mut answer.text)?;
-    answer.element(p.constant().clone(alloc)?)?;
-    Ok(())
+    answer
+        .element(p.constant().clone(alloc)?)
+        .map_err(Fault::Memory)
 }
