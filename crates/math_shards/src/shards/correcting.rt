@@ -42,8 +42,8 @@ pub struct Joined {
 /// others, which are then answered. All shards of `join` are right, and it answers the same data.
 ///
 /// It refuses as `join` does, but that there is no `Conflict`: no shard at all with `TooFew`, the
-/// first shard that has other numbers with `Mismatch`, or an index out of range with `Index`; m below
-/// `min` with `TooFew`; and shards for which there are no such data with `Inconsistent`.
+/// first shard that has other numbers with `Mismatch`, or an index out of range with `Index`; m
+/// below `min` with `TooFew`; and shards for which there are no such data with `Inconsistent`.
 ///
 /// Takes memory as `join` does, and for a copy of its rows. The cells of two shards are compared
 /// where these have one index, for which each shard's index is read for each shard.
