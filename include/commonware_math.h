@@ -126,9 +126,9 @@ CWM_MUST_USE uint32_t cwm_recover(uint64_t *cells, size_t n, size_t cols, const 
  * numbers of these rows, rising, over the first of the `room` places of `wrong`, and how many they are into
  * *written. Where there are no such polynomials: CWM_INCONSISTENT. Where more rows are wrong than that, they may
  * fit other polynomials, which are then given.
- * n, cols, rows and words as for cwm_recover. room is rows / 2 or more, else CWM_WRONG_SIZE. count is at most the
- * number of filled rows, else CWM_TOO_FEW. With no wrong row it takes the time of cwm_recover; with some, time
- * grows with their number and with m^2. Takes three times the memory of cwm_recover. */
+ * n, cols, rows and words as for cwm_recover: a row that is not filled is not read. room is rows / 2 or more, else
+ * CWM_WRONG_SIZE. count is at most the number of filled rows, else CWM_TOO_FEW. With no wrong row it takes the time of
+ * cwm_recover; with some, time grows with their number and with m^2. Takes three times the memory of cwm_recover. */
 CWM_MUST_USE uint32_t cwm_correct(uint64_t *cells, size_t n, size_t cols, const uint8_t *filled, size_t rows, size_t count,
                                   size_t *wrong, size_t room, size_t *written);
 

@@ -7,7 +7,6 @@ use Rattle.math_base.specs.declared.fields.goldilocks.F.{F}
 use Rattle.math_base.specs.Elements.{number, root_of}
 use Rattle.math_transforms.specs.Matrices.{MatrixOf, IsOfSize}
 use Rattle.math_ntt.specs.CorrectedRows.{IsCorrected}
-use Rattle.math_ntt.specs.Evaluations.{EvaluationsOf}
 use Rattle.commonware_math_c.specs.WordCorrections.{AreCorrectedWords}
 use Rattle.commonware_math_c.specs.WordElements.{numbers, goldilocks}
 use Rattle.commonware_math_c.specs.WordRows.{AreFilledElements, HasRowsFor, truth, word_matrix, word_evaluations}
@@ -19,27 +18,22 @@ pub room_for_rows : (bytes rows wrong : List ℕ) (count : ℕ) → length bytes
     → length rows ≤ length wrong
 room_for_rows bytes rows wrong count room few = omega (arith, room, few, count_by-le-length (λ b. b) (truth bytes), length-map bytes (λ b. b == 1))
 
-pub corrected_words : (cols count lg : ℕ) (old bytes new wrong wrong' : List ℕ) (e : EvaluationsOf F) (q : MatrixOf F) (rows : List ℕ) (n : ℕ) → HasRowsFor (length old) cols (length bytes)
-    → All (λ b. b ≤ 1) bytes → AreFilledElements cols old bytes → length bytes ≡ 2 ^ lg → length bytes ≤ 2 * length wrong + 1 → e ≡ word_evaluations cols old bytes → new ≡ numbers q.cells
-    → n ≡ length rows → wrong' ≡ rows ++ drop n wrong → ((l : ℕ) → e.matrix.rows ≡ 2 ^ l → IsCorrected goldilocks (root_of l) e count q rows)
+-- the numbers of the coefficients that are corrected of the words
+pub corrected_words : (cols count lg : ℕ) (old bytes new wrong wrong' : List ℕ) (q : MatrixOf F) (rows : List ℕ) (n : ℕ) → HasRowsFor (length old) cols (length bytes)
+    → All (λ b. b ≤ 1) bytes → AreFilledElements cols old bytes → length bytes ≡ 2 ^ lg → length bytes ≤ 2 * length wrong + 1 → new ≡ numbers q.cells → n ≡ length rows
+    → wrong' ≡ rows ++ drop n wrong → ((l : ℕ) → length bytes ≡ 2 ^ l → IsCorrected goldilocks (root_of l) (word_evaluations cols old bytes) count q rows)
     → AreCorrectedWords cols count old bytes new wrong wrong' n
-corrected_words cols count lg old bytes new wrong wrong' e q rows n shape marks below power room m h is stand found =
-    let at_lg = found lg (ap (λ x. x.matrix.rows) m ∙ power) in
-    let size : IsOfSize q e.matrix.rows e.matrix.cols = at_lg.size in
-    let full : length q.cells ≡ length bytes * cols = size.2 ∙ ap (λ x. x.matrix.rows * x.matrix.cols) m in
-    let whole : q ≡ word_matrix (length bytes) cols new =
-    matrix_of_numbers q (length bytes) cols new (size.0 ∙ ap (λ x. x.matrix.rows) m) (size.1 ∙ ap (λ x. x.matrix.cols) m) h in
-    let there : (l : ℕ) → length bytes ≡ 2 ^ l → IsCorrected goldilocks (root_of l) (word_evaluations cols old bytes) count (word_matrix (length bytes) cols new) rows =
-    subst (λ (x : EvaluationsOf F). (l : ℕ) → x.matrix.rows ≡ 2 ^ l → IsCorrected goldilocks (root_of l) x count (word_matrix (length bytes) cols new) rows) m
-    (subst (λ (x : MatrixOf F). (l : ℕ) → e.matrix.rows ≡ 2 ^ l → IsCorrected goldilocks (root_of l) e count x rows) whole found) in
+corrected_words cols count lg old bytes new wrong wrong' q rows n shape marks below power room h is stand found =
+    let size : IsOfSize q (length bytes) cols = (found lg power).size in
+    let whole : q ≡ word_matrix (length bytes) cols new = matrix_of_numbers q (length bytes) cols new size.0 size.1 h in
     record {
       shape = shape;
       marks = marks;
       cells_below = below;
-      number = ap length h ∙ length-map q.cells number ∙ full ∙ sym shape.count;
+      number = ap length h ∙ length-map q.cells number ∙ size.2 ∙ sym shape.count;
       coefficients_below = rw h (numbers_below q.cells);
       rows = rows;
       count_rows = is;
-      stand = (room_for_rows bytes rows wrong count room (there lg power).few, rw is at stand);
-      corrected = there;
+      stand = (room_for_rows bytes rows wrong count room (found lg power).few, rw is at stand);
+      corrected = subst (λ (x : MatrixOf F). (l : ℕ) → length bytes ≡ 2 ^ l → IsCorrected goldilocks (root_of l) (word_evaluations cols old bytes) count x rows) whole found;
     }

@@ -1,6 +1,7 @@
 //! Shards of blocks of bytes, as bytes, a shard a row.
 //!
-//! Each word of a shard is eight bytes, the highest first, as words are in the encoding of a polynomial.
+//! Each word of a shard is eight bytes, the highest first, as words are in the encoding of a
+//! polynomial.
 
 ghost use Rattle.std.specs.Prelude.{◌≡◌, ◌↔◌, ◌<◌, ◌≤◌, ◌*◌, ◌⊎◌, ℕ, List, IsTrue, IsSome, IfOk, IfErr, IfSome, IfNone, MatchResult, None, OnOk, OnErr, length};
 ghost use Rattle.math_shards.specs.Joining.{IsMemory};
@@ -20,7 +21,8 @@ use std::alloc::Global;
 /// 2^60: all shards have fewer bytes.
 const BYTES: usize = 0x1000_0000_0000_0000;
 
-/// How many bytes each shard of a block of so many bytes has: `None` where those of all shards are too many.
+/// How many bytes each shard of a block of so many bytes has: `None` where those of all shards are
+/// too many.
 pub fn size(bytes: usize, min: u32, total: u32) -> Option<usize>
     requires { IsSplit min total }
     ensures some { IfSome result (λ size. HaveShardBytes bytes min total size) }
@@ -58,7 +60,8 @@ fn write_cells(bytes: &mut [u8], cells: &[F])
 /// Writes the shards of the block over the bytes, a shard a row.
 pub fn write_shards(alloc: Global, block: &[u8], min: u32, total: u32, bytes: &mut [u8]) -> Mem<()>
     requires split { IsSplit min total }
-    requires size { (n : ℕ) × HaveShardBytes (length block.now) min total n × (length bytes.old ≡ total * n) }
+    requires size { (n : ℕ) × HaveShardBytes (length block.now) min total n
+        × (length bytes.old ≡ total * n) }
     ensures ok { OnOk result (AreBytesOfShards block.now min total bytes.new) }
     ensures err { OnErr result (bytes.new ≡ bytes.old) }
 {
@@ -113,9 +116,11 @@ pub fn words_below(alloc: Global, bytes: &[u8]) -> Mem<Option<Vec<u64>>>
     }
 }
 
-/// Writes the block that the shards give back over the first bytes of `out`, and gives their number.
+/// Writes the block that the shards give back over the first bytes of `out`, and gives their
+/// number.
 ///
-/// The shards are handed in as words. `None` where there is no room. It refuses as `join_block` does.
+/// The shards are handed in as words. `None` where there is no room. It refuses as `join_block`
+/// does.
 pub fn write_block(
     alloc: Global,
     indices: &[u32],
@@ -131,11 +136,14 @@ pub fn write_block(
         × DoJoinToBlock block min total indices.now (word_bytes cells.now) × (n ≡ length block)
         × StandInFront block out.old out.new)) }
     ensures none { IfOk result (λ answer. IfNone answer ((block : List ℕ)
-        × DoJoinToBlock block min total indices.now (word_bytes cells.now) × (length out.old < length block))) }
+        × DoJoinToBlock block min total indices.now (word_bytes cells.now)
+        × (length out.old < length block))) }
     ensures kept { IfOk result (λ answer. IfNone answer (out.new ≡ out.old)) }
     ensures err { OnErr result (out.new ≡ out.old) }
-    ensures due { IfErr result (λ e. IsMemory e ⊎ AreBlockRefused e min total indices.now (word_bytes cells.now)) }
-    ensures found { (block : List ℕ) → DoJoinToBlock block min total indices.now (word_bytes cells.now)
+    ensures due { IfErr result (λ e. IsMemory e
+        ⊎ AreBlockRefused e min total indices.now (word_bytes cells.now)) }
+    ensures found { (block : List ℕ)
+        → DoJoinToBlock block min total indices.now (word_bytes cells.now)
         → length block ≤ length out.old → MatchResult result (λ answer. IsSome answer) IsMemory }
 {
     let shards = shards::shards_of(alloc, indices, min, total, cells, cols)?;

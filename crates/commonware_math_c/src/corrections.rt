@@ -7,14 +7,14 @@ ghost use Rattle.commonware_math_c.specs.WordRows.{AreFilledElements, HasRowsFor
 ghost use Rattle.commonware_math_c.specs.declared.status.Status.TheVariants.{Done, Inconsistent, TooFew};
 
 use crate::elements::write_numbers;
-use crate::rows::{matrix, points};
+use crate::rows::{filled_elements, matrix_of, points};
 use crate::status::Status;
 use commonware_math::algebra::Mem;
 use commonware_math::ntt::{Corrected, EvaluationVector};
 use std::alloc::Global;
 
-/// Puts the coefficients of the polynomials that fit all rows whose byte is 1 but so few in place of the cells, and
-/// writes these rows.
+/// Puts the coefficients of the polynomials that fit all rows whose byte is 1 but so few in place
+/// of the cells, and writes these rows.
 pub fn correct_words(
     alloc: Global,
     cells: &mut [u64],
@@ -31,18 +31,21 @@ pub fn correct_words(
     requires marks { All (λ b. b ≤ 1) bytes.now }
     requires below { AreFilledElements cols cells.old bytes.now }
     requires room { length bytes.now ≤ 2 * length wrong.old + 1 }
-    ensures done { IfOk result (λ status. status ≡ Done
-        → AreCorrectedWords cols count cells.old bytes.now cells.new wrong.old wrong.new written.new) }
+    ensures done { IfOk result (λ status. status ≡ Done → AreCorrectedWords cols count
+        cells.old bytes.now cells.new wrong.old wrong.new written.new) }
     ensures kept { IfOk result (λ status. status ≢ Done
         → (cells.new ≡ cells.old) × (wrong.new ≡ wrong.old) × (written.new ≡ written.old)) }
     ensures err { OnErr result
         ((cells.new ≡ cells.old) × (wrong.new ≡ wrong.old) × (written.new ≡ written.old)) }
-    ensures too_few { IfOk result (λ status. status ≡ TooFew → count_true (truth bytes.now) < count) }
+    ensures too_few { IfOk result (λ status. status ≡ TooFew
+        → count_true (truth bytes.now) < count) }
     ensures none { IfOk result (λ status. status ≡ Inconsistent
         → ¬ (HaveNearRows cols count cells.old bytes.now)) }
-    ensures statuses { IfOk result (λ status. (status ≡ Done) ⊎ ((status ≡ TooFew) ⊎ (status ≡ Inconsistent))) }
+    ensures statuses { IfOk result
+        (λ status. (status ≡ Done) ⊎ ((status ≡ TooFew) ⊎ (status ≡ Inconsistent))) }
 {
-    let matrix = matrix(alloc, cells, bytes.len(), cols)?;
+    let items = filled_elements(alloc, cells, cols, bytes)?;
+    let matrix = matrix_of(items, bytes.len(), cols);
     let points = points(alloc, lg, bytes)?;
     if count as u64 > points.count_non_vanishing() {
         return Ok(Status::TooFew);

@@ -14,14 +14,16 @@ use math_decoding::decoding::decode;
 use math_decoding::points::are_distinct;
 use std::alloc::Global;
 
-/// Whether there are as many values as points, no more coefficients than these, and room for half of the others.
+/// Whether there are as many values as points, no more coefficients than these, and room for half
+/// of the others.
 pub fn are_decoding_sizes(points: usize, values: usize, coefficients: usize, wrong: usize) -> bool
     ensures { IsTrue result ↔ HasDecodingSizes points values coefficients wrong }
 {
     values == points && coefficients <= points && (points - coefficients) / 2 <= wrong
 }
 
-/// Writes the coefficients of the polynomial that differs from so few values, and the places at which it does.
+/// Writes the coefficients of the polynomial that differs from so few values, and the places at
+/// which it does.
 pub fn decode_words(
     alloc: Global,
     points: &[u64],
@@ -37,13 +39,17 @@ pub fn decode_words(
     ensures done { IfOk result (λ status. status ≡ Done
         → AreDecodedWords points.now values.now coefficients.new wrong.old wrong.new count.new) }
     ensures kept { IfOk result (λ status. status ≢ Done
-        → (coefficients.new ≡ coefficients.old) × (wrong.new ≡ wrong.old) × (count.new ≡ count.old)) }
+        → (coefficients.new ≡ coefficients.old) × (wrong.new ≡ wrong.old)
+        × (count.new ≡ count.old)) }
     ensures err { OnErr result
-        ((coefficients.new ≡ coefficients.old) × (wrong.new ≡ wrong.old) × (count.new ≡ count.old)) }
-    ensures repeated { IfOk result (λ status. status ≡ Repeated → ¬ (AreApart same (elements points.now))) }
+        ((coefficients.new ≡ coefficients.old) × (wrong.new ≡ wrong.old)
+        × (count.new ≡ count.old)) }
+    ensures repeated { IfOk result (λ status. status ≡ Repeated
+        → ¬ (AreApart same (elements points.now))) }
     ensures none { IfOk result (λ status. status ≡ Inconsistent
         → ¬ (HasNearWords points.now values.now (length coefficients.old))) }
-    ensures statuses { IfOk result (λ status. (status ≡ Done) ⊎ ((status ≡ Repeated) ⊎ (status ≡ Inconsistent))) }
+    ensures statuses { IfOk result
+        (λ status. (status ≡ Done) ⊎ ((status ≡ Repeated) ⊎ (status ≡ Inconsistent))) }
 {
     let points = elements(alloc, points)?;
     let values = elements(alloc, values)?;

@@ -58,8 +58,8 @@ pub fn number_of(a: &F) -> u64
     u64::from_le_bytes(a.to_le_bytes())
 }
 
-/// Writes the numbers of the elements over the words, of which there are as many. Both are slices of one
-/// length, so that no place is tested.
+/// Writes the numbers of the elements over the words, of which there are as many. Both are slices
+/// of one length, so that no place is tested.
 pub fn write_numbers(words: &mut [u64], items: &[F])
     requires { length words.old ≡ length items.now }
     ensures { words.new ≡ numbers items.now }
@@ -73,7 +73,8 @@ pub fn write_numbers(words: &mut [u64], items: &[F])
 /// Reads the words that the bytes spell, eight bytes each, highest first, over the words.
 pub fn read_words(alloc: Global, words: &mut [u64], bytes: &[u8])
     requires { length bytes.now ≡ 8 * length words.old }
-    ensures { (items : List ℕ) → AreElements items → bytes.now ≡ flat_map (to_be_bytes w64) items → words.new ≡ items }
+    ensures { (items : List ℕ) → AreElements items → bytes.now ≡ flat_map (to_be_bytes w64) items
+        → words.new ≡ items }
 {
     let mut rest = bytes;
     for i in 0..words.len() {
@@ -84,8 +85,8 @@ pub fn read_words(alloc: Global, words: &mut [u64], bytes: &[u8])
     }
 }
 
-/// What follows so many words in front of the bytes, eight bytes each, highest first, where they are there and
-/// each is below P.
+/// What follows so many words in front of the bytes, eight bytes each, highest first, where they
+/// are there and each is below P.
 ///
 /// All words are looked at before it answers, so that none waits for the one before it.
 fn after_words_below(alloc: Global, count: u32, bytes: &[u8]) -> Option<&[u8]>
@@ -108,11 +109,12 @@ fn after_words_below(alloc: Global, count: u32, bytes: &[u8]) -> Option<&[u8]>
     if below { Some(rest) } else { None }
 }
 
-/// Goes over so many words in front of the bytes, eight bytes each, highest first, and gives what follows them. It
-/// refuses with the first fault from left to right: a word that is P or more, or no further word.
+/// Goes over so many words in front of the bytes, eight bytes each, highest first, and gives what
+/// follows them. It refuses with the first fault from left to right: a word that is P or more, or
+/// no further word.
 pub fn after_elements(alloc: Global, count: u32, bytes: &[u8]) -> Result<&[u8], Error>
-    ensures taken { IfOk result (λ rest. (words : List ℕ) × (length words ≡ count) × AreElements words
-        × (bytes.now ≡ flat_map (to_be_bytes w64) words ++ rest.now)) }
+    ensures taken { IfOk result (λ rest. (words : List ℕ) × (length words ≡ count)
+        × AreElements words × (bytes.now ≡ flat_map (to_be_bytes w64) words ++ rest.now)) }
     ensures memory { OnMemory result ⊥ }
     ensures exact { Agrees (λ rest. rest.now) result (scan_items scan_element count bytes.now) }
 {

@@ -1,8 +1,9 @@
-//! The library for callers in C: polynomials over the Goldilocks field as words in the caller's memory.
+//! The library for callers in C: polynomials over the Goldilocks field as words in the caller's
+//! memory.
 //!
-//! Each function is a few lines over a safe one, which has the work and its contract over elements. What
-//! it answers is a status; `include/commonware_math.h` says what a caller has to know. A slice crosses as
-//! a pointer and a length, and a `Global` takes no place among the arguments.
+//! Each function is a few lines over a safe one, which has the work and its contract over elements.
+//! What it answers is a status; `include/commonware_math.h` says what a caller has to know. A slice
+//! crosses as a pointer and a length, and a `Global` takes no place among the arguments.
 #![tactic(auto)]
 
 ghost use Rattle.std.specs.Prelude.{◌≡◌, ◌≢◌, ◌<◌, ◌≤◌, ◌-◌, ◌+◌, ◌*◌, ◌++◌, ◌⊎◌, ℕ, List, length, replicate, All};
@@ -118,14 +119,16 @@ pub extern "C" fn cwm_interpolate(alloc: Global, cells: &mut [u64], cols: usize)
     }
 }
 
-/// Puts the coefficients of the polynomials that fit the filled rows in place of the cells, in each column.
+/// Puts the coefficients of the polynomials that fit the filled rows in place of the cells, in each
+/// column.
 #[unsafe(no_mangle)]
 pub extern "C" fn cwm_recover(alloc: Global, cells: &mut [u64], cols: usize, filled: &[u8]) -> u32
     ensures recovered { result ≡ done → AreRecoveredWords cols cells.old filled.now cells.new }
     ensures kept { result ≢ done → cells.new ≡ cells.old }
     ensures range { result ≡ out_of_range
         → ¬ (All (λ b. b ≤ 1) filled.now × AreFilledElements cols cells.old filled.now) }
-    ensures size { result ≡ wrong_size → ¬ (HasRowsFor (length cells.old) cols (length filled.now)) }
+    ensures size { result ≡ wrong_size
+        → ¬ (HasRowsFor (length cells.old) cols (length filled.now)) }
     ensures statuses { result ≤ wrong_size }
 {
     let Some(lg) = lg_of_these_rows(cells.len(), cols, filled.len()) else {
@@ -140,8 +143,8 @@ pub extern "C" fn cwm_recover(alloc: Global, cells: &mut [u64], cols: usize, fil
     }
 }
 
-/// Puts the coefficients of the only polynomials that fit all filled rows but so few in place of the cells, in each
-/// column, and writes these rows.
+/// Puts the coefficients of the only polynomials that fit all filled rows but so few in place of
+/// the cells, in each column, and writes these rows.
 #[unsafe(no_mangle)]
 pub extern "C" fn cwm_correct(
     alloc: Global,
@@ -152,8 +155,8 @@ pub extern "C" fn cwm_correct(
     wrong: &mut [usize],
     written: &mut usize,
 ) -> u32
-    ensures corrected { result ≡ done
-        → AreCorrectedWords cols count cells.old filled.now cells.new wrong.old wrong.new written.new }
+    ensures corrected { result ≡ done → AreCorrectedWords cols count
+        cells.old filled.now cells.new wrong.old wrong.new written.new }
     ensures kept { result ≢ done
         → (cells.new ≡ cells.old) × (wrong.new ≡ wrong.old) × (written.new ≡ written.old) }
     ensures none { result ≡ inconsistent → ¬ (HaveNearRows cols count cells.old filled.now) }
@@ -212,7 +215,8 @@ pub extern "C" fn cwm_weights_at_roots(
     ensures weights { result ≡ done → AreWordWeightsAtRoots x total indices.now weights.new }
     ensures kept { result ≢ done → weights.new ≡ weights.old }
     ensures range { result ≡ out_of_range → P ≤ x }
-    ensures size { result ≡ wrong_size → ¬ ((0 < total) × (length weights.old ≡ length indices.now)) }
+    ensures size { result ≡ wrong_size
+        → ¬ ((0 < total) × (length weights.old ≡ length indices.now)) }
     ensures index { result ≡ wrong_index → ¬ (AreRising total indices.now) }
     ensures statuses { (result ≤ wrong_size) ⊎ (result ≡ wrong_index) }
 {
@@ -234,8 +238,8 @@ pub extern "C" fn cwm_weights_at_roots(
     }
 }
 
-/// Writes the coefficients of the only polynomial that differs from so few of the values at the points, and the places
-/// at which it does.
+/// Writes the coefficients of the only polynomial that differs from so few of the values at the
+/// points, and the places at which it does.
 #[unsafe(no_mangle)]
 pub extern "C" fn cwm_decode(
     alloc: Global,
@@ -248,8 +252,10 @@ pub extern "C" fn cwm_decode(
     ensures decoded { result ≡ done
         → AreDecodedWords points.now values.now coefficients.new wrong.old wrong.new count.new }
     ensures kept { result ≢ done
-        → (coefficients.new ≡ coefficients.old) × (wrong.new ≡ wrong.old) × (count.new ≡ count.old) }
-    ensures none { result ≡ inconsistent → ¬ (HasNearWords points.now values.now (length coefficients.old)) }
+        → (coefficients.new ≡ coefficients.old) × (wrong.new ≡ wrong.old)
+        × (count.new ≡ count.old) }
+    ensures none { result ≡ inconsistent
+        → ¬ (HasNearWords points.now values.now (length coefficients.old)) }
     ensures repeated { result ≡ repeated → ¬ (AreApart same (elements points.now)) }
     ensures range { result ≡ out_of_range → ¬ (AreElements points.now × AreElements values.now) }
     ensures size { result ≡ wrong_size → ¬ (HasDecodingSizes (length points.now) (length values.now)
@@ -276,9 +282,11 @@ pub extern "C" fn cwm_encode_poly(
     out: &mut [u8],
     written: &mut usize,
 ) -> u32
-    ensures encoded { result ≡ done → StandInFront (polynomial_spelling coefficients.now) out.old out.new }
+    ensures encoded { result ≡ done
+        → StandInFront (polynomial_spelling coefficients.now) out.old out.new }
     ensures count { result ≡ done → written.new ≡ length (polynomial_spelling coefficients.now) }
-    ensures taken { result ≡ done → IsCoefficientCount (length coefficients.now) × AreElements coefficients.now }
+    ensures taken { result ≡ done
+        → IsCoefficientCount (length coefficients.now) × AreElements coefficients.now }
     ensures kept { result ≢ done → (out.new ≡ out.old) × (written.new ≡ written.old) }
     ensures range { result ≡ out_of_range → ¬ (AreElements coefficients.now) }
     ensures size { result ≡ wrong_size → ¬ (IsCoefficientCount (length coefficients.now)
@@ -309,11 +317,14 @@ pub extern "C" fn cwm_decode_poly(
     out: &mut [u64],
     count: &mut usize,
 ) -> u32
-    ensures decoded { result ≡ done → (p : List ℕ) × IsEncodedBy p bytes.now × (count.new ≡ length p)
+    ensures decoded { result ≡ done → (p : List ℕ) × IsEncodedBy p bytes.now
+        × (count.new ≡ length p)
         × StandInFront p out.old out.new }
     ensures kept { result ≢ done → (out.new ≡ out.old) × (count.new ≡ count.old) }
-    ensures size { result ≡ wrong_size → (p : List ℕ) × IsEncodedBy p bytes.now × (length out.old < length p) }
-    ensures fault { result ≢ out_of_memory → result ≢ wrong_size → result ≡ status_of_read (scan_polynomial bytes.now) }
+    ensures size { result ≡ wrong_size
+        → (p : List ℕ) × IsEncodedBy p bytes.now × (length out.old < length p) }
+    ensures fault { result ≢ out_of_memory → result ≢ wrong_size
+        → result ≡ status_of_read (scan_polynomial bytes.now) }
 {
     match polynomials::decode(alloc, bytes, out) {
         Ok(Some(n)) => {
@@ -325,7 +336,8 @@ pub extern "C" fn cwm_decode_poly(
     }
 }
 
-/// Writes how many cells each of `total` shards of so many words has, of which `min` give these back.
+/// Writes how many cells each of `total` shards of so many words has, of which `min` give these
+/// back.
 #[unsafe(no_mangle)]
 pub extern "C" fn cwm_shard_sizes(words: usize, min: u32, total: u32, cells: &mut usize) -> u32
     ensures sizes { result ≡ done → IsSplit min total × HaveShardSizes words min total cells.new }
@@ -353,12 +365,14 @@ pub extern "C" fn cwm_split(
     total: u32,
     cells: &mut [u64],
 ) -> u32
-    ensures shards { result ≡ done → IsSplit min total × AreWordsOfShards words.now min total cells.new }
+    ensures shards { result ≡ done
+        → IsSplit min total × AreWordsOfShards words.now min total cells.new }
     ensures kept { result ≢ done → cells.new ≡ cells.old }
     ensures size { result ≡ wrong_size → ¬ ((n : ℕ) × HaveShardSizes (length words.now) min total n
         × (length cells.old ≡ total * n)) }
     ensures mismatch { result ≡ mismatch → ¬ (IsSplit min total) }
-    ensures statuses { (result ≡ done) ⊎ (result ≡ out_of_memory) ⊎ (result ≡ wrong_size) ⊎ (result ≡ mismatch) }
+    ensures statuses { (result ≡ done) ⊎ (result ≡ out_of_memory) ⊎ (result ≡ wrong_size)
+        ⊎ (result ≡ mismatch) }
 {
     if !is_split(min, total) {
         return Status::Mismatch.code();
@@ -372,8 +386,8 @@ pub extern "C" fn cwm_split(
     }
 }
 
-/// Writes the data that the shards give back over the first words of `out`: row i of the cells is the
-/// shard of index i of the indices.
+/// Writes the data that the shards give back over the first words of `out`: row i of the cells is
+/// the shard of index i of the indices.
 #[unsafe(no_mangle)]
 pub extern "C" fn cwm_join(
     alloc: Global,
@@ -384,12 +398,14 @@ pub extern "C" fn cwm_join(
     out: &mut [u64],
     written: &mut usize,
 ) -> u32
-    ensures joined { result ≡ done → (words : List ℕ) × DoJoinTo words min total indices.now cells.now
+    ensures joined { result ≡ done
+        → (words : List ℕ) × DoJoinTo words min total indices.now cells.now
         × (written.new ≡ length words) × StandInFront words out.old out.new }
     ensures kept { result ≢ done → (out.new ≡ out.old) × (written.new ≡ written.old) }
     ensures range { result ≡ out_of_range → ¬ (AreElements cells.now) }
     ensures size { result ≡ wrong_size → ¬ (AreRowsOf (length cells.now) (length indices.now))
-        ⊎ ((words : List ℕ) × DoJoinTo words min total indices.now cells.now × (length out.old < length words)) }
+        ⊎ ((words : List ℕ) × DoJoinTo words min total indices.now cells.now
+        × (length out.old < length words)) }
     ensures refused { (e : Error) → result ≡ status_of_shards e → result ≢ out_of_memory
         → AreRefused e min total indices.now cells.now }
     ensures found { (words : List ℕ) → DoJoinTo words min total indices.now cells.now
@@ -412,8 +428,8 @@ pub extern "C" fn cwm_join(
     }
 }
 
-/// As `cwm_join`, however some of the shards are wrong: writes the positions of these, rising, over the first items of
-/// `left_out` too.
+/// As `cwm_join`, however some of the shards are wrong: writes the positions of these, rising, over
+/// the first items of `left_out` too.
 #[unsafe(no_mangle)]
 pub extern "C" fn cwm_join_corrected(
     alloc: Global,
@@ -439,7 +455,8 @@ pub extern "C" fn cwm_join_corrected(
         × (length out.old < length words))) }
     ensures refused { (e : Error) → result ≡ status_of_shards e → result ≢ out_of_memory
         → AreRefusedCorrecting e min total indices.now cells.now }
-    ensures found { (words positions : List ℕ) → DoCorrectTo words positions min total indices.now cells.now
+    ensures found { (words positions : List ℕ)
+        → DoCorrectTo words positions min total indices.now cells.now
         → length words ≤ length out.old → length indices.now ≤ length left_out.old
         → (result ≡ done) ⊎ (result ≡ out_of_memory) }
     ensures statuses { result ≤ 8 }
@@ -464,7 +481,8 @@ pub extern "C" fn cwm_join_corrected(
     }
 }
 
-/// Writes how many bytes each of `total` shards of a block of so many bytes has, of which `min` give it back.
+/// Writes how many bytes each of `total` shards of a block of so many bytes has, of which `min`
+/// give it back.
 #[unsafe(no_mangle)]
 pub extern "C" fn cwm_shard_bytes_sizes(bytes: usize, min: u32, total: u32, size: &mut usize) -> u32
     ensures sizes { result ≡ done → IsSplit min total × HaveShardBytes bytes min total size.new }
@@ -492,12 +510,14 @@ pub extern "C" fn cwm_split_bytes(
     total: u32,
     shards: &mut [u8],
 ) -> u32
-    ensures shards { result ≡ done → IsSplit min total × AreBytesOfShards block.now min total shards.new }
+    ensures shards { result ≡ done
+        → IsSplit min total × AreBytesOfShards block.now min total shards.new }
     ensures kept { result ≢ done → shards.new ≡ shards.old }
     ensures size { result ≡ wrong_size → ¬ ((n : ℕ) × HaveShardBytes (length block.now) min total n
         × (length shards.old ≡ total * n)) }
     ensures mismatch { result ≡ mismatch → ¬ (IsSplit min total) }
-    ensures statuses { (result ≡ done) ⊎ (result ≡ out_of_memory) ⊎ (result ≡ wrong_size) ⊎ (result ≡ mismatch) }
+    ensures statuses { (result ≡ done) ⊎ (result ≡ out_of_memory) ⊎ (result ≡ wrong_size)
+        ⊎ (result ≡ mismatch) }
 {
     if !is_split(min, total) {
         return Status::Mismatch.code();
@@ -511,8 +531,8 @@ pub extern "C" fn cwm_split_bytes(
     }
 }
 
-/// Writes the block that the shards give back over the first bytes of `out`: row i of the bytes is the
-/// shard of index i of the indices.
+/// Writes the block that the shards give back over the first bytes of `out`: row i of the bytes is
+/// the shard of index i of the indices.
 #[unsafe(no_mangle)]
 pub extern "C" fn cwm_join_bytes(
     alloc: Global,
@@ -523,12 +543,14 @@ pub extern "C" fn cwm_join_bytes(
     out: &mut [u8],
     written: &mut usize,
 ) -> u32
-    ensures joined { result ≡ done → (block : List ℕ) × DoJoinToBlock block min total indices.now shards.now
+    ensures joined { result ≡ done
+        → (block : List ℕ) × DoJoinToBlock block min total indices.now shards.now
         × (written.new ≡ length block) × StandInFront block out.old out.new }
     ensures kept { result ≢ done → (out.new ≡ out.old) × (written.new ≡ written.old) }
     ensures range { result ≡ out_of_range → ¬ (SpellElements shards.now) }
     ensures size { result ≡ wrong_size → ¬ (AreByteRowsOf (length shards.now) (length indices.now))
-        ⊎ ((block : List ℕ) × DoJoinToBlock block min total indices.now shards.now × (length out.old < length block)) }
+        ⊎ ((block : List ℕ) × DoJoinToBlock block min total indices.now shards.now
+        × (length out.old < length block)) }
     ensures refused { (e : Error) → result ≡ status_of_shards e → result ≢ out_of_memory
         → AreBlockRefused e min total indices.now shards.now }
     ensures found { (block : List ℕ) → DoJoinToBlock block min total indices.now shards.now

@@ -20,12 +20,13 @@ pub fn is_coefficient_count(n: usize) -> bool
     0 < n && n <= u32::MAX as usize
 }
 
-/// Writes the encoding of the polynomial with these coefficients over the first bytes of `out`, and gives
-/// their number: `None` where there is no room for them.
+/// Writes the encoding of the polynomial with these coefficients over the first bytes of `out`, and
+/// gives their number: `None` where there is no room for them.
 pub fn encode(alloc: Global, coefficients: &[u64], out: &mut [u8]) -> Mem<Option<usize>>
     requires count { IsCoefficientCount (length coefficients.now) }
     requires below { AreElements coefficients.now }
-    ensures some { IfOk result (λ answer. IfSome answer (λ n. n ≡ length (polynomial_spelling coefficients.now))) }
+    ensures some { IfOk result (λ answer. IfSome answer
+        (λ n. n ≡ length (polynomial_spelling coefficients.now))) }
     ensures written { IfOk result (λ answer. IfSome answer (λ _.
         StandInFront (polynomial_spelling coefficients.now) out.old out.new)) }
     ensures none { IfOk result (λ answer. IfNone answer
@@ -50,7 +51,8 @@ pub fn encode(alloc: Global, coefficients: &[u64], out: &mut [u8]) -> Mem<Option
 /// No list is made of them. It refuses as `codec::decode` does, but never for want of memory.
 #[tactic(auto, unfolding(math_codec::specs::Faults::scan_exactly, math_codec::specs::Lists::scan_list))]
 fn split_encoding(alloc: Global, bytes: &[u8]) -> Result<(usize, &[u8]), Error>
-    ensures taken { IfOk result (λ answer. (p : List ℕ) × IsEncodedBy p bytes.now × (answer.0 ≡ length p)
+    ensures taken { IfOk result (λ answer. (p : List ℕ) × IsEncodedBy p bytes.now
+        × (answer.0 ≡ length p)
         × (answer.1.now ≡ flat_map (to_be_bytes w64) p)) }
     ensures memory { OnMemory result ⊥ }
     ensures exact { Agrees (λ _. tt) result (scan_polynomial bytes.now) }
@@ -67,14 +69,15 @@ fn split_encoding(alloc: Global, bytes: &[u8]) -> Result<(usize, &[u8]), Error>
     Ok((count as usize, coefficients))
 }
 
-/// Reads the polynomial that the bytes encode, writes its coefficients over the first words of `out`, and
-/// gives their number.
+/// Reads the polynomial that the bytes encode, writes its coefficients over the first words of
+/// `out`, and gives their number.
 ///
-/// `None` where there is no room for them. It refuses as `codec::decode` does, but never for want of memory. The
-/// bytes are gone over before a word is written, so that `out` stays as it was where it refuses.
+/// `None` where there is no room for them. It refuses as `codec::decode` does, but never for want of
+/// memory. The bytes are gone over before a word is written, so that `out` stays as it was where it
+/// refuses.
 pub fn decode(alloc: Global, bytes: &[u8], out: &mut [u64]) -> Result<Option<usize>, Error>
-    ensures some { IfOk result (λ answer. IfSome answer (λ n. (p : List ℕ) × IsEncodedBy p bytes.now × (n ≡ length p)
-        × StandInFront p out.old out.new)) }
+    ensures some { IfOk result (λ answer. IfSome answer (λ n. (p : List ℕ)
+        × IsEncodedBy p bytes.now × (n ≡ length p) × StandInFront p out.old out.new)) }
     ensures none { IfOk result (λ answer. IfNone answer ((p : List ℕ) × IsEncodedBy p bytes.now
         × (length out.old < length p))) }
     ensures kept { IfOk result (λ answer. IfNone answer (out.new ≡ out.old)) }

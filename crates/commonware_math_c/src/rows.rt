@@ -1,4 +1,5 @@
-//! Rows of words: coefficients and values of polynomials at the points of a domain, one polynomial a column.
+//! Rows of words: coefficients and values of polynomials at the points of a domain, one polynomial
+//! a column.
 
 ghost use Rattle.std.specs.Prelude.{◌≡◌, ◌↔◌, ◌<◌, ◌≤◌, ◌*◌, ◌^◌, ◌++◌, ℕ, IsTrue, IsSome, IfOk, IfSome, OnOk, OnErr, length, replicate, All};
 ghost use Rattle.math_base.specs.Elements.{residue};
@@ -12,10 +13,9 @@ ghost use Rattle.commonware_math_c.specs.WordRows.{
   HasRowsFor,
   IsDomainSize,
   truth,
-  word_matrix,
 };
 
-use crate::elements::{are_elements, elements, write_numbers};
+use crate::elements::{are_elements, write_numbers};
 use commonware_math::algebra::Mem;
 use commonware_math::fields::goldilocks::F;
 use commonware_math::ntt::{EvaluationVector, Matrix, PolynomialVector, VanishingPoints};
@@ -42,7 +42,8 @@ fn lg_of(n: usize) -> Option<u8>
     None
 }
 
-/// The lg of the number of rows of n cells in rows of `cols`, where it is that of the points of a domain.
+/// The lg of the number of rows of n cells in rows of `cols`, where it is that of the points of a
+/// domain.
 pub fn lg_of_rows(n: usize, cols: usize) -> Option<u8>
     ensures lg { IfSome result (λ lg. (lg ≤ 32) × HasRowsFor n cols (2 ^ lg)) }
     ensures some { HasRows n cols → IsSome result }
@@ -53,7 +54,8 @@ pub fn lg_of_rows(n: usize, cols: usize) -> Option<u8>
     lg_of(n / cols)
 }
 
-/// The lg of `rows`, where n cells are so many rows of `cols`, and these are as many as the points of a domain.
+/// The lg of `rows`, where n cells are so many rows of `cols`, and these are as many as the points
+/// of a domain.
 pub fn lg_of_these_rows(n: usize, cols: usize, rows: usize) -> Option<u8>
     ensures lg { IfSome result (λ lg. (lg ≤ 32) × (rows ≡ 2 ^ lg) × HasRowsFor n cols rows) }
     ensures some { HasRowsFor n cols rows → IsSome result }
@@ -86,20 +88,11 @@ pub fn are_filled_elements(cells: &[u64], cols: usize, bytes: &[u8]) -> bool
 }
 
 /// The elements as a matrix.
-fn matrix_of(cells: Vec<F>, rows: usize, cols: usize) -> Matrix<F>
+pub fn matrix_of(cells: Vec<F>, rows: usize, cols: usize) -> Matrix<F>
     requires { length cells.items ≡ rows * cols }
     ensures { result ≡ record { rows = rows; cols = cols; cells = cells.items } }
 {
     Matrix::from_cells(rows, cols, cells)
-}
-
-/// The words as a matrix of elements.
-pub fn matrix(alloc: Global, cells: &[u64], rows: usize, cols: usize) -> Mem<Matrix<F>>
-    requires { length cells.now ≡ rows * cols }
-    ensures { IfOk result (λ m. m ≡ word_matrix rows cols cells.now) }
-{
-    let cells = elements(alloc, cells)?;
-    Ok(Matrix::from_cells(rows, cols, cells))
 }
 
 /// Adds the words as elements.
@@ -122,8 +115,9 @@ fn push_zeros(out: &mut Vec<F>, count: usize) -> Mem<()>
     Ok(())
 }
 
-/// The words of the rows whose byte is 1 as elements, and zeros in place of the others, which are not read.
-fn filled_elements(alloc: Global, cells: &[u64], cols: usize, bytes: &[u8]) -> Mem<Vec<F>>
+/// The words of the rows whose byte is 1 as elements, and zeros in place of the others, which are
+/// not read.
+pub fn filled_elements(alloc: Global, cells: &[u64], cols: usize, bytes: &[u8]) -> Mem<Vec<F>>
     requires { length cells.now ≡ length bytes.now * cols }
     ensures count { IfOk result (λ v. length v.items ≡ length bytes.now * cols) }
     ensures filled { IfOk result (λ v. AreElementsWhereFilled cols cells.now bytes.now v.items) }
@@ -140,8 +134,8 @@ fn filled_elements(alloc: Global, cells: &[u64], cols: usize, bytes: &[u8]) -> M
     Ok(out)
 }
 
-/// Puts the values of the polynomials whose coefficients the columns are in place of these, which are handed in as
-/// elements too.
+/// Puts the values of the polynomials whose coefficients the columns are in place of these, which
+/// are handed in as elements too.
 pub fn evaluate(alloc: Global, cells: &mut [u64], items: Vec<F>, lg: u8, cols: usize) -> Mem<()>
     requires small { lg ≤ 32 }
     requires count { length cells.old ≡ 2 ^ lg * cols }
@@ -157,8 +151,8 @@ pub fn evaluate(alloc: Global, cells: &mut [u64], items: Vec<F>, lg: u8, cols: u
     Ok(())
 }
 
-/// Puts the coefficients of the polynomials whose values the columns are in place of these, which are handed in as
-/// elements too.
+/// Puts the coefficients of the polynomials whose values the columns are in place of these, which
+/// are handed in as elements too.
 pub fn interpolate(alloc: Global, cells: &mut [u64], items: Vec<F>, lg: u8, cols: usize) -> Mem<()>
     requires small { lg ≤ 32 }
     requires count { length cells.old ≡ 2 ^ lg * cols }
@@ -190,7 +184,8 @@ pub fn points(alloc: Global, lg: u8, bytes: &[u8]) -> Mem<VanishingPoints>
     Ok(out)
 }
 
-/// Puts the coefficients of the polynomials that fit the rows whose byte is 1 in place of the cells.
+/// Puts the coefficients of the polynomials that fit the rows whose byte is 1 in place of the
+/// cells.
 pub fn recover(alloc: Global, cells: &mut [u64], lg: u8, cols: usize, bytes: &[u8]) -> Mem<()>
     requires small { lg ≤ 32 }
     requires rows { length bytes.now ≡ 2 ^ lg }

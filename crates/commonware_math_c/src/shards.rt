@@ -69,7 +69,8 @@ pub fn cols_of(n: usize, rows: usize) -> Option<usize>
 
 /// The cells of all shards.
 pub fn all_cells(alloc: Global, shards: &[Shard]) -> Mem<Vec<F>>
-    ensures { IfOk result (λ cells. cells.items ≡ flat_map (λ (s : Shard). s.cells.items) shards.now) }
+    ensures { IfOk result
+        (λ cells. cells.items ≡ flat_map (λ (s : Shard). s.cells.items) shards.now) }
 {
     let mut out = Vec::new(alloc);
     for shard in shards {
@@ -87,7 +88,8 @@ pub fn write_shards(
     cells: &mut [u64],
 ) -> Mem<()>
     requires split { IsSplit min total }
-    requires size { (n : ℕ) × HaveShardSizes (length words.now) min total n × (length cells.old ≡ total * n) }
+    requires size { (n : ℕ) × HaveShardSizes (length words.now) min total n
+        × (length cells.old ≡ total * n) }
     ensures ok { OnOk result (AreWordsOfShards words.now min total cells.new) }
     ensures err { OnErr result (cells.new ≡ cells.old) }
 {
@@ -139,7 +141,8 @@ pub fn write_data(
     requires count { length cells.now ≡ length indices.now * cols }
     requires below { AreElements cells.now }
     ensures some { IfOk result (λ answer. IfSome answer (λ n. (words : List ℕ)
-        × DoJoinTo words min total indices.now cells.now × (n ≡ length words) × StandInFront words out.old out.new)) }
+        × DoJoinTo words min total indices.now cells.now × (n ≡ length words)
+        × StandInFront words out.old out.new)) }
     ensures none { IfOk result (λ answer. IfNone answer ((words : List ℕ)
         × DoJoinTo words min total indices.now cells.now × (length out.old < length words))) }
     ensures kept { IfOk result (λ answer. IfNone answer (out.new ≡ out.old)) }
@@ -156,8 +159,8 @@ pub fn write_data(
     Ok(Some(n))
 }
 
-/// Writes the data of the shards, however some are wrong, over the first words of `out`, and the positions of the
-/// wrong ones over the first items of `left_out`, and gives the numbers of both.
+/// Writes the data of the shards, however some are wrong, over the first words of `out`, and the
+/// positions of the wrong ones over the first items of `left_out`, and gives the numbers of both.
 ///
 /// `None` where there is no room for the data. It refuses as `join_corrected` does.
 pub fn write_corrected(
@@ -178,7 +181,8 @@ pub fn write_corrected(
         × (n.0 ≡ length words) × StandInFront words out.old out.new
         × (n.1 ≡ length positions) × StandInFront positions left_out.old left_out.new)) }
     ensures none { IfOk result (λ answer. IfNone answer ((words positions : List ℕ)
-        × DoCorrectTo words positions min total indices.now cells.now × (length out.old < length words))) }
+        × DoCorrectTo words positions min total indices.now cells.now
+        × (length out.old < length words))) }
     ensures kept { IfOk result (λ answer. IfNone answer
         ((out.new ≡ out.old) × (left_out.new ≡ left_out.old))) }
     ensures err { OnErr result ((out.new ≡ out.old) × (left_out.new ≡ left_out.old)) }

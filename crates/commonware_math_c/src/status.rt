@@ -16,9 +16,11 @@ pub enum Status {
     OutOfMemory = 1,
     /// A word is P or more, or a byte that says whether a row is filled is neither 0 nor 1.
     OutOfRange = 2,
-    /// A number of words, rows or columns is none that the call takes, or there is no room for the answer.
+    /// A number of words, rows or columns is none that the call takes, or there is no room for the
+    /// answer.
     WrongSize = 3,
-    /// Fewer than `min` distinct indices of shards are there, or fewer filled rows than coefficients.
+    /// Fewer than `min` distinct indices of shards are there, or fewer filled rows than
+    /// coefficients.
     TooFew = 4,
     /// Not 1 <= `min` <= `total`.
     Mismatch = 5,
@@ -26,7 +28,8 @@ pub enum Status {
     WrongIndex = 6,
     /// Two shards have one index and unequal cells.
     Conflict = 7,
-    /// There is no answer that fits: no data that have each of the shards, or no polynomial near the values.
+    /// There is no answer that fits: no data that have each of the shards, or no polynomial near
+    /// the values.
     Inconsistent = 8,
     /// The bytes end within a polynomial.
     EndOfBuffer = 9,
@@ -52,8 +55,8 @@ impl Status {
 /// The status of a read that was refused.
 pub fn of_read(error: &Error) -> Status
     ensures refused { code_of result ≢ done }
-    ensures exact { (expected : Result (Unit {0}) Fault) → Reports error.now expected → code_of result ≢ out_of_memory
-        → code_of result ≡ status_of_read expected }
+    ensures exact { (expected : Result (Unit {0}) Fault) → Reports error.now expected
+        → code_of result ≢ out_of_memory → code_of result ≡ status_of_read expected }
 {
     match error {
         Error::Memory(_) => Status::OutOfMemory,

@@ -1,9 +1,10 @@
 //! Values of polynomials whose coefficients are words.
 //!
-//! The coefficients are taken in blocks of as many as there are powers of x in a table. A block has the value
-//! w_0 p_0 + w_1 p_1 + .., p_i being power i of x. Each word is w = a + 2^32 b with a and b below 2^32, so
-//! that the sums of all a_i p_i and of all b_i p_i fit 128 bits, and only these two are reduced modulo P, once
-//! a block. The values of the blocks are put together by Horner's rule.
+//! The coefficients are taken in blocks of as many as there are powers of x in a table. A block has
+//! the value w_0 p_0 + w_1 p_1 + .., p_i being power i of x. Each word is w = a + 2^32 b with a and
+//! b below 2^32, so that the sums of all a_i p_i and of all b_i p_i fit 128 bits, and only these
+//! two are reduced modulo P, once a block. The values of the blocks are put together by Horner's
+//! rule.
 
 ghost use Rattle.std.specs.Prelude.{◌≡◌, ◌+◌, ◌*◌, ◌<◌, ◌≤◌, ◌^◌, ℕ, IfOk, length};
 ghost use Rattle.math_theory.specs.Powers.{power};
@@ -46,7 +47,8 @@ fn joined_sums(low: u128, high: u128) -> F
 fn block_value(words: &[u64], powers: &[F]) -> F
     requires few { length words.now ≤ length powers.now }
     requires small { length powers.now ≤ 128 }
-    ensures { (x : F) → ArePowersOf x powers.now → result ≡ value_in_ring goldilocks (elements words.now) x }
+    ensures { (x : F) → ArePowersOf x powers.now
+        → result ≡ value_in_ring goldilocks (elements words.now) x }
 {
     let mut low = 0u128;
     let mut high = 0u128;
@@ -76,7 +78,8 @@ fn powers_of(alloc: Global, x: F, n: usize) -> Mem<(Vec<F>, F)>
 /// The value at x of the polynomial with these coefficients.
 pub fn value(alloc: Global, coefficients: &[u64], x: u64) -> Mem<u64>
     requires { IsCoefficientCount (length coefficients.now) }
-    ensures { IfOk result (λ v. v ≡ number (value_in_ring goldilocks (elements coefficients.now) (residue x))) }
+    ensures { IfOk result (λ v.
+        v ≡ number (value_in_ring goldilocks (elements coefficients.now) (residue x))) }
 {
     let size = BLOCK.min(coefficients.len());
     let (powers, step) = powers_of(alloc, F::from(x), size)?;

@@ -64,8 +64,8 @@ fn copied(alloc: Global, indices: &[u32]) -> Mem<Vec<u32>>
     Ok(out)
 }
 
-/// Writes the weights for the value at x over the powers, with these exponents, of the root whose order is
-/// `total` rounded up to a power of two.
+/// Writes the weights for the value at x over the powers, with these exponents, of the root whose
+/// order is `total` rounded up to a power of two.
 pub fn at_roots(
     alloc: Global,
     total: NonZeroU32,

@@ -4,7 +4,12 @@
 //! `goldmath recover LG ROW..`: the encoding of the only matrix of 2^LG rows whose columns are the
 //! coefficients that fit the rows of the matrix on standard input, each in the place that a word
 //! names.
+//!
+//! `goldmath --help` and `goldmath --version` say so much, and read no input.
 #![tactic(auto)]
+
+ghost use Rattle.std.specs.Prelude.{IfSome, map, string_bytes};
+ghost use Rattle.goldmath.specs.Commands.{AreWrongWords};
 
 mod engine;
 mod laws;
@@ -17,12 +22,47 @@ use std::process::ExitCode;
 use std::{env, io};
 use text::fault_line;
 
-/// The words after the program's name, and standard input to its end.
-fn words_and_input(rt: &HostRuntime) -> io::Result<(Vec<String>, Vec<u8>)> {
+/// What `--version` prints: the version of the repository.
+const VERSION: &str = "goldmath 1.0.0\n";
+
+/// What `--help` prints.
+const HELP: &str = "\
+goldmath: values of encoded polynomials, and recovery of missing rows
+
+  goldmath eval POINT
+      reads an encoded polynomial over the Goldilocks field from standard input,
+      and prints its value at POINT in decimal
+  goldmath recover LG ROW..
+      reads an encoded matrix whose rows are values at the points ROW of a domain
+      of 2^LG points, and writes the encoded matrix of the coefficients that fit
+  goldmath --help
+  goldmath --version
+
+Status: 0 done, 1 refused, 2 wrong words.
+";
+
+/// What is printed of the program itself, where the words ask for that. They are no words of `run`.
+fn about(words: &[String]) -> Option<&'static str>
+    ensures { IfSome result (λ _. AreWrongWords (map string_bytes words.now)) }
+{
+    match words {
+        [word] if word.as_str() == "--help" => Some(HELP),
+        [word] if word.as_str() == "--version" => Some(VERSION),
+        _ => None,
+    }
+}
+
+/// The words after the program's name.
+fn words_given(rt: &HostRuntime) -> io::Result<Vec<String>> {
     let words: Vec<String> = env::args(rt)?.skip(1).collect(rt.alloc())?;
+    Ok(words)
+}
+
+/// Standard input to its end.
+fn input(rt: &HostRuntime) -> io::Result<Vec<u8>> {
     let mut bytes = Vec::new(rt.alloc());
     rt.reader().read_to_end(&mut bytes)?;
-    Ok((words, bytes))
+    Ok(bytes)
 }
 
 /// Writes the answer to standard output.
@@ -36,6 +76,14 @@ fn write_answer(rt: &HostRuntime, bytes: &[u8]) -> io::Result<()> {
 fn fail(rt: &HostRuntime, line: &[u8], status: u8) -> ExitCode {
     let _written = rt.stderr().write_all(line);
     ExitCode::from(status)
+}
+
+/// Writes the answer, and gives the status: 1 where it could not be written.
+fn answer_with(rt: &HostRuntime, bytes: &[u8]) -> ExitCode {
+    match write_answer(rt, bytes) {
+        Ok(()) => ExitCode::SUCCESS,
+        Err(_) => fail(rt, b"refused: write failed\n", 1),
+    }
 }
 
 /// Says why there is no answer, and gives the status: 2 for wrong words, 1 else.
@@ -64,16 +112,19 @@ fn refuse_input(rt: &HostRuntime, error: &io::Error) -> ExitCode {
 }
 
 fn main(rt: HostRuntime) -> ExitCode {
-    let (words, bytes) = match words_and_input(&rt) {
-        Ok(both) => both,
+    let words = match words_given(&rt) {
+        Ok(words) => words,
         Err(error) => return refuse_input(&rt, &error),
     };
-    let answer = match run(rt.alloc(), words.as_slice(), bytes.as_slice()) {
-        Ok(answer) => answer,
-        Err(fault) => return refuse(&rt, &fault),
+    if let Some(text) = about(words.as_slice()) {
+        return answer_with(&rt, text.as_bytes());
+    }
+    let bytes = match input(&rt) {
+        Ok(bytes) => bytes,
+        Err(error) => return refuse_input(&rt, &error),
     };
-    match write_answer(&rt, answer.as_slice()) {
-        Ok(()) => ExitCode::SUCCESS,
-        Err(_) => fail(&rt, b"refused: write failed\n", 1),
+    match run(rt.alloc(), words.as_slice(), bytes.as_slice()) {
+        Ok(answer) => answer_with(&rt, answer.as_slice()),
+        Err(fault) => refuse(&rt, &fault),
     }
 }

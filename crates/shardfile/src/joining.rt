@@ -9,11 +9,12 @@ use crate::progress::Progress;
 use crate::sources::{Scarce, ShardFile, block_in, gather};
 use shard_format::header::Header;
 
-/// Restores the file from the shard files that are there, and names on standard error those that were left
-/// out and those with a shard that was, and how many blocks just so many shards give as are needed.
+/// Restores the file from the shard files that are there, and names on standard error those that
+/// were left out and those with a shard that was, and how many blocks just so many shards give as
+/// are needed.
 ///
-/// It refuses where too few are there, where the shards of a block give no data, and where the file would
-/// replace a shard, or have the name of one.
+/// It refuses where too few are there, where the shards of a block give no data, and where the file
+/// would replace a shard, or have the name of one.
 pub fn join(rt: &HostRuntime, file: &str, out: &str, force: bool) -> Result<(), Fault> {
     let mut files = Vec::new(rt.alloc());
     let mut scarce = Scarce::none();
@@ -34,8 +35,8 @@ fn print_scarce(rt: &HostRuntime, scarce: &Scarce) {
     }
 }
 
-/// Refuses where the name is that of a shard of the file, whether it is there or not, or of one under another
-/// name.
+/// Refuses where the name is that of a shard of the file, whether it is there or not, or of one
+/// under another name.
 fn check_out(rt: &HostRuntime, file: &str, out: &str, files: &[ShardFile]) -> Result<(), Fault> {
     if number_in(rt, file, out)?.is_some() {
         return Err(Fault::Input(owned(rt, out)?));
@@ -144,7 +145,8 @@ struct Findings {
 }
 
 impl Findings {
-    /// Notes that a block is refused. Where memory or room for an open file ran out nothing is found.
+    /// Notes that a block is refused. Where memory or room for an open file ran out nothing is
+    /// found.
     fn add_refused_block(&mut self, fault: Fault) -> Result<(), Fault> {
         if !matches!(fault, Fault::Block(..)) {
             return Err(fault);
@@ -183,8 +185,8 @@ fn try_blocks(rt: &HostRuntime, split: &Header, files: &mut [ShardFile]) -> Resu
     Ok(findings)
 }
 
-/// A line for each shard of the split and each other file with a name of one, and one for what they give;
-/// and whether all shards are there and fit.
+/// A line for each shard of the split and each other file with a name of one, and one for what they
+/// give; and whether all shards are there and fit.
 pub fn check(rt: &HostRuntime, file: &str) -> Result<(String, bool), Fault> {
     let mut files = Vec::new(rt.alloc());
     let split = match gather(rt, file, &mut files) {

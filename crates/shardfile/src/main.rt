@@ -1,8 +1,8 @@
 //! A file in shards, any MIN of which give it back.
 //!
-//! `shardfile split MIN TOTAL FILE` writes `FILE.0` and on beside it, TOTAL in all; `shardfile join FILE OUT`
-//! restores the file from those that are there; `shardfile check FILE` says which are there and whether they
-//! fit.
+//! `shardfile split MIN TOTAL FILE` writes `FILE.0` and on beside it, TOTAL in all; `shardfile join
+//! FILE OUT` restores the file from those that are there; `shardfile check FILE` says which are there
+//! and whether they fit.
 #![tactic(auto)]
 
 mod fault;
@@ -57,7 +57,8 @@ struct Options<'a> {
     help: bool,
 }
 
-/// Sorts the words. It refuses an option that is none, an empty word, and `--to` with no word after it.
+/// Sorts the words. It refuses an option that is none, an empty word, and `--to` with no word after
+/// it.
 fn read_options<'a>(rt: &HostRuntime, words: &'a [String]) -> Result<Options<'a>, Fault> {
     let mut options = Options {
         words: Vec::new(rt.alloc()),
@@ -116,8 +117,8 @@ fn join(rt: &HostRuntime, options: &Options) -> Result<(), Fault> {
     joining::join(rt, file, out, options.force)
 }
 
-/// `FILE`: what is to be said of the shard files. It refuses, once that is said, where not all are there and
-/// fit.
+/// `FILE`: what is to be said of the shard files. It refuses, once that is said, where not all are
+/// there and fit.
 fn check(rt: &HostRuntime, options: &Options) -> Result<(), Fault> {
     let [file] = options.words.as_slice() else {
         return Err(Fault::Usage);

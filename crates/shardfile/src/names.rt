@@ -34,7 +34,8 @@ pub fn folder_and_name(rt: &HostRuntime, file: &str) -> Result<(String, String),
     }
 }
 
-/// The numbers of the shards that lie beside the file, in rising order. Other files are passed over.
+/// The numbers of the shards that lie beside the file, in rising order. Other files are passed
+/// over.
 pub fn numbers_there(rt: &HostRuntime, file: &str) -> Result<Vec<u32>, Fault> {
     let (folder, name) = folder_and_name(rt, file)?;
     let mut numbers = Vec::new(rt.alloc());

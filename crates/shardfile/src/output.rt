@@ -57,8 +57,8 @@ pub fn check_no_input(rt: &HostRuntime, path: &str, input: Identity) -> Result<(
     }
 }
 
-/// The rights that a file may have under the name: those of the regular file that is to be replaced, or all
-/// where nothing is there.
+/// The rights that a file may have under the name: those of the regular file that is to be
+/// replaced, or all where nothing is there.
 ///
 /// It refuses where something is there that is not to be replaced, or is no regular file.
 fn rights_at(rt: &HostRuntime, path: &str, force: bool) -> Result<u32, Fault> {
@@ -114,8 +114,9 @@ pub struct Partial {
 }
 
 impl Partial {
-    /// A new file in the folder of the name, which has to be free, or with `force` that of a regular file.
-    /// Meanwhile it gives no right but to its owner beyond those that it may give in the end.
+    /// A new file in the folder of the name, which has to be free, or with `force` that of a
+    /// regular file. Meanwhile it gives no right but to its owner beyond those that it may give in
+    /// the end.
     fn create(
         rt: &HostRuntime,
         path: String,
@@ -158,8 +159,8 @@ impl Partial {
         self.file = None;
     }
 
-    /// Has the system write all to the device, and takes away the rights that it may not give in the end. The
-    /// name is looked at again.
+    /// Has the system write all to the device, and takes away the rights that it may not give in
+    /// the end. The name is looked at again.
     fn settle(&self, rt: &HostRuntime) -> Result<(), Fault> {
         let rights = self.rights & rights_at(rt, self.path.as_str(), self.force)?;
         let settled = match &self.file {
@@ -181,8 +182,9 @@ impl Partial {
         }
     }
 
-    /// Gives the file its final name. Where none may be replaced, this is by a second name, which the system
-    /// gives only where nothing is there; by renaming only where it gives no second names.
+    /// Gives the file its final name. Where none may be replaced, this is by a second name, which
+    /// the system gives only where nothing is there; by renaming only where it gives no second
+    /// names.
     fn take_name(&self, rt: &HostRuntime) -> Result<(), Fault> {
         if self.force {
             return self.rename(rt);
@@ -205,8 +207,8 @@ impl Partial {
     }
 }
 
-/// A new file with these rights less those that the system takes from every new one. It refuses where
-/// anything is there.
+/// A new file with these rights less those that the system takes from every new one. It refuses
+/// where anything is there.
 fn created(rt: &HostRuntime, path: &str, rights: u32) -> io::Result<File> {
     OpenOptions::new()
         .read(true)
@@ -396,8 +398,8 @@ fn encode(alloc: Global, shard: &Shard, out: &mut Vec<u8>) -> Result<(), Fault> 
     Ok(())
 }
 
-/// Gives the files, which lie in one folder, their final names, in order, once the system has written all of
-/// them to the device. No memory is taken once the first has it.
+/// Gives the files, which lie in one folder, their final names, in order, once the system has
+/// written all of them to the device. No memory is taken once the first has it.
 fn all_named(rt: &HostRuntime, partials: &[Partial]) -> Result<(), Fault> {
     let Some(first) = partials.first() else {
         return Ok(());

@@ -15,8 +15,8 @@ use std::fs::{File, Metadata};
 use std::os::unix::fs::FileExt;
 use std::{fs, io};
 
-/// What the system answers where it has no room for one more open file: no memory, or too many open, of all
-/// programs or of this one.
+/// What the system answers where it has no room for one more open file: no memory, or too many
+/// open, of all programs or of this one.
 const NO_ROOM: [i32; 3] = [12, 23, 24];
 
 /// A file that can be read, and what is known of it.
@@ -87,7 +87,8 @@ impl ShardFile {
         self.fault = Some(fault);
     }
 
-    /// Its shard of a block, where it is a file of the split and has one. What is wrong with it is noted.
+    /// Its shard of a block, where it is a file of the split and has one. What is wrong with it is
+    /// noted.
     fn shard(
         &mut self,
         rt: &HostRuntime,
@@ -245,12 +246,12 @@ fn leave_out_others(file: &mut ShardFile, split: &Header) {
     }
 }
 
-/// Adds the files with names of shards of the file, and gives the header of the split to which the most of
-/// them belong; those that belong to no split, or to another one, are left out.
+/// Adds the files with names of shards of the file, and gives the header of the split to which the
+/// most of them belong; those that belong to no split, or to another one, are left out.
 ///
-/// Where no split has more of them than each other one, those decide that are as long as their headers say. It
-/// refuses where no shard is there, where that does not help, and where no file of the split is so long: then
-/// its length, and so the number of blocks, is that of none.
+/// Where no split has more of them than each other one, those decide that are as long as their
+/// headers say. It refuses where no shard is there, where that does not help, and where no file of
+/// the split is so long: then its length, and so the number of blocks, is that of none.
 pub fn gather(rt: &HostRuntime, file: &str, files: &mut Vec<ShardFile>) -> Result<Header, Fault>
     ensures { IfOk result IsPossible }
 {
@@ -341,8 +342,9 @@ fn file_size(header: &Header) -> u64
     shard_place(header, header.index, whole).saturating_add(last)
 }
 
-/// Notes a file that goes on after the shard of its last block; its shards are used. One that ends before is
-/// noted too, but where others are as long as they say: then its blocks that are not there are counted.
+/// Notes a file that goes on after the shard of its last block; its shards are used. One that ends
+/// before is noted too, but where others are as long as they say: then its blocks that are not
+/// there are counted.
 fn note_length(file: &mut ShardFile, is_long: bool) {
     let Some(source) = &file.source else {
         return;
@@ -392,8 +394,8 @@ fn shard_in(
     Ok(Ok(shard))
 }
 
-/// The shards of a block that the files have, and at which of the files they are. What is wrong with the
-/// others is noted.
+/// The shards of a block that the files have, and at which of the files they are. What is wrong
+/// with the others is noted.
 fn shards_in(
     rt: &HostRuntime,
     files: &mut [ShardFile],
@@ -449,9 +451,9 @@ impl Scarce {
 
 /// The bytes of the block with this number, which has so many.
 ///
-/// Shards that cannot be read are noted at their files and left out, and so is each one that does not fit,
-/// where the others show which these are. It refuses where there is no such block, and names it. A block of
-/// which just `min` shards are there is noted.
+/// Shards that cannot be read are noted at their files and left out, and so is each one that does
+/// not fit, where the others show which these are. It refuses where there is no such block, and
+/// names it. A block of which just `min` shards are there is noted.
 pub fn block_in(
     rt: &HostRuntime,
     files: &mut [ShardFile],

@@ -12,12 +12,13 @@ use std::fs;
 use std::fs::{File, Metadata, TryLockError};
 use std::io::{ErrorKind, Read};
 
-/// Writes the shard files of a file, any `min` of which give it back: beside it, or into the folder that is
-/// given.
+/// Writes the shard files of a file, any `min` of which give it back: beside it, or into the folder
+/// that is given.
 ///
-/// It refuses, beside what the system refuses, where the file is no regular one, changes meanwhile or is being
-/// split by another run, where a shard file is there already and is not to be replaced, and where one is there
-/// with a number of `total` or more. Where it refuses, no new shard file is there.
+/// It refuses, beside what the system refuses, where the file is no regular one, changes meanwhile
+/// or is being split by another run, where a shard file is there already and is not to be replaced,
+/// and where one is there with a number of `total` or more. Where it refuses, no new shard file is
+/// there.
 pub fn split(
     rt: &HostRuntime,
     min: u32,
@@ -56,8 +57,8 @@ pub fn split(
     }
 }
 
-/// The name that the shard files have before their numbers: that of the file, in its folder or in another
-/// one.
+/// The name that the shard files have before their numbers: that of the file, in its folder or in
+/// another one.
 fn target_of(rt: &HostRuntime, file: &str, to: Option<&str>) -> Result<String, Fault> {
     let Some(folder) = to else {
         return owned(rt, file);
@@ -66,7 +67,8 @@ fn target_of(rt: &HostRuntime, file: &str, to: Option<&str>) -> Result<String, F
     Ok(format!(in rt.alloc(); "{folder}/{name}")?)
 }
 
-/// The regular file with this name, which no other run is splitting, and what the system says of it.
+/// The regular file with this name, which no other run is splitting, and what the system says of
+/// it.
 fn open_source(rt: &HostRuntime, file: &str) -> Result<(File, Metadata), Fault> {
     let metadata = match fs::metadata(rt, file) {
         Ok(metadata) => metadata,
@@ -86,8 +88,8 @@ fn open_source(rt: &HostRuntime, file: &str) -> Result<(File, Metadata), Fault> 
     }
 }
 
-/// Refuses where a shard file of the file is there with a number of `total` or more, which these would not
-/// replace.
+/// Refuses where a shard file of the file is there with a number of `total` or more, which these
+/// would not replace.
 fn check_beyond(rt: &HostRuntime, file: &str, total: u32) -> Result<(), Fault> {
     match numbers_there(rt, file)?.last() {
         Some(number) if *number >= total => Err(Fault::Beyond(shard_name(rt, file, *number)?)),
