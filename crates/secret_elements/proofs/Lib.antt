@@ -1,1 +1,3 @@
 pub mod SeenChanges
+pub mod PackedBytes
+pub mod UnpackedBytes

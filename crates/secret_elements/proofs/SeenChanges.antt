@@ -1,5 +1,5 @@
 -- A change of elements, key and check that does not depend on the key passes for few keys.
-use Rattle.std.proofs.Common.{◌≡◌, ◌≢◌, ◌∙◌, ℕ, zero, suc, ◌+◌, ◌-◌, ◌<◌, ◌≤◌, List, [], ◌∷◌, ◌++◌, length, get_or, take, drop, refl, sym, ap, subst, arith}
+use Rattle.std.proofs.Common.{◌≡◌, ◌∙◌, ℕ, zero, suc, ◌+◌, ◌<◌, ◌≤◌, List, [], ◌∷◌, length, get_or, take, drop, refl, sym, ap, subst, arith}
 use Rattle.std.specs.List.{All}
 use Rattle.std.proofs.lemmas.List.{get_or-drop, get_or-take, length-drop, length-take-le, take-append-drop}
 use Rattle.std.proofs.lemmas.List.Elements.{All-from_get_or}
@@ -13,7 +13,7 @@ use Rattle.math_theory.proofs.classes.RingUpToSame.{ring_same, combine_same, com
 use Rattle.math_theory.proofs.polynomials.BuiltPolynomials.{value-zeros_after}
 use Rattle.math_theory.proofs.polynomials.CarriedRoots.{few_roots-same}
 use Rattle.math_theory.proofs.polynomials.Horner.{value_over-cons}
-use Rattle.math_theory.proofs.rings.Normal.{◌⊕◌, ◌⊗◌, ◌⊖◌, minus, 𝟘, 𝟙, v0, v1, v2, v3, v4, v5}
+use Rattle.math_theory.proofs.rings.Normal.{◌⊕◌, ◌⊗◌, ◌⊖◌, minus, 𝟘, 𝟙, v0, v1, v2, v3, v4}
 use Rattle.secret_elements.specs.KeyChecks.{within, check_of, added}
 
 module _ {A : Type 0} {same : A → A → Type 0} {zero_of : A} {sum : A → A → A} {negative : A → A} {product : A → A → A} {one : A} {inverse : A → A}

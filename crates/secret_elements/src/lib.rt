@@ -4,5 +4,7 @@
 
 mod keyed;
 pub mod laws;
+mod packing;
 
 pub use keyed::{fits, key_check};
+pub use packing::{bytes_of, elements_of};

@@ -1,94 +1,112 @@
-//! The commands, over words.
+//! The commands, over what was read.
+
+ghost use Rattle.std.specs.Prelude.{◌<◌, ◌≤◌, IfOk};
 
 use crate::fault::Fault;
-use commonware_math::fields::goldilocks::{F, MODULUS};
 use rand_core::{CryptoRng, Rng};
-use shared_secret::{Share, combine_corrected, deal};
+use secret_bytes::{
+    CombineError, LineFault, Lines, MOST_BYTES, MOST_SHARES, combine, deal, read_lines, text_of,
+};
+use share_lines::LineError;
 use std::alloc::Global;
-use std::str::FromStr;
 
 /// What stands on standard output, and what on standard error.
 #[derive(Drop)]
 pub struct Told {
-    pub out: String,
+    pub out: Vec<u8>,
     pub err: String,
 }
 
-/// The number that a word writes in decimal.
-fn number<N: FromStr>(word: &str) -> Result<N, Fault>
-where
-    N::Err: Drop,
-{
+/// The number that a word writes in decimal, without a sign.
+fn number(word: &str) -> Result<u32, Fault> {
+    if word.starts_with('+') {
+        return Err(Fault::Usage);
+    }
     word.parse().ok().ok_or(Fault::Usage)
 }
 
-/// The element that a word writes as a number below the modulus.
-fn element(word: &str) -> Result<F, Fault> {
-    let n = number::<u64>(word)?;
-    if n >= MODULUS {
-        return Err(Fault::Usage);
-    }
-    Ok(F::from(n))
-}
-
-/// `T N SECRET`: the shares of the secret, a line `INDEX:VALUE` each.
-pub fn dealt<G: Rng + CryptoRng>(
-    alloc: Global,
-    words: &[String],
-    rng: &mut G,
-) -> Result<Told, Fault> {
-    let [t, n, secret] = words else {
+/// `T N`: how many shares give the secret back, and how many there are.
+pub fn counts(words: &[String]) -> Result<(u32, u32), Fault>
+    ensures some { IfOk result (λ counts. 0 < counts.0) }
+    ensures enough { IfOk result (λ counts. counts.0 ≤ counts.1) }
+{
+    let [t, n] = words else {
         return Err(Fault::Usage);
     };
-    let t = number::<u32>(t)?;
-    let n = number::<u32>(n)?;
-    let secret = element(secret)?;
-    if t == 0 || n < t {
+    let t = number(t)?;
+    let n = number(n)?;
+    if t == 0 || n < t || n > MOST_SHARES {
         return Err(Fault::Usage);
     }
-    let mut text = String::new(alloc);
-    for share in &deal(alloc, secret, t, n, rng)? {
-        let value = u64::from_le_bytes(share.value.to_le_bytes());
-        writeln!(text, "{}:{value}", share.index)?;
+    Ok((t, n))
+}
+
+/// The lines of n shares of the secret, any t of which give it back.
+pub fn dealt<G: Rng + CryptoRng>(
+    alloc: Global,
+    secret: &[u8],
+    t: u32,
+    n: u32,
+    rng: &mut G,
+) -> Result<Told, Fault>
+    requires some { 0 < t }
+    requires enough { t ≤ n }
+{
+    if secret.len() > MOST_BYTES {
+        return Err(Fault::TooLong);
     }
+    let shares = deal(alloc, secret, t, n, rng)?;
     Ok(Told {
-        out: text,
+        out: text_of(alloc, &shares)?,
         err: String::new(alloc),
     })
 }
 
-/// `INDEX:VALUE`: a share.
-fn share(word: &str) -> Result<Share<F>, Fault> {
-    let (index, value) = word.split_once(':').ok_or(Fault::Usage)?;
-    Ok(Share {
-        index: number(index)?,
-        value: element(value)?,
+/// The secret of the shares that the lines are, and a line for each share that is wrong.
+pub fn combined(alloc: Global, text: &[u8]) -> Result<Told, Fault> {
+    let lines = match read_lines(alloc, text) {
+        Ok(lines) => lines,
+        Err(fault) => return Err(fault_of(fault)),
+    };
+    let Lines { shares, numbers } = lines;
+    let mut indices = Vec::with_capacity(alloc, shares.len())?;
+    for share in &shares {
+        indices.push(share.index)?;
+    }
+    let found = match combine(alloc, shares) {
+        Ok(found) => found,
+        Err(error) => return Err(named(&numbers, &indices, error)),
+    };
+    let mut err = String::new(alloc);
+    for index in &found.wrong {
+        writeln!(err, "share {index} is wrong and was left out")?;
+    }
+    Ok(Told {
+        out: found.bytes,
+        err,
     })
 }
 
-/// `T INDEX:VALUE ..`: the secret that the shares give, as a line, and a line for each share that is wrong.
-pub fn combined(alloc: Global, words: &[String]) -> Result<Told, Fault> {
-    let (t, words) = words.split_first().ok_or(Fault::Usage)?;
-    let t = number::<u32>(t)?;
-    let mut shares = Vec::new(alloc);
-    for word in words {
-        shares.push(share(word)?)?;
+/// The fault of a line.
+fn fault_of(fault: LineFault) -> Fault {
+    match fault.why {
+        LineError::Memory(e) => Fault::Memory(e),
+        why => Fault::Line(fault.number, why),
     }
-    secret_of(alloc, t, &shares)
 }
 
-/// The secret of the shares, as a line, and a line for each that is wrong.
-fn secret_of(alloc: Global, t: u32, shares: &[Share<F>]) -> Result<Told, Fault> {
-    let Some(found) = combine_corrected(alloc, t, shares)? else {
-        return Err(Fault::Wrong);
+/// The fault with the line and the index of the share that is meant.
+fn named(numbers: &[usize], indices: &[u32], error: CombineError) -> Fault {
+    let place = match &error {
+        CombineError::Unsound(place)
+        | CombineError::AnotherDeal(place)
+        | CombineError::AnotherThreshold(place)
+        | CombineError::AnotherLength(place)
+        | CombineError::Repeated(place) => *place,
+        _ => return Fault::Combine(error),
     };
-    let mut out = String::new(alloc);
-    writeln!(out, "{}", u64::from_le_bytes(found.secret.to_le_bytes()))?;
-    let mut err = String::new(alloc);
-    for place in &found.wrong {
-        if let Some(share) = shares.get(*place) {
-            writeln!(err, "share {} is wrong and was left out", share.index)?;
-        }
+    match (numbers.get(place), indices.get(place)) {
+        (Some(number), Some(index)) => Fault::Share(*number, *index, error),
+        _ => Fault::Combine(error),
     }
-    Ok(Told { out, err })
 }

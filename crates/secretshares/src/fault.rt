@@ -1,25 +1,32 @@
 //! Why there is no answer.
 
-use shared_secret::{CombineError, DealError};
+use secret_bytes::{CombineError, DealError};
+use share_lines::LineError;
 use std::alloc::{AllocError, AllocFailed};
 use std::io;
 use thiserror::Error;
 
-/// Why there is no answer.
+/// Why there is no answer. Texts name the line that is meant, and the share where it is known.
 #[derive(Debug, Drop, Error)]
 pub enum Fault {
-    #[error("usage: secretshares deal T N SECRET | secretshares combine T INDEX:VALUE ..")]
+    #[error("usage: secretshares deal T N < SECRET | combine < LINES | --help | --version")]
     Usage,
     #[error("refused: out of memory")]
     Memory(AllocError),
     #[error("refused: {0}")]
+    Io(io::Error),
+    #[error("refused: the secret has more than 65536 bytes")]
+    TooLong,
+    #[error("refused: {0}")]
     Deal(DealError),
     #[error("refused: {0}")]
-    Combine(CombineError),
-    #[error("refused: too many of the shares are wrong")]
-    Wrong,
+    Text(LineError),
+    #[error("refused: line {0}: {1}")]
+    Line(usize, LineError),
+    #[error("refused: line {0}, share {1}: {2}")]
+    Share(usize, u32, CombineError),
     #[error("refused: {0}")]
-    Io(io::Error),
+    Combine(CombineError),
 }
 
 impl Fault {
@@ -50,9 +57,12 @@ impl From<DealError> for Fault {
     }
 }
 
-impl From<CombineError> for Fault {
-    fn from(e: CombineError) -> Fault {
-        Fault::Combine(e)
+impl From<LineError> for Fault {
+    fn from(e: LineError) -> Fault {
+        match e {
+            LineError::Memory(e) => Fault::Memory(e),
+            why => Fault::Text(why),
+        }
     }
 }
 

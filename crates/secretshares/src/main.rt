@@ -1,46 +1,120 @@
-//! `secretshares deal T N SECRET` prints n shares of a number, any t of which give it back, one a line.
-//! `secretshares combine T INDEX:VALUE ..` prints the number that these shares give, and says which of them are wrong:
-//! at most (n - T) / 2 of n.
+//! A secret in shares, any T of which give it back.
+//!
+//! `secretshares deal T N` reads the secret's bytes from standard input and prints N lines, a share
+//! each; `secretshares combine` reads such lines from standard input and prints exactly the bytes.
+//! No secret and no share is taken from the words.
 #![tactic(auto)]
 
 mod calls;
 mod fault;
 
-use calls::{Told, combined, dealt};
+use calls::{Told, combined, counts, dealt};
 use fault::Fault;
 use rand::make_rng;
 use rand::rngs::StdRng;
+use secret_bytes::MOST_BYTES;
+use std::io::{ErrorKind, IsTerminal, Read, Write};
 use std::process::ExitCode;
 use std::{env, io};
 
-/// The text that the words ask for; shares are dealt from a source that the system seeds.
-fn answer(rt: &HostRuntime) -> Result<Told, Fault> {
-    let words: Vec<String> = env::args(rt)?.skip(1).collect(rt.alloc())?;
+/// The version of the repository.
+const VERSION: &str = "secretshares 1.0.0\n";
+
+/// What `--help` prints.
+const HELP: &str = "\
+secretshares: a secret in N shares, any T of which give it back
+
+  secretshares deal T N < SECRET
+      reads the secret, of at most 65536 bytes, and prints N lines, a share each
+  secretshares combine < LINES
+      reads T or more of these lines, in any order, and prints the secret
+
+For example, any 3 of the 5 lines of the file shares give the secret back:
+
+  secretshares deal 3 5 < secret > shares
+  head -n 3 shares | secretshares combine > restored
+
+T is at least 1, and N at most 255. Fewer than T shares say nothing of the secret
+but its length. Of M lines, at most (M - T) / 2 may be wrong, and are named.
+
+Status: 0 done, 1 refused, 2 wrong words.
+";
+
+/// Standard input to its end, or its first bytes where it is longer than that many.
+fn input(rt: &HostRuntime, most: u64, wanted: &str) -> Result<Vec<u8>, Fault> {
+    let stdin = rt.reader();
+    if stdin.is_terminal() {
+        let _told = eprintln!(rt; "reading {wanted} from the terminal, to its end (Ctrl-D)");
+    }
+    let mut bytes = Vec::new(rt.alloc());
+    stdin.take(most).read_to_end(&mut bytes)?;
+    Ok(bytes)
+}
+
+/// Writes the bytes to standard output.
+fn print(rt: &HostRuntime, bytes: &[u8]) -> Result<(), Fault> {
+    let mut out = io::writer(rt);
+    out.write_all(bytes)?;
+    out.flush()?;
+    Ok(())
+}
+
+/// Says what is to be said on standard error, as far as that can be, and then writes the answer.
+fn tell(rt: &HostRuntime, told: &Told) -> Result<(), Fault> {
+    let _told = eprint!(rt; "{}", told.err);
+    print(rt, &told.out)
+}
+
+/// `T N`: the lines of the shares of what is read. They are dealt from a source that the system
+/// seeds.
+fn deal(rt: &HostRuntime, words: &[String]) -> Result<(), Fault> {
+    let (t, n) = counts(words)?;
+    let mut rng: StdRng = make_rng(rt)?;
+    let secret = input(rt, MOST_BYTES as u64 + 1, "the secret")?;
+    let told = dealt(rt.alloc(), &secret, t, n, &mut rng)?;
+    tell(rt, &told)
+}
+
+/// The secret of the shares that are read.
+fn combine(rt: &HostRuntime, words: &[String]) -> Result<(), Fault> {
+    if !words.is_empty() {
+        return Err(Fault::Usage);
+    }
+    let text = input(rt, u64::MAX, "shares, a line each,")?;
+    let told = combined(rt.alloc(), &text)?;
+    tell(rt, &told)
+}
+
+/// The words after the program's name.
+fn words_given(rt: &HostRuntime) -> Result<Vec<String>, Fault> {
+    match env::args(rt) {
+        Ok(words) => Ok(words.skip(1).collect(rt.alloc())?),
+        Err(error) if error.kind() == ErrorKind::InvalidData => Err(Fault::Usage),
+        Err(error) => Err(Fault::Io(error)),
+    }
+}
+
+/// Does what the words ask for.
+fn run(rt: &HostRuntime) -> Result<(), Fault> {
+    let words = words_given(rt)?;
     let (command, rest) = words.split_first().ok_or(Fault::Usage)?;
+    let asks_for_help = matches!(rest, [word] if word.as_str() == "--help");
     match command.as_str() {
-        "deal" => {
-            let mut rng: StdRng = make_rng(rt)?;
-            dealt(rt.alloc(), rest, &mut rng)
-        }
-        "combine" => combined(rt.alloc(), rest),
+        "--help" if rest.is_empty() => print(rt, HELP.as_bytes()),
+        "--version" if rest.is_empty() => print(rt, VERSION.as_bytes()),
+        "deal" | "combine" if asks_for_help => print(rt, HELP.as_bytes()),
+        "deal" => deal(rt, rest),
+        "combine" => combine(rt, rest),
         _ => Err(Fault::Usage),
     }
 }
 
-/// Says which shares are wrong, and writes the text to standard output.
-fn print(rt: &HostRuntime, told: &Told) -> io::Result<()> {
-    eprint!(rt; "{}", told.err)?;
-    print!(rt; "{}", told.out)
-}
-
 fn main(rt: HostRuntime) -> ExitCode {
-    let fault = match answer(&rt) {
-        Ok(told) => match print(&rt, &told) {
-            Ok(()) => return ExitCode::SUCCESS,
-            Err(error) => Fault::Io(error),
-        },
-        Err(fault) => fault,
-    };
-    let _told = eprintln!(rt; "{fault}");
-    ExitCode::from(fault.status())
+    match run(&rt) {
+        Ok(()) => ExitCode::SUCCESS,
+        Err(fault) => {
+            let _told = eprintln!(rt; "{fault}");
+            ExitCode::from(fault.status())
+        }
+    }
 }

@@ -1,0 +1,15 @@
+-- Bytes, a key and a check as elements.
+use Rattle.std.specs.Prelude.{◌≡◌, ℕ, List, [], ◌∷◌, ◌++◌}
+use Rattle.math_base.specs.declared.fields.goldilocks.F.{F}
+use Rattle.math_base.specs.Elements.{same}
+use Rattle.secret_elements.specs.KeyChecks.{check_at}
+use Rattle.secret_elements.specs.Packings.{ArePacked}
+
+-- the elements of the bytes, a key, and the check of these elements under the key
+pub record AreKeyed (bytes : List ℕ) (all : List F) : Type 0 where
+  pub elements : List F
+  pub key : F
+  pub check : F
+  pub packed : ArePacked elements bytes
+  pub fits : same check (check_at elements key)
+  pub parts : all ≡ elements ++ (key ∷ check ∷ [])

@@ -1,0 +1,84 @@
+//! Why no bytes were dealt, or none combined.
+
+use std::alloc::{AllocError, AllocFailed};
+use thiserror::Error;
+
+/// Why no shares were dealt.
+#[derive(Debug, Drop, Error)]
+pub enum DealError {
+    /// Memory ran out.
+    #[error("out of memory")]
+    Memory(AllocError),
+    /// The source gave only words that are no element, as often as they were looked at.
+    #[error("the source of random words gave none that could be used")]
+    TooManyWords,
+}
+
+impl From<AllocError> for DealError {
+    fn from(e: AllocError) -> DealError {
+        DealError::Memory(e)
+    }
+}
+
+impl<T: Drop> From<AllocFailed<T>> for DealError {
+    fn from(_e: AllocFailed<T>) -> DealError {
+        DealError::Memory(AllocError)
+    }
+}
+
+/// Why shares were not combined. A place counts the shares that were given from zero on.
+#[derive(Debug, Drop, Error)]
+pub enum CombineError {
+    /// Memory ran out.
+    #[error("out of memory")]
+    Memory(AllocError),
+    /// There is no share.
+    #[error("there is no share")]
+    NoShare,
+    /// The threshold of this share or its index is zero, or it has fewer values than any share of a
+    /// deal.
+    #[error("no share of a deal")]
+    Unsound(usize),
+    /// This share is of another deal than the first.
+    #[error("of another deal")]
+    AnotherDeal(usize),
+    /// This share has another threshold than the first.
+    #[error("of another threshold")]
+    AnotherThreshold(usize),
+    /// This share has another number of values than the first.
+    #[error("of another length")]
+    AnotherLength(usize),
+    /// This share has the index of one before it, and other values.
+    #[error("its index stands before with other values")]
+    Repeated(usize),
+    /// There are so many shares, and so many are needed.
+    #[error("{0} shares are there, and {1} are needed")]
+    TooFew(usize, u32),
+    /// Of more shares than the threshold, more are wrong than half of the surplus.
+    #[error("the shares do not fit each other")]
+    TooManyWrong,
+    /// What the shares give does not fit its check.
+    #[error("what the shares give does not fit its check")]
+    Changed,
+}
+
+impl From<AllocError> for CombineError {
+    fn from(e: AllocError) -> CombineError {
+        CombineError::Memory(e)
+    }
+}
+
+impl<T: Drop> From<AllocFailed<T>> for CombineError {
+    fn from(_e: AllocFailed<T>) -> CombineError {
+        CombineError::Memory(AllocError)
+    }
+}
+
+impl From<shared_secret::CombineError> for CombineError {
+    fn from(e: shared_secret::CombineError) -> CombineError {
+        match e {
+            shared_secret::CombineError::Memory(e) => CombineError::Memory(e),
+            _ => CombineError::TooManyWrong,
+        }
+    }
+}

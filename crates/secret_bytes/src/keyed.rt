@@ -1,0 +1,50 @@
+//! Bytes, a key and a check as elements.
+
+ghost use Rattle.std.specs.Prelude.{◌≡◌, ◌<◌, ◌^◌, ℕ, List, length, IfOk, IfSome};
+ghost use Rattle.secret_bytes.specs.Keyed.{AreKeyed};
+
+use crate::error::DealError;
+use commonware_math::algebra::{Mem, Random, RandomError};
+use math_base::fields::goldilocks::F;
+use rand_core::{CryptoRng, Rng};
+use secret_elements::{bytes_of, elements_of, fits, key_check};
+use std::alloc::Global;
+
+/// An element of the source.
+pub(crate) fn drawn<G: Rng + CryptoRng>(alloc: Global, rng: &mut G) -> Result<F, DealError> {
+    match F::random(alloc, rng) {
+        Ok(a) => Ok(a),
+        Err(RandomError::Memory(e)) => Err(DealError::Memory(e)),
+        Err(RandomError::TooManyWords) => Err(DealError::TooManyWords),
+    }
+}
+
+/// The elements of the bytes, of which there are fewer than 2^32, a key, and their check under it.
+pub(crate) fn keyed(alloc: Global, bytes: &[u8], key: F) -> Mem<Vec<F>>
+    requires { length bytes.now < 2 ^ 32 }
+    ensures { IfOk result (λ all. AreKeyed bytes.now all.items) }
+{
+    let mut all = elements_of(alloc, bytes)?;
+    let check = key_check(&all, key);
+    all.push(key)?;
+    all.push(check)?;
+    Ok(all)
+}
+
+/// The bytes whose elements, with a key and a check, these are; `None` where the check is not that
+/// of the elements under the key, or the elements are those of no bytes.
+pub(crate) fn unkeyed(alloc: Global, all: &[F]) -> Mem<Option<Vec<u8>>>
+    ensures some { IfOk result
+        (λ answer. IfSome answer (λ bytes. AreKeyed bytes.items all.now)) }
+{
+    let Some((check, rest)) = all.split_last() else {
+        return Ok(None);
+    };
+    let Some((key, elements)) = rest.split_last() else {
+        return Ok(None);
+    };
+    if !fits(elements, *key, *check) {
+        return Ok(None);
+    }
+    bytes_of(alloc, elements)
+}
