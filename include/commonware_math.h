@@ -98,7 +98,8 @@ static inline const char *cwm_status_name(uint32_t status) {
 uint32_t cwm_status_text(uint32_t status, char *text, size_t m);
 
 /* Writes the value at x of the polynomial with these n coefficients into *out.
- * n is 1 to 2^32 - 1, else CWM_WRONG_SIZE. A word of P or more: CWM_OUT_OF_RANGE. Takes 128 words of memory. */
+ * n is 1 to 2^32 - 1, else CWM_WRONG_SIZE. A word of P or more: CWM_OUT_OF_RANGE. Takes memory for 512 words at
+ * most. */
 CWM_MUST_USE uint32_t cwm_eval(const uint64_t *coefficients, size_t n, uint64_t x, uint64_t *out);
 
 /* Row i of the cells holds coefficient i of each polynomial. Puts in its place the values at point i.

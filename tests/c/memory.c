@@ -118,7 +118,7 @@ static void points(void) {
     for (size_t n = 1; n <= ROWS; n *= 2) count("cwm_weights_at_roots", cwm_weights_at_roots(ROWS, indices, n, 5 * x, b, n), 7, ROWS);
   for (size_t n = 64; n <= CELLS; n *= 4) {
     fill(a, n);
-    count("cwm_eval", cwm_eval(a, n, 5, b), 0.125, 1024);
+    count("cwm_eval", cwm_eval(a, n, 5, b), 0.5, 1024);
     uint8_t *bytes = block(8 * n + 5);
     count("cwm_encode_poly", cwm_encode_poly(a, n, bytes, 8 * n + 5, &written), 1, 64);
     count("cwm_decode_poly", cwm_decode_poly(bytes, written, b, n, &written), 0, 64);

@@ -4,7 +4,6 @@ pub mod WordMatrices
 pub mod WordCorrections
 pub mod WrittenWords
 pub mod ReadWords
-pub mod BlockValues
 pub mod TruthValues
 pub mod RisingIndices
 pub mod WordWeights

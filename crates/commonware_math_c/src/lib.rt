@@ -61,14 +61,15 @@ pub extern "C" fn cwm_eval(alloc: Global, coefficients: &[u64], x: u64, out: &mu
     if !is_coefficient_count(coefficients.len()) {
         return Status::WrongSize.code();
     }
-    if x >= MODULUS || !are_elements(coefficients) {
+    if x >= MODULUS {
         return Status::OutOfRange.code();
     }
     match values::value(alloc, coefficients, x) {
-        Ok(value) => {
+        Ok(Some(value)) => {
             *out = value;
             Status::Done.code()
         }
+        Ok(None) => Status::OutOfRange.code(),
         Err(_) => Status::OutOfMemory.code(),
     }
 }

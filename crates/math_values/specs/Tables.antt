@@ -1,0 +1,7 @@
+-- A table of powers.
+use Rattle.math_base.specs.declared.fields.goldilocks.F.{F}
+use Rattle.math_values.specs.declared.values.PowerTable.{PowerTable}
+
+-- the point of which a table has the first powers
+abbrev pub point : PowerTable → F
+point table = table.point
