@@ -8,5 +8,7 @@
 
 mod fingerprints;
 pub mod laws;
+mod pairs;
 
 pub use fingerprints::fingerprint;
+pub use pairs::{Fingerprints, Keys, cells_fingerprints, words_fingerprints};

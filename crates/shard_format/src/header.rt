@@ -1,27 +1,28 @@
-//! The header of a shard file: seven words of eight bytes, highest byte first.
+//! The header of a shard file: eleven words of eight bytes, highest byte first.
 //!
-//! They are the mark, the version, the index, `min`, `total`, the block size and the length of the
-//! file.
+//! They are the mark, the version, the index, `min`, `total`, the block size, the length of the
+//! file, the two keys, and the fingerprints of all these under the one key and under the other.
 
 ghost use Rattle.std.specs.Prelude.{◌≡◌, ◌↔◌, ◌<◌, ◌≤◌, ◌^◌, ◌++◌, length, take, refl, IsTrue, IfOk, OnOk, OnErr, MatchResult};
 ghost use Rattle.std.specs.Int.{w64, to_be_bytes};
 ghost use Rattle.math_codec.specs.Faults.{IsMemory, OnMemory, Reads};
-ghost use Rattle.shard_format.specs.Headers.{header_spelling, split_spelling, AdmitsHeader, scan_fixed, scan_header, scan_number};
-ghost use Rattle.shard_format.specs.HeaderLaws.{header_again, header_apart};
+ghost use Rattle.shard_format.specs.Headers.{AdmitsHeader, AreSameHeaders, header_spelling, split_spelling};
 ghost use Rattle.shard_format.specs.Splits.{AreOfOneSplit, IsPossible, IsThatOf, largest_block};
 ghost use Rattle.shard_format.specs.declared.header.Verdict.TheVariants.{Fits, Impossible, OtherIndex, OtherSplit};
 
-use math_codec::codec::{Encoding, Error, Mem, Read, Write, decode, roll_back};
+use math_base::fields::goldilocks::{F, MODULUS};
+use math_codec::codec::{Error, Mem, Read, Write};
+use shard_fingerprints::{Keys, words_fingerprints};
 use std::alloc::Global;
 
 /// The word that every shard file begins with: 137, `SHARD`, and a line's end.
 const MARK: u64 = 0x8953_4841_5244_0d0a;
 
 /// The version of the format.
-const VERSION: u64 = 1;
+const VERSION: u64 = 2;
 
 /// The number of bytes of a header.
-pub const HEADER_SIZE: usize = 56;
+pub const HEADER_SIZE: usize = 88;
 
 /// What a shard file says of itself.
 #[derive(Clone, Copy, Debug)]
@@ -34,137 +35,125 @@ pub struct Header {
     pub total: u32,
     /// The number of bytes of each block but the last.
     pub block: u32,
-    /// The number of bytes of the file.
+    /// The number of bytes of the file, below P.
     pub length: u64,
-}
-
-impl Encoding for Header {
-    ghost spelling = { header_spelling };
-
-    ghost alike = { λ g h. g ≡ h };
-}
-
-/// Reads the one word that may stand here; another one is `Invalid` under the name.
-#[tactic(auto, unfolding(crate::specs::Headers::scan_fixed))]
-fn read_fixed(alloc: Global, input: &mut &[u8], word: u64, name: &'static str) -> Result<(), Error>
-    ensures taken { OnOk result (input.old.now ≡ to_be_bytes w64 word ++ input.new.now) }
-    ensures stays { OnErr result (input.new ≡ input.old) }
-    ensures memory { OnMemory result ⊥ }
-    ensures exact { Reads result input.new.now (scan_fixed word name.now input.old.now) }
-{
-    let mut rest = *input;
-    let found = u64::read_cfg(alloc, &mut rest, &())?;
-    if found != word {
-        return Err(Error::Invalid("header", name));
-    }
-    *input = rest;
-    Ok(())
-}
-
-/// Reads a word below 2^32.
-#[tactic(auto, unfolding(crate::specs::Headers::scan_number))]
-fn read_number(alloc: Global, input: &mut &[u8]) -> Result<u32, Error>
-    ensures taken { IfOk result (λ n. input.old.now ≡ to_be_bytes w64 n ++ input.new.now) }
-    ensures stays { OnErr result (input.new ≡ input.old) }
-    ensures memory { OnMemory result ⊥ }
-    ensures exact { Reads result input.new.now (scan_number input.old.now) }
-{
-    let mut rest = *input;
-    let word = u64::read_cfg(alloc, &mut rest, &())?;
-    let Ok(number) = u32::try_from(word) else {
-        return Err(Error::Invalid("header", "number"));
-    };
-    *input = rest;
-    Ok(number)
-}
-
-impl Read for Header {
-    type Cfg = ();
-
-    ghost admits = { λ _. AdmitsHeader };
-
-    ghost scan = { λ _. scan_header };
-
-    ghost grows = { λ _ _. ⊥ };
-
-    /// Reads the mark, the version, and the five numbers, and refuses with the first fault of
-    /// these.
-    #[tactic(auto, unfolding(crate::specs::Headers::scan_header))]
-    fn read_cfg(alloc: Global, input: &mut &[u8], _cfg: &()) -> Result<Header, Error> {
-        let mut rest = *input;
-        read_fixed(alloc, &mut rest, MARK, "mark")?;
-        read_fixed(alloc, &mut rest, VERSION, "version")?;
-        let index = read_number(alloc, &mut rest)?;
-        let min = read_number(alloc, &mut rest)?;
-        let total = read_number(alloc, &mut rest)?;
-        let block = read_number(alloc, &mut rest)?;
-        let length = u64::read_cfg(alloc, &mut rest, &())?;
-        *input = rest;
-        Ok(Header {
-            index,
-            min,
-            total,
-            block,
-            length,
-        })
-    }
-
-    ghost again = { λ _. header_again };
-
-    ghost apart = { λ _. header_apart };
-}
-
-/// Writes what all headers of a split share. What is written stays where memory runs out.
-fn write_split(alloc: Global, header: &Header, out: &mut Vec<u8>) -> Mem<()>
-    ensures ok { OnOk result (out.new.items ≡ out.old.items ++ split_spelling header.now) }
-    ensures kept { take (length out.old.items) out.new.items ≡ out.old.items }
-{
-    (header.min as u64).write(alloc, out)?;
-    (header.total as u64).write(alloc, out)?;
-    (header.block as u64).write(alloc, out)?;
-    header.length.write(alloc, out)?;
-    Ok(())
-}
-
-/// Writes a header. What is written stays where memory runs out.
-fn write_words(alloc: Global, header: &Header, out: &mut Vec<u8>) -> Mem<()>
-    ensures ok { OnOk result (out.new.items ≡ out.old.items ++ header_spelling header.now) }
-    ensures kept { take (length out.old.items) out.new.items ≡ out.old.items }
-{
-    MARK.write(alloc, out)?;
-    VERSION.write(alloc, out)?;
-    (header.index as u64).write(alloc, out)?;
-    write_split(alloc, header, out)?;
-    Ok(())
-}
-
-impl Write for Header {
-    ghost fits = { λ _. Unit {0} };
-
-    /// Writes the seven words.
-    fn write(&self, alloc: Global, out: &mut Vec<u8>) -> Mem<()> {
-        let start = out.len();
-        let written = write_words(alloc, self, out);
-        roll_back(alloc, written, start, out)
-    }
+    /// The keys of the split, neither of which is zero.
+    pub keys: Keys,
 }
 
 /// The bytes of the header.
+///
+/// `header_in` reads them where the length is below P and neither key is zero.
 pub fn header_bytes(alloc: Global, header: &Header) -> Mem<Vec<u8>>
     ensures { IfOk result (λ bytes. bytes.items ≡ header_spelling header.now) }
 {
     let mut bytes = Vec::new(alloc);
-    header.write(alloc, &mut bytes)?;
+    for word in elements_of(header) {
+        word.write(alloc, &mut bytes)?;
+    }
+    let fingerprints = words_fingerprints(&header.keys, &elements_of(header));
+    fingerprints.first.write(alloc, &mut bytes)?;
+    fingerprints.second.write(alloc, &mut bytes)?;
     Ok(bytes)
 }
 
 /// The header that the bytes are the encoding of. It refuses where they are that of none.
 pub fn header_in(alloc: Global, bytes: &[u8]) -> Result<Header, Error>
     ensures taken { IfOk result (λ h. bytes.now ≡ header_spelling h) }
+    ensures admitted { IfOk result AdmitsHeader }
     ensures again { (h : Header) → AdmitsHeader h → bytes.now ≡ header_spelling h
-        → MatchResult result (λ g. g ≡ h) IsMemory }
+        → MatchResult result (λ g. AreSameHeaders g h) IsMemory }
 {
-    decode::<Header>(alloc, bytes, &())
+    let mut rest = bytes;
+    read_fixed(alloc, &mut rest, MARK, "mark")?;
+    read_fixed(alloc, &mut rest, VERSION, "version")?;
+    let index = read_number(alloc, &mut rest)?;
+    let min = read_number(alloc, &mut rest)?;
+    let total = read_number(alloc, &mut rest)?;
+    let block = read_number(alloc, &mut rest)?;
+    let length = read_length(alloc, &mut rest)?;
+    let first = read_key(alloc, &mut rest)?;
+    let second = read_key(alloc, &mut rest)?;
+    let header = Header {
+        index,
+        min,
+        total,
+        block,
+        length,
+        keys: Keys { first, second },
+    };
+    let fingerprints = words_fingerprints(&header.keys, &elements_of(&header));
+    read_fixed(
+        alloc,
+        &mut rest,
+        number_of(&fingerprints.first),
+        "fingerprint",
+    )?;
+    read_fixed(
+        alloc,
+        &mut rest,
+        number_of(&fingerprints.second),
+        "fingerprint",
+    )?;
+    if !rest.is_empty() {
+        return Err(Error::ExtraData(rest.len()));
+    }
+    Ok(header)
+}
+
+fn number_of(a: &F) -> u64 {
+    u64::from_le_bytes(a.to_le_bytes())
+}
+
+fn elements_of(header: &Header) -> [F; 9] {
+    [
+        F::from(MARK),
+        F::from(VERSION),
+        F::from(u64::from(header.index)),
+        F::from(u64::from(header.min)),
+        F::from(u64::from(header.total)),
+        F::from(u64::from(header.block)),
+        F::from(header.length),
+        header.keys.first,
+        header.keys.second,
+    ]
+}
+
+fn read_length(alloc: Global, input: &mut &[u8]) -> Result<u64, Error> {
+    let word = u64::read_cfg(alloc, input, &())?;
+    if word >= MODULUS {
+        return Err(Error::Invalid("header", "length"));
+    }
+    Ok(word)
+}
+
+fn read_key(alloc: Global, input: &mut &[u8]) -> Result<F, Error> {
+    let word = u64::read_cfg(alloc, input, &())?;
+    if word == 0 || word >= MODULUS {
+        return Err(Error::Invalid("header", "key"));
+    }
+    Ok(F::from(word))
+}
+
+fn read_fixed(
+    alloc: Global,
+    input: &mut &[u8],
+    word: u64,
+    name: &'static str,
+) -> Result<(), Error> {
+    let found = u64::read_cfg(alloc, input, &())?;
+    if found != word {
+        return Err(Error::Invalid("header", name));
+    }
+    Ok(())
+}
+
+fn read_number(alloc: Global, input: &mut &[u8]) -> Result<u32, Error> {
+    let word = u64::read_cfg(alloc, input, &())?;
+    let Ok(number) = u32::try_from(word) else {
+        return Err(Error::Invalid("header", "number"));
+    };
+    Ok(number)
 }
 
 /// What is to be thought of a header.
@@ -181,7 +170,7 @@ pub enum Verdict {
 }
 
 impl Header {
-    /// The greatest number of bytes that a block may have: 16 MiB, and so many that `total` / `min`
+    /// The greatest number of bytes that a block may have: 1 MiB, and so many that `total` / `min`
     /// blocks have 32 MiB at most. The shards of a block take as much, and some bytes for their
     /// numbers.
     pub fn largest_block(min: u32, total: u32) -> u32
@@ -189,7 +178,7 @@ impl Header {
         ensures { result ≡ largest_block min total }
     {
         let bytes = (1 << 25) * u64::from(min) / u64::from(total);
-        bytes.min(1 << 24) as u32
+        bytes.min(1 << 20) as u32
     }
 
     /// Whether a split can have these numbers.
@@ -204,7 +193,7 @@ impl Header {
             && self.block <= Header::largest_block(self.min, self.total)
     }
 
-    /// Whether both are headers of shards of one file, split in one way.
+    /// Whether both are headers of shards of one file, split in one way with one pair of keys.
     pub fn is_of_split(&self, other: &Header) -> bool
         ensures { IsTrue result ↔ AreOfOneSplit self.now other.now }
     {
@@ -212,6 +201,8 @@ impl Header {
             && self.total == other.total
             && self.block == other.block
             && self.length == other.length
+            && self.keys.first == other.keys.first
+            && self.keys.second == other.keys.second
     }
 
     /// Whether it is the header of the shard with this number of the split of which the other
