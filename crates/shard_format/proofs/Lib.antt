@@ -1,0 +1,2 @@
+mod AppendedWords
+pub mod CountedSplits

@@ -1,12 +1,13 @@
 -- The header of a shard file as bytes: eleven words, of which the last two are the fingerprints of those before.
-use Rattle.std.specs.Prelude.{◌≡◌, ◌≢◌, ℕ, ◌<◌, ◌^◌, List, [], ◌∷◌, ◌++◌, map, Result, Ok, Err, nat_lt, ◌==◌, if◌then◌else◌, codes}
+use Rattle.std.specs.Prelude.{◌≢◌, ℕ, zero, suc, ◌<◌, ◌^◌, List, [], ◌∷◌, ◌++◌, map, drop, slice_index_or, Result, Ok, Err, nat_lt, ◌==◌, ◌&&◌, if◌then◌else◌, codes}
 use Rattle.std.specs.Int.{to_be_bytes, w64}
 use Rattle.math_numbers.specs.Goldilocks.{P}
 use Rattle.math_codec.specs.Faults.{Fault, Invalid, ◌>>=◌}
 use Rattle.math_codec.specs.Words.{scan_word, word_in_front}
 use Rattle.math_base.specs.declared.fields.goldilocks.F.{F}
-use Rattle.math_base.specs.Elements.{number, residue, same}
+use Rattle.math_base.specs.Elements.{number, residue}
 use Rattle.shard_fingerprints.specs.Fingerprints.{fingerprint}
+use Rattle.shard_fingerprints.specs.declared.pairs.Keys.{Keys}
 use Rattle.shard_format.specs.declared.header.Header.{Header}
 
 -- the word that every shard file begins with
@@ -17,31 +18,35 @@ mark = 0x8953484152440d0a
 abbrev pub version : ℕ
 version = 2
 
--- the nine words of a header before its fingerprints: the mark, the version, the index, `min`, `total`, the block size, the length, and the two keys
-abbrev pub words_of : (index min total block length first second : ℕ) → List ℕ
-words_of index min total block length first second = mark ∷ version ∷ index ∷ min ∷ total ∷ block ∷ length ∷ first ∷ second ∷ []
-
--- those of this header, as elements
+-- the nine words of a header before its fingerprints, as elements: the mark, the version, the index, `min`, `total`, the block size, the length, and the two keys
 abbrev pub header_words : Header → List F
-header_words h = map residue (words_of h.index h.min h.total h.block h.length (number h.keys.first) (number h.keys.second))
+header_words h =
+    residue mark ∷ residue version ∷ residue h.index ∷ residue h.min ∷ residue h.total ∷ residue h.block ∷ residue h.length
+    ∷ h.keys.first ∷ h.keys.second ∷ []
 
--- the keys of a split are spelled by a word each
-abbrev pub keys_spelling : Header → List ℕ
-keys_spelling h = to_be_bytes w64 (number h.keys.first) ++ to_be_bytes w64 (number h.keys.second)
+-- the beginning of a header is spelled by the mark, the version and the index, a word each
+abbrev pub beginning_spelling : ℕ → List ℕ
+beginning_spelling index = to_be_bytes w64 mark ++ (to_be_bytes w64 version ++ to_be_bytes w64 index)
 
 -- the numbers of a split are spelled by `min`, `total`, the block size and the length, a word each
-abbrev pub split_spelling : Header → List ℕ
-split_spelling h = to_be_bytes w64 h.min ++ (to_be_bytes w64 h.total ++ (to_be_bytes w64 h.block ++ to_be_bytes w64 h.length))
+abbrev pub split_spelling : (least most block size : ℕ) → List ℕ
+split_spelling least most block size = to_be_bytes w64 least ++ (to_be_bytes w64 most ++ (to_be_bytes w64 block ++ to_be_bytes w64 size))
 
--- the fingerprints of a header are spelled by a word each: those of its nine words before, under its first key and under its second
-abbrev pub fingerprints_spelling : Header → List ℕ
-fingerprints_spelling h =
-    to_be_bytes w64 (number (fingerprint (header_words h) h.keys.first)) ++ to_be_bytes w64 (number (fingerprint (header_words h) h.keys.second))
+-- two keys are spelled by a word each
+abbrev pub keys_spelling : Keys → List ℕ
+keys_spelling keys = to_be_bytes w64 (number keys.first) ++ to_be_bytes w64 (number keys.second)
 
--- a header is spelled by the mark, the version and the index, a word each, the numbers of the split, its keys, and the fingerprints of all these
+-- the fingerprints of some words under two keys are spelled by a word each
+abbrev pub fingerprints_spelling : Keys → List F → List ℕ
+fingerprints_spelling keys words = to_be_bytes w64 (number (fingerprint words keys.first)) ++ to_be_bytes w64 (number (fingerprint words keys.second))
+
+-- the words of a header before its fingerprints are spelled: its beginning, the numbers of the split, and its keys
+abbrev pub words_spelling : Header → List ℕ
+words_spelling h = beginning_spelling h.index ++ (split_spelling h.min h.total h.block h.length ++ keys_spelling h.keys)
+
+-- a header is spelled by these words, and their fingerprints
 abbrev pub header_spelling : Header → List ℕ
-header_spelling h =
-    to_be_bytes w64 mark ++ (to_be_bytes w64 version ++ (to_be_bytes w64 h.index ++ (split_spelling h ++ (keys_spelling h ++ fingerprints_spelling h))))
+header_spelling h = words_spelling h ++ fingerprints_spelling h.keys (header_words h)
 
 -- the numbers are such as their types can say, the length is below P, and neither key is zero
 pub record AdmitsHeader (h : Header) : Type 0 where
@@ -53,12 +58,75 @@ pub record AdmitsHeader (h : Header) : Type 0 where
   pub first_key : number h.keys.first ≢ 0
   pub second_key : number h.keys.second ≢ 0
 
--- both have the same index, `min`, `total`, block size, length and keys
-pub record AreSameHeaders (g h : Header) : Type 0 where
-  pub index : g.index ≡ h.index
-  pub least : g.min ≡ h.min
-  pub most : g.total ≡ h.total
-  pub block : g.block ≡ h.block
-  pub length : g.length ≡ h.length
-  pub first_key : same g.keys.first h.keys.first
-  pub second_key : same g.keys.second h.keys.second
+-- what a read of one given word leaves, or the fault; it names the word
+unfoldable pub scan_fixed : ℕ → List ℕ → List ℕ → Result (List ℕ) Fault
+scan_fixed expected name bytes = do
+  rest ← scan_word bytes
+  if word_in_front bytes == expected then Ok rest else Err (Invalid (codes "header") name)
+
+-- what a read of a word below 2^32 leaves, or the fault
+unfoldable pub scan_number : List ℕ → Result (List ℕ) Fault
+scan_number bytes = do
+  rest ← scan_word bytes
+  if nat_lt (word_in_front bytes) (2 ^ 32) then Ok rest else Err (Invalid (codes "header") (codes "number"))
+
+-- what a read of a word below P leaves, or the fault
+unfoldable pub scan_length : List ℕ → Result (List ℕ) Fault
+scan_length bytes = do
+  rest ← scan_word bytes
+  if nat_lt (word_in_front bytes) P then Ok rest else Err (Invalid (codes "header") (codes "length"))
+
+-- what a read of a word below P that is not zero leaves, or the fault
+unfoldable pub scan_key : List ℕ → Result (List ℕ) Fault
+scan_key bytes = do
+  rest ← scan_word bytes
+  if nat_lt 0 (word_in_front bytes) && nat_lt (word_in_front bytes) P then Ok rest else Err (Invalid (codes "header") (codes "key"))
+
+-- what a read of the mark, the version and the index leaves, or the first fault
+unfoldable pub scan_beginning : List ℕ → Result (List ℕ) Fault
+scan_beginning bytes = do
+  after_mark ← scan_fixed mark (codes "mark") bytes
+  after_version ← scan_fixed version (codes "version") after_mark
+  scan_number after_version
+
+-- what a read of the numbers of a split leaves, or the first fault
+unfoldable pub scan_split : List ℕ → Result (List ℕ) Fault
+scan_split bytes = do
+  after_min ← scan_number bytes
+  after_total ← scan_number after_min
+  after_block ← scan_number after_total
+  scan_length after_block
+
+-- what a read of two keys leaves, or the first fault
+unfoldable pub scan_keys : List ℕ → Result (List ℕ) Fault
+scan_keys bytes = do
+  after_first ← scan_key bytes
+  scan_key after_first
+
+-- what a read of the fingerprints of some words under two keys leaves, or the first fault
+unfoldable pub scan_fingerprints : List F → F → F → List ℕ → Result (List ℕ) Fault
+scan_fingerprints words first second bytes = do
+  after_first ← scan_fixed (number (fingerprint words first)) (codes "fingerprint") bytes
+  scan_fixed (number (fingerprint words second)) (codes "fingerprint") after_first
+
+-- the first words of some bytes, so many
+unfoldable pub words_in_front : ℕ → List ℕ → List ℕ
+words_in_front zero bytes = []
+words_in_front (suc n) bytes = word_in_front bytes ∷ words_in_front n (drop 8 bytes)
+
+-- what a read of a header up to its fingerprints leaves, or the first fault
+unfoldable pub scan_words : List ℕ → Result (List ℕ) Fault
+scan_words bytes = do
+  after_index ← scan_beginning bytes
+  after_length ← scan_split after_index
+  scan_keys after_length
+
+-- what a read of the fingerprints of a header leaves, or the first fault: they are those of its nine words before, under the last two of these
+abbrev pub scan_fingerprints_of : List ℕ → List ℕ → Result (List ℕ) Fault
+scan_fingerprints_of words bytes = scan_fingerprints (map residue words) (residue (slice_index_or words 7 0)) (residue (slice_index_or words 8 0)) bytes
+
+-- what a read of a header leaves, or the first fault
+unfoldable pub scan_header : List ℕ → Result (List ℕ) Fault
+scan_header bytes = do
+  after_keys ← scan_words bytes
+  scan_fingerprints_of (words_in_front 9 bytes) after_keys

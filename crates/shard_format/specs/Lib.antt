@@ -1,3 +1,5 @@
+pub mod EqualElements
 pub mod Headers
+pub mod HeaderLaws
 pub mod Records
 pub mod Splits

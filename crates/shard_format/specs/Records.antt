@@ -1,5 +1,5 @@
 -- The blocks of a file, and the records of a shard file: sizes and places.
-use Rattle.std.specs.Prelude.{◌≡◌, ℕ, zero, suc, ◌+◌, ◌-◌, ◌*◌, ◌/◌, ◌<◌, ◌≤◌, ◌^◌, List, length, min}
+use Rattle.std.specs.Prelude.{◌≡◌, ℕ, zero, suc, ◌+◌, ◌-◌, ◌*◌, ◌/◌, ◌^◌, List, length, min}
 use Rattle.math_codec.specs.Lengths.{length_spelling}
 use Rattle.math_base.specs.declared.fields.goldilocks.F.{F}
 use Rattle.shard_fingerprints.specs.declared.pairs.Fingerprints.{Fingerprints}

@@ -1,9 +1,10 @@
 -- Which headers belong to one split, and which split some headers give.
-use Rattle.std.specs.Prelude.{◌≡◌, ℕ, ◌*◌, ◌/◌, ◌<◌, ◌≤◌, ◌^◌, min, Bool, ◌==◌, ◌&&◌, List, All, Contains, count_by}
+use Rattle.std.specs.Prelude.{◌≡◌, ℕ, ◌*◌, ◌/◌, ◌<◌, ◌≤◌, ◌^◌, min, Bool, ◌==◌, ◌&&◌, List, All, Contains, count_by, Option, Some, None, MatchOption}
 use Rattle.math_base.specs.Elements.{number, same}
 use Rattle.shard_format.specs.declared.header.Header.{Header}
+use Rattle.shard_format.specs.declared.splits.Counted.{Counted}
 use Rattle.shard_format.specs.declared.splits.Choice.{Choice}
-use Rattle.shard_format.specs.declared.splits.Choice.TheVariants.{Taken, Tied, None}
+use Rattle.shard_format.specs.declared.splits.Choice.TheVariants as choices
 
 -- the greatest number of bytes of a block: 1 MiB, and so many that TOTAL / MIN blocks have 32 MiB at most
 abbrev pub largest_block : ℕ → ℕ → ℕ
@@ -66,18 +67,45 @@ pub record AreTied (headers : List Header) (g h : Header) : Type 0 where
 
 -- where a header is taken, P holds of it
 abbrev pub IfTaken : Choice → (Header → Type 0) → Type 0
-IfTaken (Taken h) P = P h
-IfTaken (Tied g h) P = Unit {0}
-IfTaken None P = Unit {0}
+IfTaken (choices.Taken h) P = P h
+IfTaken (choices.Tied g h) P = Unit {0}
+IfTaken choices.None P = Unit {0}
 
 -- where two are tied, P holds of them
 abbrev pub IfTied : Choice → (Header → Header → Type 0) → Type 0
-IfTied (Taken h) P = Unit {0}
-IfTied (Tied g h) P = P g h
-IfTied None P = Unit {0}
+IfTied (choices.Taken h) P = Unit {0}
+IfTied (choices.Tied g h) P = P g h
+IfTied choices.None P = Unit {0}
 
 -- where there is none, P holds
 abbrev pub IfNoSplit : Choice → Type 0 → Type 0
-IfNoSplit (Taken h) P = Unit {0}
-IfNoSplit (Tied g h) P = Unit {0}
-IfNoSplit None P = P
+IfNoSplit (choices.Taken h) P = Unit {0}
+IfNoSplit (choices.Tied g h) P = Unit {0}
+IfNoSplit choices.None P = P
+
+-- this is one of the headers, of its split enough are there, and it was counted how many
+pub record IsCounted (headers : List Header) (c : Counted) : Type 0 where
+  pub there : Contains headers c.header
+  pub enough : IsEnough headers c.header
+  pub count : c.count ≡ count_of c.header headers
+
+-- it was counted, and of the splits of the headers that were seen, as far as enough are there, of none more are there
+pub record IsLargest (headers seen : List Header) (c : Counted) : Type 0 where
+  pub counted : IsCounted headers c
+  pub most : All (λ g. IsEnough headers g → count_of g headers ≤ c.count) seen
+
+-- the same where one was counted; and where none was, of no split of the headers that were seen enough are there
+abbrev pub IsLargestOf : List Header → List Header → Option Counted → Type 0
+IsLargestOf headers seen best = MatchOption best (All (λ g. ¬ (IsEnough headers g)) seen) (IsLargest headers seen)
+
+-- how many were counted, or none
+abbrev pub count_in : Option Counted → ℕ
+count_in (Some c) = c.count
+count_in None = 0
+
+-- this header is of another split, of which enough are there, and as many as were counted
+pub record IsRival (headers : List Header) (c : Counted) (h : Header) : Type 0 where
+  pub there : Contains headers h
+  pub enough : IsEnough headers h
+  pub apart : ¬ (AreOfOneSplit h c.header)
+  pub equal : count_of h headers ≡ c.count

@@ -1,7 +1,7 @@
 //! Which split the headers of some shard files belong to.
 
-ghost use Rattle.std.specs.Prelude.{All};
-ghost use Rattle.shard_format.specs.Splits.{AreTied, IfNoSplit, IfTaken, IfTied, IsEnough, IsMost};
+ghost use Rattle.std.specs.Prelude.{◌≡◌, ◌↔◌, ◌<◌, ◌≤◌, ◌++◌, [], ◌∷◌, List, All, Contains, IsTrue, IfSome, IfNone, IsSomeAnd};
+ghost use Rattle.shard_format.specs.Splits.{AreOfOneSplit, AreTied, IfNoSplit, IfTaken, IfTied, IsEnough, IsLargestOf, IsMost, IsPossible, IsRival, count_in, count_of};
 
 use crate::header::Header;
 
@@ -17,48 +17,103 @@ pub enum Choice {
 }
 
 /// How many of the headers are of this one's split.
-fn count_of(split: &Header, headers: &[Header]) -> usize {
-    headers
-        .iter()
-        .filter(|header| header.is_of_split(split))
-        .count()
-}
-
-/// Whether its numbers are possible, and as many headers of its split are there as give a file
-/// back.
-fn is_enough(header: &Header, count: usize) -> bool {
-    header.is_possible() && count >= header.min as usize
-}
-
-/// A possible header of which split enough are there, and no fewer than of each other such; `None`
-/// where there is no such header.
-fn largest(headers: &[Header]) -> Option<Header> {
-    let mut best: Option<Header> = None;
-    let mut most = 0;
+fn count_of(split: &Header, headers: &[Header]) -> usize
+    ensures { result ≡ count_of split.now headers.now }
+{
+    let mut count = 0;
     for header in headers {
-        if let Some(split) = &best {
-            if header.is_of_split(split) {
-                continue;
-            }
+        if header.is_of_split(split) {
+            count += 1;
         }
-        let count = count_of(header, headers);
-        if count > most && is_enough(header, count) {
-            best = Some(*header);
-            most = count;
-        }
+    }
+    count
+}
+
+/// Whether a split can have its numbers, and so many of its headers are as many as give a file
+/// back.
+fn is_enough(header: &Header, count: usize) -> bool
+    ensures { IsTrue result ↔ IsPossible header.now × (header.now.min ≤ count) }
+{
+    header.is_possible() && header.min as usize <= count
+}
+
+/// A header, and how many are of its split.
+#[derive(Clone, Copy)]
+struct Counted {
+    header: Header,
+    count: usize,
+}
+
+/// Whether the header is of the split that was counted, where one was.
+fn is_counted(best: &Option<Counted>, header: &Header) -> bool
+    ensures { IsTrue result ↔ IsSomeAnd best.now (λ b. AreOfOneSplit header.now b.header) }
+{
+    match best {
+        Some(counted) => header.is_of_split(&counted.header),
+        None => false,
+    }
+}
+
+/// How many were counted; zero where none was.
+fn count_in(best: &Option<Counted>) -> usize
+    ensures { result ≡ count_in best.now }
+{
+    match best {
+        Some(counted) => counted.count,
+        None => 0,
+    }
+}
+
+/// Whether so many headers of the split of this one are enough, and more than were counted.
+fn is_more(best: &Option<Counted>, header: &Header, count: usize) -> bool
+    ensures { IsTrue result
+        ↔ (count_in best.now < count) × IsPossible header.now × (header.now.min ≤ count) }
+{
+    count_in(best) < count && is_enough(header, count)
+}
+
+/// What is the largest of the splits that were seen, and of that of one header more.
+fn larger(best: Option<Counted>, header: &Header, headers: &[Header]) -> Option<Counted>
+    requires { Contains headers.now header.now }
+    ensures { (seen : List Header) → IsLargestOf headers.now seen best
+        → IsLargestOf headers.now (seen ++ header.now ∷ []) result }
+{
+    if is_counted(&best, header) {
+        return best;
+    }
+    let count = count_of(header, headers);
+    if is_more(&best, header, count) {
+        return Some(Counted {
+            header: *header,
+            count,
+        });
     }
     best
 }
 
-/// A header of another split of which as many are there.
-fn rival(best: &Header, headers: &[Header]) -> Option<Header> {
-    let most = count_of(best, headers);
+/// A header of a split of which enough are there, and no fewer than of each other such; `None`
+/// where there is no such split.
+fn largest(headers: &[Header]) -> Option<Counted>
+    ensures { IsLargestOf headers.now headers.now result }
+{
+    let mut best = None;
     for header in headers {
-        if header.is_of_split(best) {
+        best = larger(best, header, headers);
+    }
+    best
+}
+
+/// A header of another split of which enough are there, and as many.
+fn rival(best: &Counted, headers: &[Header]) -> Option<Header>
+    ensures some { IfSome result (IsRival headers.now best.now) }
+    ensures none { IfNone result (All (λ h. ¬ (IsRival headers.now best.now h)) headers.now) }
+{
+    for header in headers {
+        if header.is_of_split(&best.header) {
             continue;
         }
         let count = count_of(header, headers);
-        if count == most && is_enough(header, count) {
+        if count == best.count && is_enough(header, count) {
             return Some(*header);
         }
     }
@@ -82,7 +137,7 @@ pub fn chosen_split(headers: &[Header]) -> Choice
         return Choice::None;
     };
     match rival(&best, headers) {
-        Some(other) => Choice::Tied(best, other),
-        None => Choice::Taken(best),
+        Some(other) => Choice::Tied(best.header, other),
+        None => Choice::Taken(best.header),
     }
 }
