@@ -71,10 +71,13 @@ fn shard_of_record(
     if !is_shard_of(header, index, min, total, shard.cells.len(), cells as usize) {
         return Ok(Err("its numbers are not those of the header"));
     }
-    match fingerprints_in(alloc, last) {
-        Some(stored) if fits(header, number, &shard.cells, &stored) => Ok(Ok(shard)),
-        _ => Ok(Err("it does not fit its fingerprint")),
+    let Some(stored) = fingerprints_in(alloc, last) else {
+        return Ok(Err("it does not fit its fingerprint"));
+    };
+    if !fits(header, number, &shard.cells, &stored) {
+        return Ok(Err("it does not fit its fingerprint"));
     }
+    Ok(Ok(shard))
 }
 
 /// The shard of a block, as the file has it, or what is wrong.
