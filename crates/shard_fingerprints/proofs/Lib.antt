@@ -1,2 +1,3 @@
 pub mod FingerprintSteps
+pub mod KeyPairs
 pub mod SeenChanges

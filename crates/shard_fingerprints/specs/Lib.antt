@@ -1,1 +1,3 @@
+pub mod EqualElements
 pub mod Fingerprints
+pub mod KeyPairs
