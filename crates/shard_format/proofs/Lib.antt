@@ -1,2 +1,3 @@
 mod AppendedWords
 pub mod CountedSplits
+pub mod RecordPlaces

@@ -11,7 +11,7 @@ use Rattle.math_base.specs.Elements.{number}
 use Rattle.shard_fingerprints.specs.declared.pairs.Keys.{Keys}
 use Rattle.shard_fingerprints.specs.Fingerprints.{fingerprint}
 use Rattle.shard_format.specs.declared.header.Header.{Header}
-use Rattle.shard_format.specs.EqualElements.{element_equal, residue_number}
+use Rattle.shard_fingerprints.specs.EqualElements.{element_equal, residue_number}
 use Rattle.shard_format.specs.Headers.{mark, version, header_words, words_spelling, fingerprints_spelling, header_spelling, AdmitsHeader}
 use Rattle.shard_format.specs.Headers.{scan_fixed, scan_number, scan_length, scan_key, scan_beginning, scan_split, scan_keys, scan_words, scan_fingerprints, scan_fingerprints_of, scan_header, words_in_front}
 

@@ -1,4 +1,3 @@
-pub mod EqualElements
 pub mod Headers
 pub mod HeaderLaws
 pub mod Records

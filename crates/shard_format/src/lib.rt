@@ -4,5 +4,6 @@
 #![tactic(auto)]
 
 pub mod header;
+pub mod laws;
 pub mod records;
 pub mod splits;

@@ -1,7 +1,7 @@
 use Rattle.std.proofs.Common.{refl}
 use Rattle.math_base.specs.Elements.{residue}
 use Rattle.shard_format.specs.Headers.{mark, version}
-use Rattle.shard_format.specs.EqualElements.{element_equal}
+use Rattle.shard_fingerprints.specs.EqualElements.{element_equal}
 use Rattle.shard_format.proofs.header.words_of.Goals as goal
 
 pub returns : goal.returns
