@@ -1,6 +1,7 @@
 //! Blocks of the file, from shards that fit their fingerprints.
 
-ghost use Rattle.std.specs.Prelude.{◌≡◌, ◌≤◌, length, IfOk, IfSome};
+ghost use Rattle.std.specs.Prelude.{◌≡◌, ◌≤◌, All, length, IfOk, OnOk, IfSome};
+ghost use Rattle.shardfile.specs.Shards.{IsOfSplit};
 
 use crate::fault::Fault;
 use crate::sources::{ShardFile, Source, is_read};
@@ -56,7 +57,9 @@ fn shard_of_record(
     number: u64,
     cells: u32,
     record: &[u8],
-) -> Result<Result<Shard, &'static str>, Fault> {
+) -> Result<Result<Shard, &'static str>, Fault>
+    ensures { IfOk result (λ answer. IfOk answer (IsOfSplit header.now)) }
+{
     let Some((encoded, last)) = record.split_at_checked(
         record.len().saturating_sub(FINGERPRINTS_SIZE),
     ) else {
@@ -90,6 +93,7 @@ fn shard_in(
     buffer: &mut Vec<u8>,
 ) -> Result<Result<Shard, &'static str>, Fault>
     requires { 1 ≤ split.now.min }
+    ensures { IfOk result (λ answer. IfOk answer (IsOfSplit split.now)) }
 {
     let header = &Header {
         index: source.header.index,
@@ -121,6 +125,7 @@ fn shard_from(
     buffer: &mut Vec<u8>,
 ) -> Result<Option<Shard>, Fault>
     requires { 1 ≤ split.now.min }
+    ensures { IfOk result (λ answer. IfSome answer (IsOfSplit split.now)) }
 {
     let Some(source) = &file.source else {
         return Ok(None);
@@ -145,7 +150,9 @@ fn find_shards(
     buffer: &mut Vec<u8>,
     found: &mut FoundShards,
 ) -> Result<(), Fault>
-    requires { 1 ≤ split.now.min }
+    requires some { 1 ≤ split.now.min }
+    requires before { All (IsOfSplit split.now) found.old.shards.items }
+    ensures { OnOk result (All (IsOfSplit split.now) found.new.shards.items) }
 {
     for place in found.looked_at..files.len() {
         if found.shards.len() >= wanted {
@@ -167,8 +174,14 @@ fn is_there(shards: &[Shard], index: u32) -> bool {
     shards.last().is_some_and(|shard| shard.index == index)
 }
 
-/// The bytes of a block that these shards give, where they give so many.
-fn joined(alloc: Global, shards: &[Shard], bytes: u32) -> Result<Option<Vec<u8>>, Fault>
+/// The bytes of a block that these shards of a split give, where they give so many.
+fn joined(
+    alloc: Global,
+    _split: &Header,
+    shards: &[Shard],
+    bytes: u32,
+) -> Result<Option<Vec<u8>>, Fault>
+    requires { All (IsOfSplit _split.now) shards.now }
     ensures { IfOk result (λ answer. IfSome answer (λ block. length block.items ≡ bytes)) }
 {
     match join_block(alloc, shards) {
@@ -182,9 +195,11 @@ fn joined(alloc: Global, shards: &[Shard], bytes: u32) -> Result<Option<Vec<u8>>
 fn corrected(
     alloc: Global,
     files: &mut [ShardFile],
+    _split: &Header,
     block: Block,
     found: &FoundShards,
 ) -> Result<Vec<u8>, Fault>
+    requires { All (IsOfSplit _split.now) found.now.shards.items }
     ensures { IfOk result (λ bytes. length bytes.items ≡ block.bytes) }
 {
     let JoinedBlock { bytes, left_out } = match join_block_corrected(alloc, &found.shards) {
@@ -245,13 +260,13 @@ pub fn block_in(
     let first = if reach.compares_all {
         None
     } else {
-        joined(rt.alloc(), &found.shards, block.bytes)?
+        joined(rt.alloc(), split, &found.shards, block.bytes)?
     };
     if first.is_none() || reach.reads_all {
         find_shards(rt, files, split, block, usize::MAX, buffer, &mut found)?;
     }
     match first {
         Some(bytes) => Ok(bytes),
-        None => corrected(rt.alloc(), files, block, &found),
+        None => corrected(rt.alloc(), files, split, block, &found),
     }
 }

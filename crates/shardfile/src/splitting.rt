@@ -1,6 +1,7 @@
 //! A file to shard files.
 
-ghost use Rattle.std.specs.Prelude.{◌≡◌, ◌≤◌, ◌^◌, OnOk};
+ghost use Rattle.std.specs.Prelude.{◌≡◌, ◌≢◌, ◌≤◌, ◌^◌, IfOk, OnOk};
+ghost use Rattle.math_base.specs.Elements.{number};
 
 use crate::fault::Fault;
 use crate::names::{folder_and_name, numbers_there, shard_name};
@@ -78,7 +79,10 @@ fn block_for(min: u32, total: u32) -> u32
 }
 
 /// Two keys, of which neither is zero, drawn by the system, each uniformly and by itself.
-fn random_keys(rt: &HostRuntime) -> Result<Keys, Fault> {
+fn random_keys(rt: &HostRuntime) -> Result<Keys, Fault>
+    ensures first { IfOk result (λ keys. number keys.first ≢ 0) }
+    ensures second { IfOk result (λ keys. number keys.second ≢ 0) }
+{
     Ok(Keys {
         first: random_key(rt)?,
         second: random_key(rt)?,
@@ -86,7 +90,9 @@ fn random_keys(rt: &HostRuntime) -> Result<Keys, Fault> {
 }
 
 /// The first of some random words of the system that is an element other than zero.
-fn random_key(rt: &HostRuntime) -> Result<F, Fault> {
+fn random_key(rt: &HostRuntime) -> Result<F, Fault>
+    ensures { IfOk result (λ key. number key ≢ 0) }
+{
     for _tried in 0..64u32 {
         let mut bytes = [0u8; 8];
         rt.fill_bytes(&mut bytes)?;
