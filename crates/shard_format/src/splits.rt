@@ -126,8 +126,8 @@ fn rival(best: &Counted, headers: &[Header]) -> Option<Header>
 /// one of which more are there than of each other. Where two of them are there most often, equally
 /// often, both are named. Where no split has so many, there is none.
 ///
-/// The time is that of as many passes over the headers as there are headers not of the split that
-/// is found, and of two more.
+/// Each header of another split than the one that is found costs at most two passes over the
+/// headers, and all of that one cost two together.
 pub fn chosen_split(headers: &[Header]) -> Choice
     ensures taken { IfTaken result (IsMost headers.now) }
     ensures tied { IfTied result (AreTied headers.now) }
