@@ -6,10 +6,11 @@ use crate::blocks::{Block, Reach, block_in};
 use crate::fault::Fault;
 use crate::listing::line_of;
 use crate::names::{Wanted, number_in};
-use crate::output::{Manner, Restored, check_no_input, owned};
+use crate::output::{Identity, Manner, Restored, check_no_input, owned};
 use crate::progress::Progress;
 use crate::sources::{ShardFile, count_there, gather};
 use shard_format::header::Header;
+use std::fs;
 
 /// Restores the file from the shard files that are there, and names on standard error those with
 /// which something was found wrong.
@@ -29,8 +30,8 @@ pub fn join(
     done
 }
 
-/// Refuses where the name is that of a shard of the file, whether it is there or not, or of one
-/// under another name.
+/// Refuses where the name is that of a shard of the file, whether it is there or not, or of one of
+/// the files under another name.
 fn check_out(
     rt: &HostRuntime,
     wanted: &Wanted,
@@ -43,8 +44,8 @@ fn check_out(
         }
     }
     for shard in files {
-        if let Some(input) = shard.identity() {
-            check_no_input(rt, out, input)?;
+        if let Ok(metadata) = fs::metadata(rt, shard.name.as_str()) {
+            check_no_input(rt, out, Identity::new(&metadata))?;
         }
     }
     Ok(())

@@ -5,7 +5,7 @@ ghost use Rattle.shard_format.specs.Splits.{IsPossible};
 
 use crate::fault::Fault;
 use crate::names::{Wanted, numbers_there, shard_name};
-use crate::output::{Identity, MOST_KEPT_OPEN, owned, rights_of};
+use crate::output::{MOST_KEPT_OPEN, owned, rights_of};
 use math_codec::codec;
 use shard_blocks::cells_for;
 use shard_format::header::{HEADER_SIZE, Header, Verdict, header_in};
@@ -57,12 +57,6 @@ impl ShardFile {
     pub fn rights(&self) -> Option<u32> {
         let source = self.source.as_ref()?;
         Some(rights_of(&source.metadata))
-    }
-
-    /// Which file of the system it is, where it is a file of the split.
-    pub fn identity(&self) -> Option<Identity> {
-        let source = self.source.as_ref()?;
-        Some(Identity::new(&source.metadata))
     }
 
     /// Whether nothing was found wrong with it.
