@@ -1,11 +1,12 @@
 -- How many headers are of one split, and the split of which the most are.
-use Rattle.std.proofs.Common.{◌≡◌, ℕ, ◌<◌, ◌≤◌, List, [], ◌∷◌, ◌++◌, Option, Some, None, refl, arith}
+use Rattle.std.proofs.Common.{◌≡◌, ℕ, ◌<◌, ◌≤◌, List, [], ◌∷◌, ◌++◌, Option, Some, None, refl, arith, length, take, subst, ◌∙◌, All}
 use Rattle.std.specs.List.{Contains}
 use Rattle.std.specs.Option.{IsSomeAnd}
+use Rattle.std.proofs.lemmas.List.{take_all}
 use Rattle.std.proofs.lemmas.List.Elements.{All-push}
 use Rattle.shard_format.specs.declared.header.Header.{Header}
 use Rattle.shard_format.specs.declared.splits.Counted.{Counted}
-use Rattle.shard_format.specs.Splits.{AreOfOneSplit, IsEnough, IsLargestOf, count_in, count_of}
+use Rattle.shard_format.specs.Splits.{AreOfOneSplit, IsPossible, IsRival, IsEnough, IsLargestOf, count_in, count_of}
 
 -- of one split there are equally many, whichever of its headers is taken
 pub count_same : (g h : Header) (headers : List Header) → AreOfOneSplit g h → count_of g headers ≡ count_of h headers
@@ -40,3 +41,14 @@ pub of_counted_split : (headers seen : List Header) (best : Option Counted) (h :
 of_counted_split headers seen None h s l = absurd s
 of_counted_split headers seen (Some c) h s l =
     kept headers seen (Some c) h l (λ e. let same = count_same h c.header headers s in let count = l.counted.count in omega (arith, same, count))
+
+-- what holds of as many as there are holds of all
+pub all_taken : (P : Header → Type 0) (headers : List Header) (i : ℕ) → length headers ≤ i → All P (take i headers) → All P headers
+all_taken P headers i beyond all = subst (All P) (take_all i headers beyond) all
+
+-- a header of whose split not as many are there is no rival
+pub no_rival : (headers : List Header) (best : Counted) (h : Header) (count : ℕ) → count ≡ count_of h headers → (count ≡ best.count → IsPossible h → h.min ≤ count → ⊥)
+    → ¬ (IsRival headers best h)
+no_rival headers best h count e refuses r =
+    let many = r.enough.many in
+    refuses (e ∙ r.equal) r.enough.possible (omega (arith, e, many))

@@ -1,5 +1,5 @@
 -- Which headers belong to one split, and which split some headers give.
-use Rattle.std.specs.Prelude.{◌≡◌, ℕ, ◌*◌, ◌/◌, ◌<◌, ◌≤◌, ◌^◌, min, Bool, ◌==◌, ◌&&◌, List, All, Contains, count_by, Option, Some, None, MatchOption}
+use Rattle.std.specs.Prelude.{◌≡◌, ℕ, ◌*◌, ◌/◌, ◌<◌, ◌≤◌, ◌^◌, min, Bool, ◌==◌, ◌&&◌, List, All, Contains, count_by, Option, Some, None, MatchOption, IfSome}
 use Rattle.math_base.specs.Elements.{number, same}
 use Rattle.shard_format.specs.declared.header.Header.{Header}
 use Rattle.shard_format.specs.declared.splits.Counted.{Counted}
@@ -97,6 +97,10 @@ pub record IsLargest (headers seen : List Header) (c : Counted) : Type 0 where
 -- the same where one was counted; and where none was, of no split of the headers that were seen enough are there
 abbrev pub IsLargestOf : List Header → List Header → Option Counted → Type 0
 IsLargestOf headers seen best = MatchOption best (All (λ g. ¬ (IsEnough headers g)) seen) (IsLargest headers seen)
+
+-- where one was counted, it was counted right
+abbrev pub IsRightCount : List Header → Option Counted → Type 0
+IsRightCount headers last = IfSome last (λ c. c.count ≡ count_of c.header headers)
 
 -- how many were counted, or none
 abbrev pub count_in : Option Counted → ℕ

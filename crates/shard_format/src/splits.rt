@@ -1,7 +1,7 @@
 //! Which split the headers of some shard files belong to.
 
 ghost use Rattle.std.specs.Prelude.{◌≡◌, ◌↔◌, ◌<◌, ◌≤◌, ◌++◌, [], ◌∷◌, List, All, Contains, IsTrue, IfSome, IfNone, IsSomeAnd};
-ghost use Rattle.shard_format.specs.Splits.{AreOfOneSplit, AreTied, IfNoSplit, IfTaken, IfTied, IsEnough, IsLargestOf, IsMost, IsPossible, IsRival, count_in, count_of};
+ghost use Rattle.shard_format.specs.Splits.{AreOfOneSplit, AreTied, IfNoSplit, IfTaken, IfTied, IsEnough, IsLargestOf, IsMost, IsPossible, IsRightCount, IsRival, count_in, count_of};
 
 use crate::header::Header;
 
@@ -72,23 +72,53 @@ fn is_more(best: &Option<Counted>, header: &Header, count: usize) -> bool
     count_in(best) < count && is_enough(header, count)
 }
 
-/// What is the largest of the splits that were seen, and of that of one header more.
-fn larger(best: Option<Counted>, header: &Header, headers: &[Header]) -> Option<Counted>
-    requires { Contains headers.now header.now }
-    ensures { (seen : List Header) → IsLargestOf headers.now seen best
-        → IsLargestOf headers.now (seen ++ header.now ∷ []) result }
+/// How many of the headers are of this one's split, which is known where it is the split that was
+/// counted last.
+fn known_count(last: &Option<Counted>, header: &Header, headers: &[Header]) -> usize
+    requires { IsRightCount headers.now last.now }
+    ensures { result ≡ count_of header.now headers.now }
 {
-    if is_counted(&best, header) {
-        return best;
+    match last {
+        Some(counted) => {
+            if header.is_of_split(&counted.header) {
+                return counted.count;
+            }
+            count_of(header, headers)
+        }
+        None => count_of(header, headers),
     }
-    let count = count_of(header, headers);
-    if is_more(&best, header, count) {
-        return Some(Counted {
-            header: *header,
-            count,
-        });
+}
+
+/// What was found of the headers that were seen: the largest split, and the one counted last.
+#[derive(Clone, Copy)]
+struct Seen {
+    best: Option<Counted>,
+    last: Option<Counted>,
+}
+
+/// What is found of one header more.
+fn seen_more(seen: Seen, header: &Header, headers: &[Header]) -> Seen
+    requires there { Contains headers.now header.now }
+    requires right { IsRightCount headers.now seen.last }
+    ensures largest { (before : List Header) → IsLargestOf headers.now before seen.best
+        → IsLargestOf headers.now (before ++ header.now ∷ []) result.best }
+    ensures right { IsRightCount headers.now result.last }
+{
+    if is_counted(&seen.best, header) {
+        return seen;
     }
-    best
+    let count = known_count(&seen.last, header, headers);
+    let last = Some(Counted {
+        header: *header,
+        count,
+    });
+    if is_more(&seen.best, header, count) {
+        return Seen { best: last, last };
+    }
+    Seen {
+        best: seen.best,
+        last,
+    }
 }
 
 /// A header of a split of which enough are there, and no fewer than of each other such; `None`
@@ -96,11 +126,22 @@ fn larger(best: Option<Counted>, header: &Header, headers: &[Header]) -> Option<
 fn largest(headers: &[Header]) -> Option<Counted>
     ensures { IsLargestOf headers.now headers.now result }
 {
-    let mut best = None;
+    let mut seen = Seen {
+        best: None,
+        last: None,
+    };
     for header in headers {
-        best = larger(best, header, headers);
+        seen = seen_more(seen, header, headers);
     }
-    best
+    seen.best
+}
+
+/// Whether so many headers of the split of this one are enough, and as many as were counted.
+fn is_as_many(best: &Counted, header: &Header, count: usize) -> bool
+    ensures { IsTrue result
+        ↔ (count ≡ best.now.count) × IsPossible header.now × (header.now.min ≤ count) }
+{
+    count == best.count && is_enough(header, count)
 }
 
 /// A header of another split of which enough are there, and as many.
@@ -108,14 +149,19 @@ fn rival(best: &Counted, headers: &[Header]) -> Option<Header>
     ensures some { IfSome result (IsRival headers.now best.now) }
     ensures none { IfNone result (All (λ h. ¬ (IsRival headers.now best.now h)) headers.now) }
 {
+    let mut last = None;
     for header in headers {
         if header.is_of_split(&best.header) {
             continue;
         }
-        let count = count_of(header, headers);
-        if count == best.count && is_enough(header, count) {
+        let count = known_count(&last, header, headers);
+        if is_as_many(best, header, count) {
             return Some(*header);
         }
+        last = Some(Counted {
+            header: *header,
+            count,
+        });
     }
     None
 }
@@ -126,8 +172,9 @@ fn rival(best: &Counted, headers: &[Header]) -> Option<Header>
 /// one of which more are there than of each other. Where two of them are there most often, equally
 /// often, both are named. Where no split has so many, there is none.
 ///
-/// Each header of another split than the one that is found costs at most two passes over the
-/// headers, and all of that one cost two together.
+/// A header's split is counted, by a pass over all headers, where it is neither the largest so far
+/// nor the one counted last. So headers of one split take two passes; where those of several are
+/// mixed, the time may grow with the square of their number.
 pub fn chosen_split(headers: &[Header]) -> Choice
     ensures taken { IfTaken result (IsMost headers.now) }
     ensures tied { IfTied result (AreTied headers.now) }

@@ -9,4 +9,7 @@ loop-header-preserved c =
     let headers = c.args.headers.now in
     let seen = take c.loop-header.header-index headers in
     let more = take_more headers c.loop-header.header-index c.header-item.result c.loop-header-test.true ∙ ap (λ (h : Header). seen ++ h ∷ []) (sym c.header-item.is) in
-    subst (λ (s : List Header). IsLargestOf headers s c.larger-best.result) (sym more) (c.larger-best.ensures seen c.loop-header.invariant)
+    record {
+      best = subst (λ (s : List Header). IsLargestOf headers s c.seen_more-seen.result.best) (sym more) (c.seen_more-seen.ensures.largest seen c.loop-header.invariant.best);
+      right = c.seen_more-seen.ensures.right;
+    }
