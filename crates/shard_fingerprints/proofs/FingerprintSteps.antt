@@ -25,3 +25,12 @@ pub fingerprint-more : (words : List F) (i : ℕ) (key word value scaled : F) (a
 fingerprint-more words i key word value scaled after some l here h m a =
     let back : i ≡ i - 1 + 1 = omega (arith, some) in
     more words (i - 1) key word value scaled after (omega (arith, some, l)) here (h ∙ ap (λ j. number (fingerprint (drop j words) key)) back) m a
+
+-- the fingerprint of a word and more words after it
+pub fingerprint-cons : (word : F) (rest : List F) (key value scaled : F) (front after : ℕ) → front ≡ number word
+    → number value ≡ number (fingerprint rest key) → number scaled ≡ number value * number key % P → after ≡ (front + number scaled) % P
+    → after ≡ number (fingerprint (word ∷ rest) key)
+fingerprint-cons word rest key value scaled front after f h m a =
+    let step : number (fingerprint (word ∷ rest) key) ≡ number (sum word (product (fingerprint rest key) key)) =
+    value_over-cons equality group (ring_is_module equality group commutes ring) key word rest in
+    a ∙ ap (λ n. (n + number scaled) % P) f ∙ ap (λ n. (number word + n) % P) (m ∙ ap (λ n. n * number key % P) h) ∙ sym step

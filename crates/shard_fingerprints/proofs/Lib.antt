@@ -1,2 +1,4 @@
 pub mod FingerprintSteps
+pub mod FourWords
+pub mod KeyPairs
 pub mod SeenChanges

@@ -1,1 +1,4 @@
+pub mod EqualElements
 pub mod Fingerprints
+pub mod FourWords
+pub mod KeyPairs

@@ -1,1 +1,3 @@
 mod AppendedWords
+pub mod CountedSplits
+pub mod RecordPlaces

@@ -1,10 +1,14 @@
--- Which headers belong to one split.
-use Rattle.std.specs.Prelude.{◌≡◌, ℕ, ◌*◌, ◌/◌, ◌<◌, ◌≤◌, ◌^◌, min}
+-- Which headers belong to one split, and which split some headers give.
+use Rattle.std.specs.Prelude.{◌≡◌, ℕ, ◌*◌, ◌/◌, ◌<◌, ◌≤◌, ◌^◌, min, Bool, ◌==◌, ◌&&◌, List, All, Contains, count_by, Option, Some, None, MatchOption, IfSome}
+use Rattle.math_base.specs.Elements.{number, same}
 use Rattle.shard_format.specs.declared.header.Header.{Header}
+use Rattle.shard_format.specs.declared.splits.Counted.{Counted}
+use Rattle.shard_format.specs.declared.splits.Choice.{Choice}
+use Rattle.shard_format.specs.declared.splits.Choice.TheVariants as choices
 
--- the greatest number of bytes of a block: 16 MiB, and so many that TOTAL / MIN blocks have 32 MiB at most
+-- the greatest number of bytes of a block: 1 MiB, and so many that TOTAL / MIN blocks have 32 MiB at most
 abbrev pub largest_block : ℕ → ℕ → ℕ
-largest_block least most = min (2 ^ 24) (2 ^ 25 * least / most)
+largest_block least most = min (2 ^ 20) (2 ^ 25 * least / most)
 
 -- a split can have this header
 pub record IsPossible (h : Header) : Type 0 where
@@ -15,15 +19,97 @@ pub record IsPossible (h : Header) : Type 0 where
   pub block : 1 ≤ h.block
   pub bounded : h.block ≤ largest_block h.min h.total
 
--- both are headers of shards of one file, split in one way
+-- both are headers of shards of one file, split in one way, at one time: their keys are the same too
 pub record AreOfOneSplit (g h : Header) : Type 0 where
   pub least : g.min ≡ h.min
   pub most : g.total ≡ h.total
   pub block : g.block ≡ h.block
   pub length : g.length ≡ h.length
+  pub first_key : same g.keys.first h.keys.first
+  pub second_key : same g.keys.second h.keys.second
 
 -- it is the header of the shard with this number of the split of which the other header is one
 pub record IsThatOf (h : Header) (n : ℕ) (s : Header) : Type 0 where
   pub possible : IsPossible h
   pub number : h.index ≡ n
   pub split : AreOfOneSplit h s
+
+-- the same as a test
+abbrev pub is_of_split : Header → Header → Bool
+is_of_split g h =
+    (g.min == h.min) && (g.total == h.total) && (g.block == h.block) && (g.length == h.length)
+    && (number g.keys.first == number h.keys.first) && (number g.keys.second == number h.keys.second)
+
+-- how many of the headers are of the split of this one
+abbrev pub count_of : Header → List Header → ℕ
+count_of h headers = count_by (λ g. is_of_split g h) headers
+
+-- a split can have this header, and as many of the headers are of its split as give the file back
+pub record IsEnough (headers : List Header) (h : Header) : Type 0 where
+  pub possible : IsPossible h
+  pub many : h.min ≤ count_of h headers
+
+-- this is one of the headers, of its split enough are there, and more than of each other split of which enough are there
+pub record IsMost (headers : List Header) (h : Header) : Type 0 where
+  pub there : Contains headers h
+  pub enough : IsEnough headers h
+  pub most : All (λ g. IsEnough headers g → ¬ (AreOfOneSplit g h) → count_of g headers < count_of h headers) headers
+
+-- these are two of the headers, of different splits, of both of which enough are there, equally many, and of no split of which enough are there more
+pub record AreTied (headers : List Header) (g h : Header) : Type 0 where
+  pub first_there : Contains headers g
+  pub second_there : Contains headers h
+  pub first_enough : IsEnough headers g
+  pub second_enough : IsEnough headers h
+  pub apart : ¬ (AreOfOneSplit h g)
+  pub equal : count_of h headers ≡ count_of g headers
+  pub most : All (λ f. IsEnough headers f → count_of f headers ≤ count_of g headers) headers
+
+-- where a header is taken, P holds of it
+abbrev pub IfTaken : Choice → (Header → Type 0) → Type 0
+IfTaken (choices.Taken h) P = P h
+IfTaken (choices.Tied g h) P = Unit {0}
+IfTaken choices.None P = Unit {0}
+
+-- where two are tied, P holds of them
+abbrev pub IfTied : Choice → (Header → Header → Type 0) → Type 0
+IfTied (choices.Taken h) P = Unit {0}
+IfTied (choices.Tied g h) P = P g h
+IfTied choices.None P = Unit {0}
+
+-- where there is none, P holds
+abbrev pub IfNoSplit : Choice → Type 0 → Type 0
+IfNoSplit (choices.Taken h) P = Unit {0}
+IfNoSplit (choices.Tied g h) P = Unit {0}
+IfNoSplit choices.None P = P
+
+-- this is one of the headers, of its split enough are there, and it was counted how many
+pub record IsCounted (headers : List Header) (c : Counted) : Type 0 where
+  pub there : Contains headers c.header
+  pub enough : IsEnough headers c.header
+  pub count : c.count ≡ count_of c.header headers
+
+-- it was counted, and of the splits of the headers that were seen, as far as enough are there, of none more are there
+pub record IsLargest (headers seen : List Header) (c : Counted) : Type 0 where
+  pub counted : IsCounted headers c
+  pub most : All (λ g. IsEnough headers g → count_of g headers ≤ c.count) seen
+
+-- the same where one was counted; and where none was, of no split of the headers that were seen enough are there
+abbrev pub IsLargestOf : List Header → List Header → Option Counted → Type 0
+IsLargestOf headers seen best = MatchOption best (All (λ g. ¬ (IsEnough headers g)) seen) (IsLargest headers seen)
+
+-- where one was counted, it was counted right
+abbrev pub IsRightCount : List Header → Option Counted → Type 0
+IsRightCount headers last = IfSome last (λ c. c.count ≡ count_of c.header headers)
+
+-- how many were counted, or none
+abbrev pub count_in : Option Counted → ℕ
+count_in (Some c) = c.count
+count_in None = 0
+
+-- this header is of another split, of which enough are there, and as many as were counted
+pub record IsRival (headers : List Header) (c : Counted) (h : Header) : Type 0 where
+  pub there : Contains headers h
+  pub enough : IsEnough headers h
+  pub apart : ¬ (AreOfOneSplit h c.header)
+  pub equal : count_of h headers ≡ c.count

@@ -1,27 +1,32 @@
-//! The header of a shard file: seven words of eight bytes, highest byte first.
+//! The header of a shard file: eleven words of eight bytes, highest byte first.
 //!
-//! They are the mark, the version, the index, `min`, `total`, the block size and the length of the
-//! file.
+//! They are the mark, the version, the index, `min`, `total`, the block size, the length of the
+//! file, the two keys, and the fingerprints of all these under the one key and under the other.
 
-ghost use Rattle.std.specs.Prelude.{◌≡◌, ◌↔◌, ◌<◌, ◌≤◌, ◌^◌, ◌++◌, length, take, refl, IsTrue, IfOk, OnOk, OnErr, MatchResult};
+ghost use Rattle.std.specs.Prelude.{◌≡◌, ◌≢◌, ◌↔◌, ◌<◌, ◌≤◌, ◌++◌, length, take, IsTrue, IfOk, OnOk, OnErr, MatchResult};
 ghost use Rattle.std.specs.Int.{w64, to_be_bytes};
+ghost use Rattle.math_numbers.specs.Goldilocks.{P};
 ghost use Rattle.math_codec.specs.Faults.{IsMemory, OnMemory, Reads};
-ghost use Rattle.shard_format.specs.Headers.{header_spelling, split_spelling, AdmitsHeader, scan_fixed, scan_header, scan_number};
+ghost use Rattle.math_base.specs.Elements.{number};
+ghost use Rattle.shard_format.specs.Headers.{AdmitsHeader, beginning_spelling, fingerprints_spelling, header_spelling, header_words, keys_spelling, split_spelling, words_spelling};
+ghost use Rattle.shard_format.specs.Headers.{scan_beginning, scan_fingerprints, scan_fixed, scan_header, scan_key, scan_keys, scan_length, scan_number, scan_split, scan_words};
 ghost use Rattle.shard_format.specs.HeaderLaws.{header_again, header_apart};
-ghost use Rattle.shard_format.specs.Splits.{AreOfOneSplit, IsPossible, IsThatOf, largest_block};
+ghost use Rattle.shard_format.specs.Splits.{AreOfOneSplit, IsPossible, IsThatOf, is_of_split, largest_block};
 ghost use Rattle.shard_format.specs.declared.header.Verdict.TheVariants.{Fits, Impossible, OtherIndex, OtherSplit};
 
+use math_base::fields::goldilocks::{F, MODULUS};
 use math_codec::codec::{Encoding, Error, Mem, Read, Write, decode, roll_back};
+use shard_fingerprints::{Keys, words_fingerprints};
 use std::alloc::Global;
 
 /// The word that every shard file begins with: 137, `SHARD`, and a line's end.
 const MARK: u64 = 0x8953_4841_5244_0d0a;
 
 /// The version of the format.
-const VERSION: u64 = 1;
+const VERSION: u64 = 2;
 
 /// The number of bytes of a header.
-pub const HEADER_SIZE: usize = 56;
+pub const HEADER_SIZE: usize = 88;
 
 /// What a shard file says of itself.
 #[derive(Clone, Copy, Debug)]
@@ -34,14 +39,33 @@ pub struct Header {
     pub total: u32,
     /// The number of bytes of each block but the last.
     pub block: u32,
-    /// The number of bytes of the file.
+    /// The number of bytes of the file, below P.
     pub length: u64,
+    /// The keys of the split, neither of which is zero.
+    pub keys: Keys,
 }
 
 impl Encoding for Header {
     ghost spelling = { header_spelling };
 
     ghost alike = { λ g h. g ≡ h };
+}
+
+/// The nine words of a header before its fingerprints, as elements.
+fn words_of(header: &Header) -> [F; 9]
+    ensures { result ≡ header_words header.now }
+{
+    [
+        F::from(MARK),
+        F::from(VERSION),
+        F::from(header.index as u64),
+        F::from(header.min as u64),
+        F::from(header.total as u64),
+        F::from(header.block as u64),
+        F::from(header.length),
+        header.keys.first,
+        header.keys.second,
+    ]
 }
 
 /// Reads the one word that may stand here; another one is `Invalid` under the name.
@@ -78,6 +102,172 @@ fn read_number(alloc: Global, input: &mut &[u8]) -> Result<u32, Error>
     Ok(number)
 }
 
+/// Reads a word below P.
+#[tactic(auto, unfolding(crate::specs::Headers::scan_length))]
+fn read_length(alloc: Global, input: &mut &[u8]) -> Result<u64, Error>
+    ensures taken { IfOk result (λ n. input.old.now ≡ to_be_bytes w64 n ++ input.new.now) }
+    ensures below { IfOk result (λ n. n < P) }
+    ensures stays { OnErr result (input.new ≡ input.old) }
+    ensures memory { OnMemory result ⊥ }
+    ensures exact { Reads result input.new.now (scan_length input.old.now) }
+{
+    let mut rest = *input;
+    let word = u64::read_cfg(alloc, &mut rest, &())?;
+    if word >= MODULUS {
+        return Err(Error::Invalid("header", "length"));
+    }
+    *input = rest;
+    Ok(word)
+}
+
+/// Reads a word below P that is not zero, as an element.
+#[tactic(auto, unfolding(crate::specs::Headers::scan_key))]
+fn read_key(alloc: Global, input: &mut &[u8]) -> Result<F, Error>
+    ensures taken { IfOk result
+        (λ key. input.old.now ≡ to_be_bytes w64 (number key) ++ input.new.now) }
+    ensures some { IfOk result (λ key. number key ≢ 0) }
+    ensures stays { OnErr result (input.new ≡ input.old) }
+    ensures memory { OnMemory result ⊥ }
+    ensures exact { Reads result input.new.now (scan_key input.old.now) }
+{
+    let mut rest = *input;
+    let word = u64::read_cfg(alloc, &mut rest, &())?;
+    if word == 0 || word >= MODULUS {
+        return Err(Error::Invalid("header", "key"));
+    }
+    *input = rest;
+    Ok(F::from(word))
+}
+
+/// Reads the mark, the version and the index.
+#[tactic(auto, unfolding(crate::specs::Headers::scan_beginning))]
+fn read_beginning(alloc: Global, input: &mut &[u8]) -> Result<u32, Error>
+    ensures taken { IfOk result
+        (λ index. input.old.now ≡ beginning_spelling index ++ input.new.now) }
+    ensures stays { OnErr result (input.new ≡ input.old) }
+    ensures memory { OnMemory result ⊥ }
+    ensures exact { Reads result input.new.now (scan_beginning input.old.now) }
+{
+    let mut rest = *input;
+    read_fixed(alloc, &mut rest, MARK, "mark")?;
+    read_fixed(alloc, &mut rest, VERSION, "version")?;
+    let index = read_number(alloc, &mut rest)?;
+    *input = rest;
+    Ok(index)
+}
+
+/// What all headers of a split share beside its keys: `min`, `total`, the block size and the
+/// length.
+#[derive(Clone, Copy)]
+struct Numbers {
+    min: u32,
+    total: u32,
+    block: u32,
+    length: u64,
+}
+
+/// Reads the numbers of a split.
+#[tactic(auto, unfolding(crate::specs::Headers::scan_split))]
+fn read_numbers(alloc: Global, input: &mut &[u8]) -> Result<Numbers, Error>
+    ensures taken { IfOk result
+        (λ n. input.old.now ≡ split_spelling n.min n.total n.block n.length ++ input.new.now) }
+    ensures below { IfOk result (λ n. n.length < P) }
+    ensures stays { OnErr result (input.new ≡ input.old) }
+    ensures memory { OnMemory result ⊥ }
+    ensures exact { Reads result input.new.now (scan_split input.old.now) }
+{
+    let mut rest = *input;
+    let min = read_number(alloc, &mut rest)?;
+    let total = read_number(alloc, &mut rest)?;
+    let block = read_number(alloc, &mut rest)?;
+    let length = read_length(alloc, &mut rest)?;
+    *input = rest;
+    Ok(Numbers {
+        min,
+        total,
+        block,
+        length,
+    })
+}
+
+/// Reads two keys.
+#[tactic(auto, unfolding(crate::specs::Headers::scan_keys))]
+fn read_keys(alloc: Global, input: &mut &[u8]) -> Result<Keys, Error>
+    ensures taken { IfOk result (λ keys. input.old.now ≡ keys_spelling keys ++ input.new.now) }
+    ensures first { IfOk result (λ keys. number keys.first ≢ 0) }
+    ensures second { IfOk result (λ keys. number keys.second ≢ 0) }
+    ensures stays { OnErr result (input.new ≡ input.old) }
+    ensures memory { OnMemory result ⊥ }
+    ensures exact { Reads result input.new.now (scan_keys input.old.now) }
+{
+    let mut rest = *input;
+    let first = read_key(alloc, &mut rest)?;
+    let second = read_key(alloc, &mut rest)?;
+    *input = rest;
+    Ok(Keys { first, second })
+}
+
+/// The number of an element.
+fn number_of(a: F) -> u64
+    ensures { result ≡ number a }
+{
+    u64::from_le_bytes(a.to_le_bytes())
+}
+
+/// Reads the fingerprints of some words under two keys.
+#[tactic(auto, unfolding(crate::specs::Headers::scan_fingerprints))]
+fn read_fingerprints(
+    alloc: Global,
+    input: &mut &[u8],
+    keys: &Keys,
+    words: &[F],
+) -> Result<(), Error>
+    ensures taken { OnOk result
+        (input.old.now ≡ fingerprints_spelling keys.now words.now ++ input.new.now) }
+    ensures stays { OnErr result (input.new ≡ input.old) }
+    ensures memory { OnMemory result ⊥ }
+    ensures exact { Reads result input.new.now
+        (scan_fingerprints words.now keys.now.first keys.now.second input.old.now) }
+{
+    let fingerprints = words_fingerprints(keys, words);
+    let first = number_of(fingerprints.first);
+    let second = number_of(fingerprints.second);
+    let mut rest = *input;
+    read_fixed(alloc, &mut rest, first, "fingerprint")?;
+    read_fixed(alloc, &mut rest, second, "fingerprint")?;
+    *input = rest;
+    Ok(())
+}
+
+/// Reads a header up to its fingerprints.
+#[tactic(auto, unfolding(crate::specs::Headers::scan_words))]
+fn read_words(alloc: Global, input: &mut &[u8]) -> Result<Header, Error>
+    ensures taken { IfOk result (λ h. input.old.now ≡ words_spelling h ++ input.new.now) }
+    ensures admitted { IfOk result AdmitsHeader }
+    ensures stays { OnErr result (input.new ≡ input.old) }
+    ensures memory { OnMemory result ⊥ }
+    ensures exact { Reads result input.new.now (scan_words input.old.now) }
+{
+    let mut rest = *input;
+    let index = read_beginning(alloc, &mut rest)?;
+    let Numbers {
+        min,
+        total,
+        block,
+        length,
+    } = read_numbers(alloc, &mut rest)?;
+    let keys = read_keys(alloc, &mut rest)?;
+    *input = rest;
+    Ok(Header {
+        index,
+        min,
+        total,
+        block,
+        length,
+        keys,
+    })
+}
+
 impl Read for Header {
     type Cfg = ();
 
@@ -87,26 +277,15 @@ impl Read for Header {
 
     ghost grows = { λ _ _. ⊥ };
 
-    /// Reads the mark, the version, and the five numbers, and refuses with the first fault of
-    /// these.
+    /// Reads the mark, the version, the five numbers, the keys and the fingerprints, and refuses
+    /// with the first fault of these.
     #[tactic(auto, unfolding(crate::specs::Headers::scan_header))]
     fn read_cfg(alloc: Global, input: &mut &[u8], _cfg: &()) -> Result<Header, Error> {
         let mut rest = *input;
-        read_fixed(alloc, &mut rest, MARK, "mark")?;
-        read_fixed(alloc, &mut rest, VERSION, "version")?;
-        let index = read_number(alloc, &mut rest)?;
-        let min = read_number(alloc, &mut rest)?;
-        let total = read_number(alloc, &mut rest)?;
-        let block = read_number(alloc, &mut rest)?;
-        let length = u64::read_cfg(alloc, &mut rest, &())?;
+        let header = read_words(alloc, &mut rest)?;
+        read_fingerprints(alloc, &mut rest, &header.keys, &words_of(&header))?;
         *input = rest;
-        Ok(Header {
-            index,
-            min,
-            total,
-            block,
-            length,
-        })
+        Ok(header)
     }
 
     ghost again = { λ _. header_again };
@@ -114,9 +293,10 @@ impl Read for Header {
     ghost apart = { λ _. header_apart };
 }
 
-/// Writes what all headers of a split share. What is written stays where memory runs out.
+/// Writes the numbers of a split. What is written stays where memory runs out.
 fn write_split(alloc: Global, header: &Header, out: &mut Vec<u8>) -> Mem<()>
-    ensures ok { OnOk result (out.new.items ≡ out.old.items ++ split_spelling header.now) }
+    ensures ok { OnOk result (out.new.items ≡ out.old.items
+        ++ split_spelling header.now.min header.now.total header.now.block header.now.length) }
     ensures kept { take (length out.old.items) out.new.items ≡ out.old.items }
 {
     (header.min as u64).write(alloc, out)?;
@@ -126,22 +306,46 @@ fn write_split(alloc: Global, header: &Header, out: &mut Vec<u8>) -> Mem<()>
     Ok(())
 }
 
+/// Writes two elements. What is written stays where memory runs out.
+fn write_pair(alloc: Global, first: F, second: F, out: &mut Vec<u8>) -> Mem<()>
+    ensures ok { OnOk result (out.new.items ≡ out.old.items
+        ++ (to_be_bytes w64 (number first) ++ to_be_bytes w64 (number second))) }
+    ensures kept { take (length out.old.items) out.new.items ≡ out.old.items }
+{
+    first.write(alloc, out)?;
+    second.write(alloc, out)?;
+    Ok(())
+}
+
+/// Writes the mark, the version and the index. What is written stays where memory runs out.
+fn write_beginning(alloc: Global, index: u32, out: &mut Vec<u8>) -> Mem<()>
+    ensures ok { OnOk result (out.new.items ≡ out.old.items ++ beginning_spelling index) }
+    ensures kept { take (length out.old.items) out.new.items ≡ out.old.items }
+{
+    MARK.write(alloc, out)?;
+    VERSION.write(alloc, out)?;
+    (index as u64).write(alloc, out)?;
+    Ok(())
+}
+
 /// Writes a header. What is written stays where memory runs out.
 fn write_words(alloc: Global, header: &Header, out: &mut Vec<u8>) -> Mem<()>
     ensures ok { OnOk result (out.new.items ≡ out.old.items ++ header_spelling header.now) }
     ensures kept { take (length out.old.items) out.new.items ≡ out.old.items }
 {
-    MARK.write(alloc, out)?;
-    VERSION.write(alloc, out)?;
-    (header.index as u64).write(alloc, out)?;
+    let keys = header.keys;
+    let fingerprints = words_fingerprints(&keys, &words_of(header));
+    write_beginning(alloc, header.index, out)?;
     write_split(alloc, header, out)?;
+    write_pair(alloc, keys.first, keys.second, out)?;
+    write_pair(alloc, fingerprints.first, fingerprints.second, out)?;
     Ok(())
 }
 
 impl Write for Header {
     ghost fits = { λ _. Unit {0} };
 
-    /// Writes the seven words.
+    /// Writes the eleven words.
     fn write(&self, alloc: Global, out: &mut Vec<u8>) -> Mem<()> {
         let start = out.len();
         let written = write_words(alloc, self, out);
@@ -150,6 +354,8 @@ impl Write for Header {
 }
 
 /// The bytes of the header.
+///
+/// `header_in` reads them where the length is below P and neither key is zero.
 pub fn header_bytes(alloc: Global, header: &Header) -> Mem<Vec<u8>>
     ensures { IfOk result (λ bytes. bytes.items ≡ header_spelling header.now) }
 {
@@ -158,9 +364,11 @@ pub fn header_bytes(alloc: Global, header: &Header) -> Mem<Vec<u8>>
     Ok(bytes)
 }
 
-/// The header that the bytes are the encoding of. It refuses where they are that of none.
+/// The header that the bytes are the encoding of. It refuses where they are that of none, or the
+/// length is P or more, or a key is zero.
 pub fn header_in(alloc: Global, bytes: &[u8]) -> Result<Header, Error>
     ensures taken { IfOk result (λ h. bytes.now ≡ header_spelling h) }
+    ensures admitted { IfOk result AdmitsHeader }
     ensures again { (h : Header) → AdmitsHeader h → bytes.now ≡ header_spelling h
         → MatchResult result (λ g. g ≡ h) IsMemory }
 {
@@ -181,7 +389,7 @@ pub enum Verdict {
 }
 
 impl Header {
-    /// The greatest number of bytes that a block may have: 16 MiB, and so many that `total` / `min`
+    /// The greatest number of bytes that a block may have: 1 MiB, and so many that `total` / `min`
     /// blocks have 32 MiB at most. The shards of a block take as much, and some bytes for their
     /// numbers.
     pub fn largest_block(min: u32, total: u32) -> u32
@@ -189,7 +397,7 @@ impl Header {
         ensures { result ≡ largest_block min total }
     {
         let bytes = (1 << 25) * u64::from(min) / u64::from(total);
-        bytes.min(1 << 24) as u32
+        bytes.min(1 << 20) as u32
     }
 
     /// Whether a split can have these numbers.
@@ -204,14 +412,17 @@ impl Header {
             && self.block <= Header::largest_block(self.min, self.total)
     }
 
-    /// Whether both are headers of shards of one file, split in one way.
+    /// Whether both are headers of shards of one file, split in one way with one pair of keys.
     pub fn is_of_split(&self, other: &Header) -> bool
-        ensures { IsTrue result ↔ AreOfOneSplit self.now other.now }
+        ensures exact { IsTrue result ↔ AreOfOneSplit self.now other.now }
+        ensures test { result ≡ is_of_split self.now other.now }
     {
         self.min == other.min
             && self.total == other.total
             && self.block == other.block
             && self.length == other.length
+            && self.keys.first == other.keys.first
+            && self.keys.second == other.keys.second
     }
 
     /// Whether it is the header of the shard with this number of the split of which the other

@@ -1,7 +1,9 @@
-//! What the format of shard files is by itself: the header, and which split the headers that are
-//! there belong to. No file is touched here; the program `shardfile` keeps files, words and
-//! messages.
+//! What the format of shard files is by itself: the header, which split the headers that are there
+//! belong to, and the places, sizes and fingerprints of records. No file is touched here; the
+//! program `shardfile` keeps files and messages.
 #![tactic(auto)]
 
 pub mod header;
+pub mod laws;
+pub mod records;
 pub mod splits;

@@ -7,7 +7,7 @@ use thiserror::Error;
 /// Why the work was not done. Texts name the file or the block that is meant.
 #[derive(Debug, Drop, Error)]
 pub enum Fault {
-    #[error("usage: shardfile split [--force] [--to FOLDER] MIN TOTAL FILE | join [--force] FILE OUT | check FILE | --help | --version")]
+    #[error("usage: shardfile split [--force] [--to FOLDER] MIN TOTAL FILE | join [--force] [--all] FILE OUT | join [--force] [--all] --shards OUT SHARD .. | check [--all] FILE | check [--all] --shards SHARD .. | --help | --version")]
     Usage,
     #[error("refused: a word is no UTF-8 text: give the file such a name, or a link to it (ln -s), and call it by this")]
     Words,
@@ -31,8 +31,8 @@ pub enum Fault {
     Beyond(String),
     #[error("refused: {0}: no shard is there")]
     NoShard(String),
-    #[error("refused: {0}: the shards are of several splits, and no split has the most")]
-    Tie(String),
+    #[error("refused: {0}: equally many shards of two splits are there: {1} is of the one, and {2} of the other")]
+    Tie(String, String, String),
     #[error("refused: {0}: no shard file has the length that its header says")]
     Length(String),
     #[error("refused: {0}: {1} shards are there, and {2} are needed")]
@@ -43,6 +43,8 @@ pub enum Fault {
     Unsound(String),
     #[error("refused: a shard with too many cells")]
     Cells,
+    #[error("refused: the system gives no random words that can be keys")]
+    Random,
 }
 
 impl Fault {

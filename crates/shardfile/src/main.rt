@@ -1,19 +1,24 @@
 //! A file in shards, any MIN of which give it back.
 //!
 //! `shardfile split MIN TOTAL FILE` writes `FILE.0` and on beside it, TOTAL in all; `shardfile join
-//! FILE OUT` restores the file from those that are there; `shardfile check FILE` says which are there
-//! and whether they fit.
+//! FILE OUT` restores the file from those that are there, however others are damaged; `shardfile
+//! check FILE` says which are there and whether they fit.
 #![tactic(auto)]
 
+mod blocks;
+mod checking;
 mod fault;
 mod joining;
+mod listing;
 mod names;
 mod output;
 mod progress;
 mod sources;
 mod splitting;
 
+use checking::Checked;
 use fault::Fault;
+use names::Wanted;
 use shard_format::header::MOST_SHARDS;
 use std::env;
 use std::io::ErrorKind;
@@ -28,22 +33,25 @@ shardfile: a file in TOTAL shard files, any MIN of which give it back
 
   shardfile split [--force] [--to FOLDER] MIN TOTAL FILE
       writes FILE.0, FILE.1 and on, TOTAL in all, beside FILE or into FOLDER
-  shardfile join [--force] FILE OUT
+  shardfile join [--force] [--all] FILE OUT
       restores the file as OUT from the shard files FILE.0 and on that are there
-  shardfile check FILE
+  shardfile check [--all] FILE
       says which shard files are there, whether they fit, and what join would do
+  shardfile join [--force] [--all] --shards OUT SHARD ..
+  shardfile check [--all] --shards SHARD ..
+      the same, of shard files with any names, in any folders
 
   --force   replaces files that are there
+  --all     compares all shards of a block with each other, also where MIN fit
   --        a name that begins so is written ./--name
 
 For example, any 6 of the 16 files photos.tar.0 to photos.tar.15 may be lost:
 
   shardfile split 10 16 photos.tar
-  shardfile check photos.tar
   shardfile join photos.tar restored.tar
 
 Status: 0 done (check: all shards are there and fit), 1 refused, 2 wrong words.
-With just MIN shards damage is not found. Nothing is hidden, and nothing is signed.
+Nothing is hidden, and nothing is signed: who can write shards can forge them.
 A run that was stopped leaves files shardfile-*.partial, which can be removed.
 ";
 
@@ -53,6 +61,8 @@ struct Options<'a> {
     /// The words that are no option.
     words: Vec<&'a str>,
     force: bool,
+    all: bool,
+    shards: bool,
     to: Option<&'a str>,
     help: bool,
 }
@@ -63,6 +73,8 @@ fn read_options<'a>(rt: &HostRuntime, words: &'a [String]) -> Result<Options<'a>
     let mut options = Options {
         words: Vec::new(rt.alloc()),
         force: false,
+        all: false,
+        shards: false,
         to: None,
         help: false,
     };
@@ -75,6 +87,8 @@ fn read_options<'a>(rt: &HostRuntime, words: &'a [String]) -> Result<Options<'a>
                 is_folder = false;
             }
             "--force" => options.force = true,
+            "--all" => options.all = true,
+            "--shards" => options.shards = true,
             "--help" => options.help = true,
             "--to" => is_folder = true,
             "" => return Err(Fault::Usage),
@@ -98,6 +112,9 @@ fn split(rt: &HostRuntime, options: &Options) -> Result<(), Fault> {
     let [min, total, file] = options.words.as_slice() else {
         return Err(Fault::Usage);
     };
+    if options.all || options.shards {
+        return Err(Fault::Usage);
+    }
     let min = number(min)?;
     let total = number(total)?;
     if min == 0 || total < min || total > MOST_SHARDS {
@@ -106,32 +123,45 @@ fn split(rt: &HostRuntime, options: &Options) -> Result<(), Fault> {
     splitting::split(rt, min, total, file, options.to, options.force)
 }
 
-/// `FILE OUT`: the file that the shard files give.
+/// The shard files that the words mean: those beside the one file, or with these names.
+fn wanted_of<'a>(words: &'a [&'a str], is_named: bool) -> Result<Wanted<'a>, Fault> {
+    match words {
+        [] => Err(Fault::Usage),
+        names if is_named => Ok(Wanted::Named(names)),
+        [file] => Ok(Wanted::Beside(file)),
+        _ => Err(Fault::Usage),
+    }
+}
+
+/// `FILE OUT`, or `OUT SHARD ..`: the file that the shard files give.
 fn join(rt: &HostRuntime, options: &Options) -> Result<(), Fault> {
-    let [file, out] = options.words.as_slice() else {
-        return Err(Fault::Usage);
-    };
     if options.to.is_some() {
         return Err(Fault::Usage);
     }
-    joining::join(rt, file, out, options.force)
+    let words = options.words.as_slice();
+    let split_off = if options.shards {
+        words.split_first()
+    } else {
+        words.split_last()
+    };
+    let (out, rest) = split_off.ok_or(Fault::Usage)?;
+    let wanted = wanted_of(rest, options.shards)?;
+    joining::join(rt, &wanted, out, options.force, options.all)
 }
 
-/// `FILE`: what is to be said of the shard files. It refuses, once that is said, where not all are
-/// there and fit.
+/// `FILE`, or `SHARD ..`: what is to be said of the shard files. It refuses, once that is said,
+/// where not all are there and fit.
 fn check(rt: &HostRuntime, options: &Options) -> Result<(), Fault> {
-    let [file] = options.words.as_slice() else {
-        return Err(Fault::Usage);
-    };
     if options.force || options.to.is_some() {
         return Err(Fault::Usage);
     }
-    let (text, is_whole) = joining::check(rt, file)?;
+    let wanted = wanted_of(options.words.as_slice(), options.shards)?;
+    let Checked { text, fault } = checking::check(rt, &wanted, options.all)?;
     print(rt, text.as_str())?;
-    if !is_whole {
-        return Err(Fault::Unsound(output::owned(rt, file)?));
+    match fault {
+        Some(fault) => Err(fault),
+        None => Ok(()),
     }
-    Ok(())
 }
 
 /// Writes the text to standard output.

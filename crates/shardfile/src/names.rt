@@ -6,6 +6,33 @@ use shard_format::header::MOST_SHARDS;
 use std::fs::read_dir;
 use std::io::ErrorKind;
 
+/// Which shard files are meant.
+#[derive(Clone, Copy)]
+pub enum Wanted<'a> {
+    /// Those that lie beside the file, under the names of its shards.
+    Beside(&'a str),
+    /// Those with these names, of whichever shards they are.
+    Named(&'a [&'a str]),
+}
+
+impl<'a> Wanted<'a> {
+    /// What refusals call them.
+    pub fn label(&self) -> &'a str {
+        match self {
+            Wanted::Beside(file) => file,
+            Wanted::Named(_) => "these shard files",
+        }
+    }
+
+    /// What a shard is called that is not there.
+    pub fn missing(&self, rt: &HostRuntime, number: u32) -> Result<String, Fault> {
+        match self {
+            Wanted::Beside(file) => shard_name(rt, file, number),
+            Wanted::Named(_) => Ok(format!(in rt.alloc(); "shard {number}")?),
+        }
+    }
+}
+
 /// The name of the shard with this number: the file's, a point, and the number.
 pub fn shard_name(rt: &HostRuntime, file: &str, number: u32) -> Result<String, Fault> {
     Ok(format!(in rt.alloc(); "{file}.{number}")?)

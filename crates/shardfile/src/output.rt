@@ -6,6 +6,8 @@ use crate::fault::Fault;
 use crate::names::folder_and_name;
 use math_codec::codec::Write;
 use shard_blocks::Shard;
+use shard_fingerprints::{Keys, cells_fingerprints};
+use shard_format::header::Header;
 use std::alloc::Global;
 use std::fs;
 use std::fs::{File, Metadata, OpenOptions, Permissions};
@@ -315,16 +317,25 @@ pub struct ShardFiles {
     partials: Vec<Partial>,
     /// The number of bytes of the file whose shards are still to be written.
     pub left: u64,
+    /// The keys of the split.
+    keys: Keys,
+    /// The number of the next block.
+    block: u64,
+    /// Room for one record.
+    record: Vec<u8>,
 }
 
 impl ShardFiles {
-    /// No file yet, for a file of so many bytes.
-    pub fn new(alloc: Global, length: u64) -> ShardFiles
-        ensures { result.left ≡ length }
+    /// No file yet, for a file that is split so.
+    pub fn new(alloc: Global, split: &Header) -> ShardFiles
+        ensures { result.left ≡ split.now.length }
     {
         ShardFiles {
             partials: Vec::new(alloc),
-            left: length,
+            left: split.length,
+            keys: split.keys,
+            block: 0,
+            record: Vec::new(alloc),
         }
     }
 
@@ -354,7 +365,15 @@ impl ShardFiles {
         requires { bytes ≤ self.old.left }
         ensures { OnOk result (self.new.left + bytes ≡ self.old.left) }
     {
-        append_all(rt, &mut self.partials, shards)?;
+        let ShardFiles {
+            partials,
+            keys,
+            block,
+            record,
+            ..
+        } = self;
+        append_all(rt, partials, shards, keys, *block, record)?;
+        self.block = self.block.saturating_add(1);
         self.left -= bytes;
         Ok(())
     }
@@ -378,23 +397,39 @@ impl ShardFiles {
     }
 }
 
-/// Writes a shard at the end of each file.
-fn append_all(rt: &HostRuntime, partials: &mut [Partial], shards: &[Shard]) -> Result<(), Fault> {
-    let mut encoded = Vec::new(rt.alloc());
+/// Writes a record at the end of each file: the shard of the block with this number, and its
+/// fingerprints.
+fn append_all(
+    rt: &HostRuntime,
+    partials: &mut [Partial],
+    shards: &[Shard],
+    keys: &Keys,
+    block: u64,
+    record: &mut Vec<u8>,
+) -> Result<(), Fault> {
     for (partial, shard) in partials.iter_mut().zip(shards) {
-        encoded.clear();
-        encode(rt.alloc(), shard, &mut encoded)?;
-        partial.append(rt, &encoded)?;
+        record.clear();
+        add_record(rt.alloc(), shard, keys, block, record)?;
+        partial.append(rt, record)?;
     }
     Ok(())
 }
 
-/// Adds the encoding of the shard.
-fn encode(alloc: Global, shard: &Shard, out: &mut Vec<u8>) -> Result<(), Fault> {
+/// Adds the encoding of the shard and its two fingerprints.
+fn add_record(
+    alloc: Global,
+    shard: &Shard,
+    keys: &Keys,
+    block: u64,
+    out: &mut Vec<u8>,
+) -> Result<(), Fault> {
     if shard.cells.len() > u32::MAX as usize {
         return Err(Fault::Cells);
     }
     shard.write(alloc, out)?;
+    let fingerprints = cells_fingerprints(keys, block, shard.index, &shard.cells);
+    fingerprints.first.write(alloc, out)?;
+    fingerprints.second.write(alloc, out)?;
     Ok(())
 }
 

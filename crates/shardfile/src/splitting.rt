@@ -1,16 +1,27 @@
 //! A file to shard files.
 
-ghost use Rattle.std.specs.Prelude.{◌≡◌, ◌≤◌, ◌^◌, OnOk};
+ghost use Rattle.std.specs.Prelude.{◌≡◌, ◌≢◌, ◌≤◌, ◌^◌, IfOk, OnOk};
+ghost use Rattle.math_base.specs.Elements.{number};
 
 use crate::fault::Fault;
 use crate::names::{folder_and_name, numbers_there, shard_name};
 use crate::output::{Identity, Manner, ShardFiles, check_no_input, owned, rights_of};
 use crate::progress::Progress;
+use math_base::fields::goldilocks::{F, MODULUS};
 use shard_blocks::split_block;
+use shard_fingerprints::Keys;
 use shard_format::header::{Header, header_bytes};
 use std::fs;
 use std::fs::{File, Metadata, TryLockError};
 use std::io::{ErrorKind, Read};
+use std::random::RandomSource;
+
+/// How many bytes a block has at least, where it may have so many: then all that is done with it
+/// stays in the processor's cache.
+const SMALL_BLOCK: u64 = 1 << 18;
+
+/// How many bytes of a block each shard has at least, where it may have so many.
+const PIECE: u64 = 1 << 13;
 
 /// Writes the shard files of a file, any `min` of which give it back: beside it, or into the folder
 /// that is given.
@@ -33,16 +44,16 @@ pub fn split(
     let (mut source, metadata) = open_source(rt, file)?;
     let target = target_of(rt, file, to)?;
     check_beyond(rt, target.as_str(), total)?;
-    let block = (Header::largest_block(min, total) / 4).max(1);
     let header = Header {
         index: 0,
         min,
         total,
-        block,
+        block: block_for(min, total),
         length: metadata.len(),
+        keys: random_keys(rt)?,
     };
     let how = Manner::new(rt, force, rights_of(&metadata))?;
-    let mut files = ShardFiles::new(rt.alloc(), header.length);
+    let mut files = ShardFiles::new(rt.alloc(), &header);
     let input = Identity::new(&metadata);
     if let Err(fault) = begin(rt, target.as_str(), input, &header, &how, &mut files) {
         files.discard(rt);
@@ -55,6 +66,42 @@ pub fn split(
             Err(fault)
         }
     }
+}
+
+/// How many bytes each block but the last has.
+fn block_for(min: u32, total: u32) -> u32
+    requires { 1 ≤ total }
+    ensures { 1 ≤ result }
+{
+    let wanted = (PIECE * u64::from(min)).max(SMALL_BLOCK);
+    let most = Header::largest_block(min, total);
+    wanted.min(u64::from(most)).max(1) as u32
+}
+
+/// Two keys, of which neither is zero, drawn by the system, each uniformly and by itself.
+fn random_keys(rt: &HostRuntime) -> Result<Keys, Fault>
+    ensures first { IfOk result (λ keys. number keys.first ≢ 0) }
+    ensures second { IfOk result (λ keys. number keys.second ≢ 0) }
+{
+    Ok(Keys {
+        first: random_key(rt)?,
+        second: random_key(rt)?,
+    })
+}
+
+/// The first of some random words of the system that is an element other than zero.
+fn random_key(rt: &HostRuntime) -> Result<F, Fault>
+    ensures { IfOk result (λ key. number key ≢ 0) }
+{
+    for _tried in 0..64u32 {
+        let mut bytes = [0u8; 8];
+        rt.fill_bytes(&mut bytes)?;
+        let word = u64::from_le_bytes(bytes);
+        if word != 0 && word < MODULUS {
+            return Ok(F::from(word));
+        }
+    }
+    Err(Fault::Random)
 }
 
 /// The name that the shard files have before their numbers: that of the file, in its folder or in
@@ -111,9 +158,11 @@ fn fill(
     ensures { OnOk result (files.new.left ≡ 0) }
 {
     let mut progress = Progress::new(rt, split.length);
+    let mut bytes = Vec::new(rt.alloc());
     while files.left > 0 {
         let size = files.left.min(u64::from(split.block));
-        let bytes = bytes_of(rt, source, file, size as usize)?;
+        bytes.resize(size as usize, 0)?;
+        read_next(rt, source, file, &mut bytes)?;
         let shards = split_block(rt.alloc(), &bytes, split.min, split.total)?;
         files.write(rt, &shards, size)?;
         progress.print_percentage(rt, files.left);
@@ -142,16 +191,15 @@ fn begin(
     Ok(())
 }
 
-/// The next so many bytes of the file.
-fn bytes_of(
+/// Fills the buffer with the next bytes of the file.
+fn read_next(
     rt: &HostRuntime,
     source: &mut File,
     file: &str,
-    size: usize,
-) -> Result<Vec<u8>, Fault> {
-    let mut bytes = vec![in rt.alloc(); 0u8; size]?;
-    match source.read_exact(&mut bytes) {
-        Ok(()) => Ok(bytes),
+    buffer: &mut [u8],
+) -> Result<(), Fault> {
+    match source.read_exact(buffer) {
+        Ok(()) => Ok(()),
         Err(error) if error.kind() == ErrorKind::UnexpectedEof => Err(Fault::Changed(owned(
             rt, file,
         )?)),

@@ -12,3 +12,13 @@ invariant-loop-i l = record {
 
 abbrev pub decreases-loop-i : goal.decreases-loop-i
 decreases-loop-i l = l.i
+
+-- the same
+abbrev pub invariant-loop-i-2 : goal.invariant-loop-i-2
+invariant-loop-i-2 l = record {
+  value : number l.value ≡ number (fingerprint (drop l.i l.words) l.key);
+  within : l.i ≤ length l.words;
+}
+
+abbrev pub decreases-loop-i-2 : goal.decreases-loop-i-2
+decreases-loop-i-2 l = l.i

@@ -1,0 +1,34 @@
+-- How many pairs of keys do not tell two lists of words apart.
+use Rattle.std.specs.Prelude.{◌≡◌, ◌≢◌, ◌<◌, ◌≤◌, ◌-◌, ◌*◌, ◌^◌, ℕ, Bool, ◌==◌, ◌&&◌, List, length, map, flat_map, count_by}
+use Rattle.math_numbers.specs.Goldilocks.{P}
+use Rattle.math_theory.specs.Interpolation.{AreApart}
+use Rattle.math_base.specs.declared.fields.goldilocks.F.{F}
+use Rattle.math_base.specs.Elements.{number, same}
+use Rattle.shard_fingerprints.specs.Fingerprints.{cell_words, fingerprint}
+
+-- both lists of words have one fingerprint under the key
+abbrev pub agree : List F → List F → F → Bool
+agree p q key = number (fingerprint p key) == number (fingerprint q key)
+
+-- each of the first keys with each of the second keys
+abbrev pub pairs_of : List F → List F → List (F × F)
+pairs_of firsts seconds = flat_map (λ a. map (λ b. (a, b)) seconds) firsts
+
+-- under how many of these pairs of keys both lists of words have the same two fingerprints
+abbrev pub agreeing_pairs : List F → List F → List F → List F → ℕ
+agreeing_pairs p q firsts seconds = count_by (λ keys. agree p q keys.0 && agree p q keys.1) (pairs_of firsts seconds)
+
+-- two different lists of n words have the same two fingerprints under at most (n - 1)^2 pairs of distinct first and distinct second keys
+abbrev pub FewPairsAgree : Type 0
+FewPairsAgree = (p q firsts seconds : List F) → length p ≡ length q → p ≢ q → AreApart same firsts → AreApart same seconds
+    → agreeing_pairs p q firsts seconds ≤ (length p - 1) * (length p - 1)
+
+-- where P - 1 distinct first and P - 1 distinct second keys are there, as many as are not zero, two different lists of n words, at most 2^18, have the same two fingerprints under at most one of 2^90 of all pairs
+abbrev pub DamageIsMissedRarely : Type 0
+DamageIsMissedRarely = (p q firsts seconds : List F) → length p ≡ length q → length p ≤ 2 ^ 18 → p ≢ q → AreApart same firsts → AreApart same seconds
+    → length firsts ≡ P - 1 → length seconds ≡ P - 1 → 2 ^ 90 * agreeing_pairs p q firsts seconds ≤ length (pairs_of firsts seconds)
+
+-- where block numbers and indices are below P, shards with one list of words have the same block, index and cells
+abbrev pub ShardsHaveTheirWords : Type 0
+ShardsHaveTheirWords = (block other index place : ℕ) (cells others : List F) → block < P → other < P → index < P → place < P
+    → cell_words block index cells ≡ cell_words other place others → (block ≡ other) × (index ≡ place) × (cells ≡ others)

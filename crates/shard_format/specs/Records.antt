@@ -1,0 +1,73 @@
+-- The blocks of a file, and the records of a shard file: sizes and places.
+use Rattle.std.specs.Prelude.{◌≡◌, ℕ, zero, suc, ◌+◌, ◌-◌, ◌*◌, ◌/◌, ◌<◌, ◌≤◌, ◌^◌, List, length, min}
+use Rattle.math_codec.specs.Lengths.{length_spelling}
+use Rattle.math_base.specs.declared.fields.goldilocks.F.{F}
+use Rattle.shard_fingerprints.specs.declared.pairs.Fingerprints.{Fingerprints}
+use Rattle.shard_fingerprints.specs.Fingerprints.{cell_words, fingerprint}
+use Rattle.math_base.specs.Elements.{same}
+use Rattle.shard_format.specs.Headers.{header_spelling}
+use Rattle.shard_format.specs.declared.header.Header.{Header}
+
+-- how many blocks the file has: its length by the block size, rounded up
+abbrev pub block_count : Header → ℕ
+block_count h = (h.length + h.block - 1) / h.block
+
+-- how many bytes the block with this number has: the block size, and at most what is left of the file after the blocks before
+abbrev pub block_size : Header → ℕ → ℕ
+block_size h number = min h.block (h.length - number * h.block)
+
+-- how many bytes the record of a block has, whose shard has so many cells: those of the shard, which are the index, `min`, `total` and the number of cells, each as a length, and eight a cell; and two words
+abbrev pub record_size : Header → ℕ → ℕ
+record_size h cells =
+    length (length_spelling h.index) + length (length_spelling h.min) + length (length_spelling h.total) + length (length_spelling cells) + 8 * cells + 16
+
+-- where the record of the block with this number begins, where the shard of a whole block has so many cells: after the header and as many records of whole blocks
+abbrev pub record_place : Header → ℕ → ℕ → ℕ
+record_place h cells number = 88 + number * record_size h cells
+
+-- where the records of so many blocks end, where the shard of each but the last has so many cells, and that of the last so many as are given last
+abbrev pub records_end : Header → ℕ → ℕ → ℕ → ℕ
+records_end h cells last zero = 88
+records_end h cells last (suc number) = record_place h cells number + record_size h last
+
+-- how many bytes the shard file has: the records of all blocks end where it does
+abbrev pub file_size : Header → ℕ → ℕ → ℕ
+file_size h cells last = records_end h cells last (block_count h)
+
+-- the greatest number that a word can say, for each that is greater
+abbrev pub capped : ℕ → ℕ
+capped n = min n (2 ^ 64 - 1)
+
+-- the index, `min` and `total` of a shard are those of the header, and it has as many cells as are wanted
+pub record IsShardOf (h : Header) (i m n size wanted : ℕ) : Type 0 where
+  pub index : i ≡ h.index
+  pub least : m ≡ h.min
+  pub most : n ≡ h.total
+  pub cells : size ≡ wanted
+
+-- the fingerprints are those of the cells of the shard of this block, under the keys of the header
+pub record HaveFingerprints (h : Header) (block : ℕ) (cells : List F) (stored : Fingerprints) : Type 0 where
+  pub first : same stored.first (fingerprint (cell_words block h.index cells) h.keys.first)
+  pub second : same stored.second (fingerprint (cell_words block h.index cells) h.keys.second)
+
+-- the first record begins behind the header, and each further one where the one before it ends
+pub record RecordsFollow (h : Header) (cells : ℕ) : Type 0 where
+  pub first : record_place h cells 0 ≡ length (header_spelling h)
+  pub next : (number : ℕ) → record_place h cells (number + 1) ≡ record_place h cells number + record_size h cells
+
+-- each block but the last has the block size, the last has what is left, which is at least one byte, and there is none beyond
+pub record BlocksMakeFile (h : Header) : Type 0 where
+  pub whole : (number : ℕ) → number + 1 < block_count h → block_size h number ≡ h.block
+  pub last : (number : ℕ) → number + 1 ≡ block_count h → number * h.block + block_size h number ≡ h.length
+  pub some : (number : ℕ) → number < block_count h → 1 ≤ block_size h number
+  pub none : (number : ℕ) → block_count h ≤ number → block_size h number ≡ 0
+
+-- the shard file ends where the record of the last block does, or with the header where there is none; and each record ends there or before, so that its place and size fit a word where the size of the file does
+pub record RecordsEndWithFile (h : Header) (cells last : ℕ) : Type 0 where
+  pub end : (number : ℕ) → number + 1 ≡ block_count h → file_size h cells last ≡ record_place h cells number + record_size h last
+  pub empty : block_count h ≡ 0 → file_size h cells last ≡ length (header_spelling h)
+  pub within : (number : ℕ) → number + 1 < block_count h → record_place h cells number + record_size h cells ≤ file_size h cells last
+
+-- where no record has more than twice the bytes of a block, and the file has fewer than 2^62, the size of the shard file fits a word
+abbrev pub FileFits : Header → ℕ → ℕ → Type 0
+FileFits h cells last = h.block ≤ 2 ^ 20 → h.length < 2 ^ 62 → record_size h cells ≤ 2 * h.block → record_size h last ≤ 2 * h.block → file_size h cells last < 2 ^ 64

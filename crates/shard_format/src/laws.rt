@@ -1,0 +1,19 @@
+//! Laws of blocks and records, each the contract of a function that does nothing.
+
+ghost use Rattle.std.specs.Prelude.{◌≤◌, ℕ};
+ghost use Rattle.shard_format.specs.Records.{BlocksMakeFile, FileFits, RecordsEndWithFile, RecordsFollow};
+ghost use Rattle.shard_format.specs.declared.header.Header.{Header};
+
+/// The blocks of a file have all of its bytes, each block but the last as many as the header says.
+pub fn blocks_make_the_file()
+    ensures { (h : Header) → 1 ≤ h.block → BlocksMakeFile h }
+{}
+
+/// Records lie one behind the other, the first behind the header, and the shard file ends with that
+/// of the last block. Its size fits a word where that of no record is more than twice the block
+/// size and the file has fewer than 2^62 bytes.
+pub fn records_make_the_shard_file()
+    ensures follow { (h : Header) (cells : ℕ) → RecordsFollow h cells }
+    ensures within { (h : Header) (cells last : ℕ) → RecordsEndWithFile h cells last }
+    ensures fits { (h : Header) (cells last : ℕ) → 1 ≤ h.block → FileFits h cells last }
+{}

@@ -1,0 +1,272 @@
+//! Blocks of the file, from shards that fit their fingerprints.
+
+ghost use Rattle.std.specs.Prelude.{◌≡◌, ◌≤◌, All, length, IfOk, OnOk, IfSome};
+ghost use Rattle.shardfile.specs.Shards.{IsOfSplit};
+
+use crate::fault::Fault;
+use crate::sources::{ShardFile, Source, is_read};
+use math_base::fields::goldilocks::F;
+use math_codec::codec::{self, decode};
+use shard_blocks::{Error, JoinedBlock, Shard, cells_for, join_block, join_block_corrected};
+use shard_fingerprints::Fingerprints;
+use shard_format::header::Header;
+use shard_format::records::{FINGERPRINTS_SIZE, fits, is_shard_of, record_place, record_size};
+use std::alloc::{AllocError, Global};
+
+/// A block of the file.
+#[derive(Clone, Copy)]
+pub struct Block {
+    /// Its number, from 0 on.
+    pub number: u64,
+    /// How many bytes it has.
+    pub bytes: u32,
+}
+
+/// How far the shards of a block are looked at, where enough of them fit their fingerprints.
+#[derive(Clone, Copy)]
+pub struct Reach {
+    /// Whether all are read.
+    pub reads_all: bool,
+    /// Whether all that fit their fingerprints are compared with each other.
+    pub compares_all: bool,
+}
+
+/// The shards of a block that were found so far.
+#[derive(Drop)]
+struct FoundShards {
+    /// By rising index, each index once.
+    shards: Vec<Shard>,
+    /// At which of the files each of them is.
+    places: Vec<usize>,
+    /// How many of the files were looked at.
+    looked_at: usize,
+}
+
+/// The two fingerprints that the bytes are, where they are two elements.
+fn fingerprints_in(alloc: Global, bytes: &[u8]) -> Option<Fingerprints> {
+    let (first, second) = bytes.split_at_checked(8)?;
+    let first = decode::<F>(alloc, first, &()).ok()?;
+    let second = decode::<F>(alloc, second, &()).ok()?;
+    Some(Fingerprints { first, second })
+}
+
+/// The shard of a block that the bytes of a record are, or what is wrong with them.
+fn shard_of_record(
+    alloc: Global,
+    header: &Header,
+    number: u64,
+    cells: u32,
+    record: &[u8],
+) -> Result<Result<Shard, &'static str>, Fault>
+    ensures { IfOk result (λ answer. IfOk answer (IsOfSplit header.now)) }
+{
+    let Some((encoded, last)) = record.split_at_checked(
+        record.len().saturating_sub(FINGERPRINTS_SIZE),
+    ) else {
+        return Ok(Err("no shard stands there"));
+    };
+    let shard = match decode::<Shard>(alloc, encoded, &cells) {
+        Ok(shard) => shard,
+        Err(codec::Error::Memory(error)) => return Err(Fault::Memory(error)),
+        Err(_) => return Ok(Err("no shard stands there")),
+    };
+    let (index, min, total) = (shard.index, shard.min, shard.total);
+    if !is_shard_of(header, index, min, total, shard.cells.len(), cells as usize) {
+        return Ok(Err("its numbers are not those of the header"));
+    }
+    let Some(stored) = fingerprints_in(alloc, last) else {
+        return Ok(Err("it does not fit its fingerprint"));
+    };
+    if !fits(header, number, &shard.cells, &stored) {
+        return Ok(Err("it does not fit its fingerprint"));
+    }
+    Ok(Ok(shard))
+}
+
+/// The shard of a block, as the file has it, or what is wrong.
+fn shard_in(
+    rt: &HostRuntime,
+    name: &str,
+    source: &Source,
+    split: &Header,
+    block: Block,
+    buffer: &mut Vec<u8>,
+) -> Result<Result<Shard, &'static str>, Fault>
+    requires { 1 ≤ split.now.min }
+    ensures { IfOk result (λ answer. IfOk answer (IsOfSplit split.now)) }
+{
+    let header = &Header {
+        index: source.header.index,
+        ..*split
+    };
+    let whole = cells_for(header.block as usize, header.min);
+    let cells = cells_for(block.bytes as usize, header.min);
+    let at = record_place(header, whole, block.number);
+    let (Ok(count), Ok(size)) = (
+        u32::try_from(cells),
+        usize::try_from(record_size(header, cells)),
+    ) else {
+        return Err(Fault::Memory(AllocError));
+    };
+    buffer.resize(size, 0)?;
+    if !is_read(rt, name, source, at, buffer)? {
+        return Ok(Err("it ends before, or cannot be read"));
+    }
+    shard_of_record(rt.alloc(), header, block.number, count, buffer)
+}
+
+/// The shard of a block that the file has, where it is a file of the split and has one. What is
+/// wrong with it is noted.
+fn shard_from(
+    rt: &HostRuntime,
+    file: &mut ShardFile,
+    split: &Header,
+    block: Block,
+    buffer: &mut Vec<u8>,
+) -> Result<Option<Shard>, Fault>
+    requires { 1 ≤ split.now.min }
+    ensures { IfOk result (λ answer. IfSome answer (IsOfSplit split.now)) }
+{
+    let Some(source) = &file.source else {
+        return Ok(None);
+    };
+    match shard_in(rt, file.name.as_str(), source, split, block, buffer)? {
+        Ok(shard) => Ok(Some(shard)),
+        Err(why) => {
+            file.add_lost_block(block.number, why);
+            Ok(None)
+        }
+    }
+}
+
+/// Looks for shards of a block in the files that were not looked at yet, until so many are found.
+/// What is wrong with others is noted.
+fn find_shards(
+    rt: &HostRuntime,
+    files: &mut [ShardFile],
+    split: &Header,
+    block: Block,
+    wanted: usize,
+    buffer: &mut Vec<u8>,
+    found: &mut FoundShards,
+) -> Result<(), Fault>
+    requires some { 1 ≤ split.now.min }
+    requires before { All (IsOfSplit split.now) found.old.shards.items }
+    ensures { OnOk result (All (IsOfSplit split.now) found.new.shards.items) }
+{
+    for place in found.looked_at..files.len() {
+        if found.shards.len() >= wanted {
+            return Ok(());
+        }
+        found.looked_at = place + 1;
+        if let Some(shard) = shard_from(rt, &mut files[place], split, block, buffer)? {
+            if !is_there(&found.shards, shard.index) {
+                found.shards.push(shard)?;
+                found.places.push(place)?;
+            }
+        }
+    }
+    Ok(())
+}
+
+/// Whether the last of the shards has this index.
+fn is_there(shards: &[Shard], index: u32) -> bool {
+    shards.last().is_some_and(|shard| shard.index == index)
+}
+
+/// The bytes of a block that these shards of a split give, where they give so many.
+fn joined(
+    alloc: Global,
+    _split: &Header,
+    shards: &[Shard],
+    bytes: u32,
+) -> Result<Option<Vec<u8>>, Fault>
+    requires { All (IsOfSplit _split.now) shards.now }
+    ensures { IfOk result (λ answer. IfSome answer (λ block. length block.items ≡ bytes)) }
+{
+    match join_block(alloc, shards) {
+        Ok(block) if block.len() == bytes as usize => Ok(Some(block)),
+        Err(Error::Memory(error)) => Err(Fault::Memory(error)),
+        _ => Ok(None),
+    }
+}
+
+/// The bytes of a block that all shards but a few give. Those few are noted at their files.
+fn corrected(
+    alloc: Global,
+    files: &mut [ShardFile],
+    _split: &Header,
+    block: Block,
+    found: &FoundShards,
+) -> Result<Vec<u8>, Fault>
+    requires { All (IsOfSplit _split.now) found.now.shards.items }
+    ensures { IfOk result (λ bytes. length bytes.items ≡ block.bytes) }
+{
+    let JoinedBlock { bytes, left_out } = match join_block_corrected(alloc, &found.shards) {
+        Ok(joined) => joined,
+        Err(Error::Memory(error)) => return Err(Fault::Memory(error)),
+        Err(error) => return Err(Fault::Block(block.number, error)),
+    };
+    for position in &left_out {
+        note_at(files, &found.places, *position, block.number);
+    }
+    if bytes.len() != block.bytes as usize {
+        return Err(Fault::Block(block.number, Error::Inconsistent));
+    }
+    Ok(bytes)
+}
+
+/// Notes that the shard at this position among those of a block does not fit the others.
+fn note_at(files: &mut [ShardFile], places: &[usize], position: usize, number: u64) {
+    let Some(place) = places.get(position) else {
+        return;
+    };
+    if let Some(file) = files.get_mut(*place) {
+        file.add_lost_block(number, "it does not fit the others");
+    }
+}
+
+/// The bytes of a block of the split.
+///
+/// They are those that the first shards give that fit their fingerprints, as many as are needed.
+/// Where these give no such block, or where all are to be compared, all shards that fit are looked
+/// at together, and those are noted at their files that do not fit the others. It refuses where
+/// there is no such block, and names it.
+pub fn block_in(
+    rt: &HostRuntime,
+    files: &mut [ShardFile],
+    split: &Header,
+    block: Block,
+    reach: Reach,
+    buffer: &mut Vec<u8>,
+) -> Result<Vec<u8>, Fault>
+    requires { 1 ≤ split.now.min }
+    ensures { IfOk result (λ bytes. length bytes.items ≡ block.bytes) }
+{
+    let mut found = FoundShards {
+        shards: Vec::new(rt.alloc()),
+        places: Vec::new(rt.alloc()),
+        looked_at: 0,
+    };
+    find_shards(
+        rt,
+        files,
+        split,
+        block,
+        split.min as usize,
+        buffer,
+        &mut found,
+    )?;
+    let first = if reach.compares_all {
+        None
+    } else {
+        joined(rt.alloc(), split, &found.shards, block.bytes)?
+    };
+    if first.is_none() || reach.reads_all {
+        find_shards(rt, files, split, block, usize::MAX, buffer, &mut found)?;
+    }
+    match first {
+        Some(bytes) => Ok(bytes),
+        None => corrected(rt.alloc(), files, split, block, &found),
+    }
+}

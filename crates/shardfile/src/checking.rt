@@ -1,0 +1,179 @@
+//! Whether shard files fit.
+
+ghost use Rattle.std.specs.Prelude.{◌≤◌};
+
+use crate::blocks::{Block, Reach, block_in};
+use crate::fault::Fault;
+use crate::joining::check_count;
+use crate::listing::{line_of, list};
+use crate::names::Wanted;
+use crate::output::owned;
+use crate::progress::Progress;
+use crate::sources::{ShardFile, count_there, gather};
+use shard_format::header::Header;
+
+/// What was found of all blocks.
+#[derive(Drop)]
+struct Findings {
+    blocks: u64,
+    refused: u64,
+    first: Option<Fault>,
+}
+
+impl Findings {
+    /// Notes that a block is refused. Where memory or room for an open file ran out nothing is
+    /// found.
+    fn add_refused_block(&mut self, fault: Fault) -> Result<(), Fault> {
+        if !matches!(fault, Fault::Block(..)) {
+            return Err(fault);
+        }
+        self.refused = self.refused.saturating_add(1);
+        if self.first.is_none() {
+            self.first = Some(fault);
+        }
+        Ok(())
+    }
+}
+
+/// What a check says on standard output, and why it refuses then, where not all fits.
+#[derive(Drop)]
+pub struct Checked {
+    pub text: String,
+    pub fault: Option<Fault>,
+}
+
+/// Joins each block, reads all of its shards, and notes what is wrong.
+fn try_blocks(
+    rt: &HostRuntime,
+    split: &Header,
+    files: &mut [ShardFile],
+    compares_all: bool,
+) -> Result<Findings, Fault>
+    requires some { 1 ≤ split.now.min }
+    requires block { 1 ≤ split.now.block }
+{
+    let mut findings = Findings {
+        blocks: 0,
+        refused: 0,
+        first: None,
+    };
+    let reach = Reach {
+        reads_all: true,
+        compares_all,
+    };
+    let mut progress = Progress::new(rt, split.length);
+    let mut buffer = Vec::new(rt.alloc());
+    let mut left = split.length;
+    while left > 0 {
+        let block = Block {
+            number: findings.blocks,
+            bytes: left.min(u64::from(split.block)) as u32,
+        };
+        if let Err(fault) = block_in(rt, files, split, block, reach, &mut buffer) {
+            findings.add_refused_block(fault)?;
+        }
+        findings.blocks = findings.blocks.saturating_add(1);
+        left -= u64::from(block.bytes);
+        progress.print_percentage(rt, left);
+    }
+    Ok(findings)
+}
+
+/// The reason alone that a fault gives.
+fn reason_of(rt: &HostRuntime, fault: &Fault) -> Result<String, Fault> {
+    let text = format!(in rt.alloc(); "{fault}")?;
+    let reason = text.as_str().strip_prefix("refused: ");
+    owned(rt, reason.unwrap_or(text.as_str()))
+}
+
+/// A line for each shard of the split and each other file that is meant, and one for what they
+/// give; and why it is refused, where not all shards are there and fit.
+pub fn check(rt: &HostRuntime, wanted: &Wanted, compares_all: bool) -> Result<Checked, Fault> {
+    let mut files = Vec::new(rt.alloc());
+    match gather(rt, wanted, &mut files) {
+        Ok(split) => check_split(rt, wanted, &split, &mut files, compares_all),
+        Err(fault) if is_of_headers(&fault) => {
+            let mut text = String::new(rt.alloc());
+            list_unsound(rt, &files, &mut text)?;
+            writeln!(text, "cannot be restored: {}", reason_of(rt, &fault)?)?;
+            Ok(Checked {
+                text,
+                fault: Some(fault),
+            })
+        }
+        Err(fault) => Err(fault),
+    }
+}
+
+/// Whether the fault is one of the headers and lengths of the files.
+fn is_of_headers(fault: &Fault) -> bool {
+    matches!(fault, Fault::NoShard(_) | Fault::Tie(..) | Fault::Length(_))
+}
+
+/// A line for each file with which something is wrong.
+fn list_unsound(rt: &HostRuntime, files: &[ShardFile], text: &mut String) -> Result<(), Fault> {
+    for shard in files {
+        if !shard.is_sound() {
+            writeln!(text, "{}", line_of(rt, shard)?)?;
+        }
+    }
+    Ok(())
+}
+
+/// As `check`, of the files of a split.
+fn check_split(
+    rt: &HostRuntime,
+    wanted: &Wanted,
+    split: &Header,
+    files: &mut [ShardFile],
+    compares_all: bool,
+) -> Result<Checked, Fault>
+    requires some { 1 ≤ split.now.min }
+    requires block { 1 ≤ split.now.block }
+{
+    let findings = try_blocks(rt, split, files, compares_all)?;
+    let mut text = String::new(rt.alloc());
+    list(rt, wanted, split.total, files, &mut text)?;
+    let is_restored = write_findings(rt, wanted, split, files, &findings, &mut text)?;
+    let is_whole = is_restored
+        && count_there(files) == split.total as usize
+        && files.iter().all(|shard| shard.is_sound());
+    let fault = if is_whole {
+        None
+    } else {
+        Some(Fault::Unsound(owned(rt, wanted.label())?))
+    };
+    Ok(Checked { text, fault })
+}
+
+/// Two lines: what the split is, and what `join` does. And whether that restores the file.
+fn write_findings(
+    rt: &HostRuntime,
+    wanted: &Wanted,
+    split: &Header,
+    files: &[ShardFile],
+    findings: &Findings,
+    text: &mut String,
+) -> Result<bool, Fault> {
+    let (min, total, length) = (split.min, split.total, split.length);
+    let blocks = findings.blocks;
+    writeln!(
+        text,
+        "any {min} of {total} give back {length} bytes in {blocks} blocks"
+    )?;
+    if let Err(fault) = check_count(rt, wanted, split, files) {
+        writeln!(text, "cannot be restored: {}", reason_of(rt, &fault)?)?;
+        return Ok(false);
+    }
+    if let Some(fault) = &findings.first {
+        let refused = findings.refused;
+        writeln!(
+            text,
+            "cannot be restored: {refused} blocks cannot, the first is {}",
+            reason_of(rt, fault)?
+        )?;
+        return Ok(false);
+    }
+    writeln!(text, "can be restored")?;
+    Ok(true)
+}
