@@ -1,7 +1,7 @@
 //! Combining of shares of bytes.
 
-ghost use Rattle.std.specs.List.{Contains};
-ghost use Rattle.std.specs.Prelude.{◌≡◌, ◌≢◌, ◌+◌, ◌<◌, ◌≤◌, ◌^◌, ◌++◌, ℕ, List, [], length, slice_index_or, All, AllPairs, IfOk, IfErr, IfSome, IfNone};
+ghost use Rattle.std.specs.Prelude.{◌≡◌, ◌<◌, ◌++◌, List, length, All};
+ghost use Rattle.std.specs.Prelude.{IfOk, IfErr, IfSome, IfNone};
 ghost use Rattle.math_base.specs.declared.fields.goldilocks.F.{F};
 ghost use Rattle.shared_secret.specs.CorrectedShares.{AreWithinRadius, IsCorrected};
 ghost use Rattle.secret_bytes.specs.Columns.{column, goldilocks};
@@ -87,7 +87,8 @@ fn recover(
     shares: Vec<SecretShare>,
 ) -> Result<Recovered, CombineError>
     requires { AreReady t width shares.items }
-    ensures recovered { IfOk result (λ r. AreRecovered t width shares.items r.elements.items r.wrong.items) }
+    ensures recovered { IfOk result
+        (λ r. AreRecovered t width shares.items r.elements.items r.wrong.items) }
     ensures due { IfErr result (λ error. IsDueRecovering t width shares.items error) }
 {
     let most = (shares.len() - t as usize) / 2;

@@ -1,7 +1,8 @@
 //! Dealing of bytes.
 
 ghost use Rattle.std.specs.List.{AllZip, range_with_len};
-ghost use Rattle.std.specs.Prelude.{◌≡◌, ◌<◌, ◌≤◌, ℕ, List, [], length, map, slice_index_or, All, IfOk};
+ghost use Rattle.std.specs.Prelude.{◌≡◌, ◌<◌, ◌≤◌, ℕ, List, [], length, map, slice_index_or, All};
+ghost use Rattle.std.specs.Prelude.{IfOk};
 ghost use Rattle.math_base.specs.declared.fields.goldilocks.F.{F};
 ghost use Rattle.shared_secret.specs.Shares.{AreDealt};
 ghost use Rattle.secret_bytes.specs.Columns.{column, goldilocks, value_at};
@@ -82,7 +83,8 @@ fn shares_of(
     requires { All (λ column. map (λ s. s.index) column.items ≡ range_with_len 1 n) columns.now }
     ensures indices { IfOk result (λ shares.
         map (λ s. s.index) shares.items ≡ range_with_len 1 n) }
-    ensures alike { IfOk result (λ shares. All (IsOfDeal t deal (length columns.now)) shares.items) }
+    ensures alike { IfOk result (λ shares.
+        All (IsOfDeal t deal (length columns.now)) shares.items) }
     ensures columns { IfOk result (λ shares. (j : ℕ) → j < length columns.now
         → column j shares.items ≡ slice_index_or (map (λ column. column.items) columns.now) j []) }
 {

@@ -1,8 +1,10 @@
 //! Shares that are of one deal, each once.
 
-ghost use Rattle.std.specs.Prelude.{◌≡◌, ◌↔◌, ◌<◌, ◌^◌, length, All, IsTrue, IfOk, IfErr, IfSome, IfNone};
+ghost use Rattle.std.specs.Prelude.{◌≡◌, ◌↔◌, ◌<◌, ◌^◌, length, All};
+ghost use Rattle.std.specs.Prelude.{IsTrue, IfOk, IfErr, IfSome, IfNone};
 ghost use Rattle.secret_bytes.specs.Deals.{IsOfDeal};
-ghost use Rattle.secret_bytes.specs.Settled.{HaveSameValues, IsContradicted, IsFault, IsFirstFault, IsSound, Stands, StandBelow, firsts, has_index};
+ghost use Rattle.secret_bytes.specs.Settled.{HaveSameValues, IsContradicted, IsFault, IsFirstFault};
+ghost use Rattle.secret_bytes.specs.Settled.{Stands, StandBelow, firsts, has_index};
 
 use crate::error::CombineError;
 use math_base::algebra::Mem;
@@ -29,7 +31,8 @@ fn are_same(a: &[F], b: &[F]) -> bool
 /// Whether one of the shares has the index of this share and other values.
 fn is_contradicted(before: &[SecretShare], share: &SecretShare) -> bool
     ensures yes { IsTrue result → IsContradicted before.now share.now }
-    ensures no { ¬ (IsTrue result) → All (λ u. u.index ≡ share.now.index → HaveSameValues u share.now) before.now }
+    ensures no { ¬ (IsTrue result)
+        → All (λ u. u.index ≡ share.now.index → HaveSameValues u share.now) before.now }
 {
     for other in before {
         if other.index == share.index && !are_same(&other.values, &share.values) {
@@ -48,7 +51,8 @@ fn fault_of(
 ) -> Option<CombineError>
     ensures some { IfSome result (λ error. IsFault of.now.threshold of.now.deal of.now.width
         before.now share.now place error) }
-    ensures none { IfNone result (Stands of.now.threshold of.now.deal of.now.width before.now share.now) }
+    ensures none { IfNone result
+        (Stands of.now.threshold of.now.deal of.now.width before.now share.now) }
     ensures small { IfNone result (share.now.index < 2 ^ 32) }
 {
     if share.threshold == 0 || share.index == 0 {
