@@ -1,1 +1,10 @@
 pub mod SpelledLines
+pub mod KeyedBytes
+pub mod DealtColumns
+pub mod SettledShares
+pub mod ElementPoints
+pub mod LeftShares
+pub mod RecoveredShares
+pub mod RefusedRecoveries
+pub mod CombinedShares
+pub mod AnyShares

@@ -1,27 +1,46 @@
 //! Combining of shares of bytes.
 
+ghost use Rattle.std.specs.Prelude.{◌≡◌, ◌<◌, ◌++◌, List, length, All};
+ghost use Rattle.std.specs.Prelude.{IfOk, IfErr, IfSome, IfNone};
+ghost use Rattle.math_base.specs.declared.fields.goldilocks.F.{F};
+ghost use Rattle.shared_secret.specs.CorrectedShares.{AreWithinRadius, IsCorrected};
+ghost use Rattle.secret_bytes.specs.Columns.{column, goldilocks};
+ghost use Rattle.secret_bytes.specs.Combined.{AreCombined, AreRecovered, IsDueCombining, others};
+ghost use Rattle.secret_bytes.specs.Passes.{AreReady, IsDueRecovering, IsPass, indices_at};
+
 use crate::error::CombineError;
 use crate::keyed::unkeyed;
-use crate::settling::{Deal, settled};
-use commonware_math::algebra::Mem;
+use crate::settling::{Deal, firsts, settled};
+use math_base::algebra::Mem;
 use math_base::fields::goldilocks::F;
 use share_lines::SecretShare;
-use shared_secret::{Share, combine_corrected};
+use shared_secret::CombineError::{Memory, RepeatedIndex, TooFewShares, ZeroIndex};
+use shared_secret::{Corrected, Share, combine_corrected};
 use std::alloc::Global;
 
-/// The bytes, and the indices of the shares that were wrong, in the order of the shares.
+/// The bytes, and the indices of the shares that were wrong.
 #[derive(Debug, Drop)]
 pub struct Combined {
     pub bytes: Vec<u8>,
     pub wrong: Vec<u32>,
 }
 
-/// The elements that shares gave, and the places of the shares that were found to be wrong; then
-/// not all elements are there.
+/// The elements that shares give, and the indices of the shares that were wrong.
 #[derive(Drop)]
-struct Pass {
+struct Recovered {
     elements: Vec<F>,
-    wrong: Vec<usize>,
+    wrong: Vec<u32>,
+}
+
+/// What one look at all elements finds.
+#[derive(Drop)]
+enum Pass {
+    /// The shares fit each other, and these are the elements.
+    Fit(Vec<F>),
+    /// At some element the shares at these places are wrong.
+    Wrong(Vec<usize>),
+    /// At some element so many are wrong that it is not found.
+    TooManyWrong,
 }
 
 /// Combines the shares, in any order, to the bytes, and says which shares are wrong.
@@ -32,7 +51,10 @@ struct Pass {
 /// The first share that is not of one deal with those before it is refused; then fewer shares than
 /// the threshold; and then shares of which too many are wrong, and a secret that does not fit its
 /// check. A share that stands twice counts once.
-pub fn combine(alloc: Global, shares: Vec<SecretShare>) -> Result<Combined, CombineError> {
+pub fn combine(alloc: Global, shares: Vec<SecretShare>) -> Result<Combined, CombineError>
+    ensures combined { IfOk result (λ c. AreCombined shares.items c.bytes.items c.wrong.items) }
+    ensures due { IfErr result (λ error. IsDueCombining shares.items error) }
+{
     let Some(first) = shares.first() else {
         return Err(CombineError::NoShare);
     };
@@ -42,86 +64,123 @@ pub fn combine(alloc: Global, shares: Vec<SecretShare>) -> Result<Combined, Comb
         deal: first.deal,
         width: first.values.len(),
     };
-    let mut kept = settled(alloc, &of, shares)?;
+    settled(&of, &shares)?;
+    let kept = firsts(alloc, shares)?;
     if kept.len() < t as usize {
         return Err(CombineError::TooFew(kept.len(), t));
     }
-    let most = (kept.len() - t as usize) / 2;
-    let mut wrong = Vec::new(alloc);
-    for _pass in 0..=most {
-        let pass = elements_of_shares(alloc, t, &kept, of.width)?;
-        if pass.wrong.is_empty() {
-            let Some(bytes) = unkeyed(alloc, &pass.elements)? else {
-                return Err(CombineError::Changed);
-            };
-            return Ok(Combined { bytes, wrong });
-        }
-        kept = without(alloc, kept, &pass.wrong, &mut wrong)?;
-        if wrong.len() > most {
-            return Err(CombineError::TooManyWrong);
-        }
-    }
-    Err(CombineError::TooManyWrong)
-}
-
-/// The elements of which all shares are values, or the places of the shares that are wrong at the
-/// first element at which some are.
-fn elements_of_shares(
-    alloc: Global,
-    t: u32,
-    shares: &[SecretShare],
-    width: usize,
-) -> Result<Pass, CombineError> {
-    let mut elements = Vec::with_capacity(alloc, width)?;
-    for j in 0..width {
-        let column = column(alloc, shares, j)?;
-        let Some(found) = combine_corrected(alloc, t, &column)? else {
-            return Err(CombineError::TooManyWrong);
-        };
-        if !found.wrong.is_empty() {
-            return Ok(Pass {
-                elements,
-                wrong: found.wrong,
-            });
-        }
-        elements.push(found.secret)?;
-    }
-    Ok(Pass {
-        elements,
-        wrong: Vec::new(alloc),
+    let found = recover(alloc, t, of.width, kept)?;
+    let Some(bytes) = unkeyed(alloc, &found.elements)? else {
+        return Err(CombineError::Changed);
+    };
+    Ok(Combined {
+        bytes,
+        wrong: found.wrong,
     })
 }
 
+/// The elements of at least t shares of distinct indices, each with so many values.
+fn recover(
+    alloc: Global,
+    t: u32,
+    width: usize,
+    shares: Vec<SecretShare>,
+) -> Result<Recovered, CombineError>
+    requires { AreReady t width shares.items }
+    ensures recovered { IfOk result
+        (λ r. AreRecovered t width shares.items r.elements.items r.wrong.items) }
+    ensures due { IfErr result (λ error. IsDueRecovering t width shares.items error) }
+{
+    let most = (shares.len() - t as usize) / 2;
+    let mut kept = shares;
+    let mut wrong = Vec::new(alloc);
+    loop {
+        match look(alloc, t, width, &kept)? {
+            Pass::Fit(elements) => return Ok(Recovered { elements, wrong }),
+            Pass::TooManyWrong => return Err(CombineError::TooManyWrong),
+            Pass::Wrong(places) => {
+                push_indices(&kept, &places, &mut wrong)?;
+                if wrong.len() > most {
+                    return Err(CombineError::TooManyWrong);
+                }
+                leave_out(&mut kept, &wrong);
+            }
+        }
+    }
+}
+
+/// Looks at all elements of the shares, up to the first at which some are wrong.
+fn look(alloc: Global, t: u32, width: usize, shares: &[SecretShare]) -> Mem<Pass>
+    requires { AreReady t width shares.now }
+    ensures { IfOk result (λ pass. IsPass t width shares.now pass) }
+{
+    let mut elements = Vec::with_capacity(alloc, width)?;
+    for j in 0..width {
+        let Some(found) = corrected(alloc, t, width, shares, j)? else {
+            return Ok(Pass::TooManyWrong);
+        };
+        if !found.wrong.is_empty() {
+            return Ok(Pass::Wrong(found.wrong));
+        }
+        elements.push(found.secret)?;
+    }
+    Ok(Pass::Fit(elements))
+}
+
+/// Element j of the shares, and the places of those that are wrong.
+fn corrected(
+    alloc: Global,
+    t: u32,
+    width: usize,
+    shares: &[SecretShare],
+    j: usize,
+) -> Mem<Option<Corrected<F>>>
+    requires ready { AreReady t width shares.now }
+    requires within { j < width }
+    ensures found { IfOk result (λ answer. IfSome answer (λ c.
+        IsCorrected goldilocks t (column j shares.now) c.secret c.wrong.items)) }
+    ensures none { IfOk result (λ answer. IfNone answer ((p : List F)
+        → ¬ (AreWithinRadius goldilocks t p (column j shares.now)))) }
+{
+    let column = column(alloc, shares, j)?;
+    match combine_corrected(alloc, t, &column) {
+        Ok(found) => Ok(found),
+        Err(Memory(e)) => Err(e),
+        Err(TooFewShares) => unreachable!(),
+        Err(ZeroIndex) => unreachable!(),
+        Err(RepeatedIndex) => unreachable!(),
+    }
+}
+
 /// The shares of one element.
-fn column(alloc: Global, shares: &[SecretShare], j: usize) -> Mem<Vec<Share<F>>> {
+fn column(alloc: Global, shares: &[SecretShare], j: usize) -> Mem<Vec<Share<F>>>
+    requires { All (λ s. j < length s.values.items) shares.now }
+    ensures { IfOk result (λ out. out.items ≡ column j shares.now) }
+{
     let mut out = Vec::with_capacity(alloc, shares.len())?;
     for share in shares {
-        if let Some(value) = share.values.get(j) {
-            out.push(Share {
-                index: share.index,
-                value: *value,
-            })?;
-        }
+        out.push(Share {
+            index: share.index,
+            value: share.values[j],
+        })?;
     }
     Ok(out)
 }
 
-/// The shares at other places. The indices of those at these places are appended to `wrong`.
-fn without(
-    alloc: Global,
-    shares: Vec<SecretShare>,
-    places: &[usize],
-    wrong: &mut Vec<u32>,
-) -> Mem<Vec<SecretShare>> {
-    let mut kept = Vec::with_capacity(alloc, shares.len())?;
-    let mut place: usize = 0;
-    for share in shares {
-        if places.contains(&place) {
-            wrong.push(share.index)?;
-        } else {
-            kept.push(share)?;
-        }
-        place = place.saturating_add(1);
+/// Appends the indices of the shares at these places.
+fn push_indices(shares: &[SecretShare], places: &[usize], out: &mut Vec<u32>) -> Mem<()>
+    requires { All (λ place. place < length shares.now) places.now }
+    ensures { IfOk result (λ _. out.new.items ≡ out.old.items ++ indices_at shares.now places.now) }
+{
+    for place in places {
+        out.push(shares[*place].index)?;
     }
-    Ok(kept)
+    Ok(())
+}
+
+/// Leaves out the shares of these indices.
+fn leave_out(shares: &mut Vec<SecretShare>, wrong: &[u32])
+    ensures { shares.new.items ≡ others wrong.now shares.old.items }
+{
+    shares.retain(|share| !wrong.contains(&share.index));
 }

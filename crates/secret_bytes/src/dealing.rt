@@ -1,10 +1,16 @@
 //! Dealing of bytes.
 
-ghost use Rattle.std.specs.Prelude.{◌<◌, ◌≤◌, length};
+ghost use Rattle.std.specs.List.{AllZip, range_with_len};
+ghost use Rattle.std.specs.Prelude.{◌≡◌, ◌<◌, ◌≤◌, ℕ, List, [], length, map, slice_index_or, All};
+ghost use Rattle.std.specs.Prelude.{IfOk};
+ghost use Rattle.math_base.specs.declared.fields.goldilocks.F.{F};
+ghost use Rattle.shared_secret.specs.Shares.{AreDealt};
+ghost use Rattle.secret_bytes.specs.Columns.{column, goldilocks, value_at};
+ghost use Rattle.secret_bytes.specs.Deals.{AreDealtBytes, AreSampled, IsOfDeal};
 
 use crate::error::DealError;
 use crate::keyed::{drawn, keyed};
-use commonware_math::algebra::Mem;
+use math_base::algebra::Mem;
 use math_base::fields::goldilocks::F;
 use rand_core::{CryptoRng, Rng};
 use share_lines::SecretShare;
@@ -33,21 +39,14 @@ pub fn deal<G: Rng + CryptoRng>(
     requires few { length bytes.now ≤ 65536 }
     requires some { 0 < t }
     requires enough { t ≤ n }
+    ensures dealt { IfOk result (λ shares.
+        AreDealtBytes bytes.now t n (G.stream rng.old) (G.stream rng.new) shares.items) }
 {
     let deal = drawn(alloc, rng)?;
     let key = drawn(alloc, rng)?;
     let all = keyed(alloc, bytes, key)?;
     let columns = dealt_columns(alloc, &all, t, n, rng)?;
-    let mut shares = Vec::with_capacity(alloc, n as usize)?;
-    for i in 0..n {
-        let values = row(alloc, &columns, i as usize)?;
-        shares.push(SecretShare {
-            threshold: t,
-            index: i + 1,
-            deal,
-            values,
-        })?;
-    }
+    let shares = shares_of(alloc, t, n, deal, &columns)?;
     Ok(shares)
 }
 
@@ -61,25 +60,56 @@ fn dealt_columns<G: Rng + CryptoRng>(
 ) -> Result<Vec<Vec<Share<F>>>, DealError>
     requires some { 0 < t }
     requires enough { t ≤ n }
+    ensures dealt { IfOk result (λ columns. (polynomials : List (List F))
+        × AreSampled t (G.stream rng.old) (G.stream rng.new) elements.now polynomials
+        × AllZip (λ p column. AreDealt goldilocks n p column.items) polynomials columns.items) }
 {
     let mut columns = Vec::with_capacity(alloc, elements.len())?;
     for element in elements {
-        match shared_secret::deal(alloc, *element, t, n, rng) {
-            Ok(column) => columns.push(column)?,
-            Err(shared_secret::DealError::Memory(e)) => return Err(DealError::Memory(e)),
-            Err(_) => return Err(DealError::TooManyWords),
-        }
+        let column = shared_secret::deal(alloc, *element, t, n, rng)?;
+        columns.push(column)?;
     }
     Ok(columns)
 }
 
+/// The shares of the deal, of which each has the values that stand at its place in the columns.
+fn shares_of(
+    alloc: Global,
+    t: u32,
+    n: u32,
+    deal: F,
+    columns: &[Vec<Share<F>>],
+) -> Mem<Vec<SecretShare>>
+    requires { All (λ column. map (λ s. s.index) column.items ≡ range_with_len 1 n) columns.now }
+    ensures indices { IfOk result (λ shares.
+        map (λ s. s.index) shares.items ≡ range_with_len 1 n) }
+    ensures alike { IfOk result (λ shares.
+        All (IsOfDeal t deal (length columns.now)) shares.items) }
+    ensures columns { IfOk result (λ shares. (j : ℕ) → j < length columns.now
+        → column j shares.items ≡ slice_index_or (map (λ column. column.items) columns.now) j []) }
+{
+    let mut shares = Vec::with_capacity(alloc, n as usize)?;
+    for i in 0..n {
+        let values = row(alloc, columns, i as usize)?;
+        shares.push(SecretShare {
+            threshold: t,
+            index: i + 1,
+            deal,
+            values,
+        })?;
+    }
+    Ok(shares)
+}
+
 /// The value of the share at a place of each column.
-fn row(alloc: Global, columns: &[Vec<Share<F>>], place: usize) -> Mem<Vec<F>> {
+fn row(alloc: Global, columns: &[Vec<Share<F>>], place: usize) -> Mem<Vec<F>>
+    requires { All (λ column. place < length column.items) columns.now }
+    ensures { IfOk result (λ values. AllZip (λ column value.
+        value ≡ value_at column.items place) columns.now values.items) }
+{
     let mut values = Vec::with_capacity(alloc, columns.len())?;
     for column in columns {
-        if let Some(share) = column.get(place) {
-            values.push(share.value)?;
-        }
+        values.push(column[place].value)?;
     }
     Ok(values)
 }

@@ -1,5 +1,8 @@
 //! Why no bytes were dealt, or none combined.
 
+ghost use Rattle.std.specs.Prelude.{◌≡◌, alloc_error};
+ghost use Rattle.secret_bytes.specs.declared.error.CombineError.TheVariants as combine;
+
 use std::alloc::{AllocError, AllocFailed};
 use thiserror::Error;
 
@@ -26,6 +29,15 @@ impl<T: Drop> From<AllocFailed<T>> for DealError {
     }
 }
 
+impl From<shared_secret::DealError> for DealError {
+    fn from(e: shared_secret::DealError) -> DealError {
+        match e {
+            shared_secret::DealError::Memory(e) => DealError::Memory(e),
+            _ => DealError::TooManyWords,
+        }
+    }
+}
+
 /// Why shares were not combined. A place counts the shares that were given from zero on.
 #[derive(Debug, Drop, Error)]
 pub enum CombineError {
@@ -35,8 +47,7 @@ pub enum CombineError {
     /// There is no share.
     #[error("there is no share")]
     NoShare,
-    /// The threshold of this share or its index is zero, or it has fewer values than any share of a
-    /// deal.
+    /// The threshold of this share or its index is zero.
     #[error("no share of a deal")]
     Unsound(usize),
     /// This share is of another deal than the first.
@@ -63,22 +74,17 @@ pub enum CombineError {
 }
 
 impl From<AllocError> for CombineError {
+    ghost from_gives = { λ x e. e ≡ combine.Memory x };
+
     fn from(e: AllocError) -> CombineError {
         CombineError::Memory(e)
     }
 }
 
 impl<T: Drop> From<AllocFailed<T>> for CombineError {
+    ghost from_gives = { λ _ e. e ≡ combine.Memory alloc_error };
+
     fn from(_e: AllocFailed<T>) -> CombineError {
         CombineError::Memory(AllocError)
-    }
-}
-
-impl From<shared_secret::CombineError> for CombineError {
-    fn from(e: shared_secret::CombineError) -> CombineError {
-        match e {
-            shared_secret::CombineError::Memory(e) => CombineError::Memory(e),
-            _ => CombineError::TooManyWrong,
-        }
     }
 }

@@ -1,17 +1,20 @@
 //! Bytes, a key and a check as elements.
 
-ghost use Rattle.std.specs.Prelude.{◌≡◌, ◌<◌, ◌^◌, ℕ, List, length, IfOk, IfSome};
+ghost use Rattle.std.specs.Prelude.{◌≡◌, ◌<◌, ◌^◌, ℕ, List, length, Some, IfOk, IfSome, IfNone};
+ghost use Rattle.math_base.specs.Elements.{sample_of};
 ghost use Rattle.secret_bytes.specs.Keyed.{AreKeyed};
 
 use crate::error::DealError;
-use commonware_math::algebra::{Mem, Random, RandomError};
+use math_base::algebra::{Mem, Random, RandomError};
 use math_base::fields::goldilocks::F;
 use rand_core::{CryptoRng, Rng};
 use secret_elements::{bytes_of, elements_of, fits, key_check};
 use std::alloc::Global;
 
 /// An element of the source.
-pub(crate) fn drawn<G: Rng + CryptoRng>(alloc: Global, rng: &mut G) -> Result<F, DealError> {
+pub(crate) fn drawn<G: Rng + CryptoRng>(alloc: Global, rng: &mut G) -> Result<F, DealError>
+    ensures { IfOk result (λ a. sample_of (G.stream rng.old) ≡ (Some a, G.stream rng.new)) }
+{
     match F::random(alloc, rng) {
         Ok(a) => Ok(a),
         Err(RandomError::Memory(e)) => Err(DealError::Memory(e)),
@@ -22,7 +25,7 @@ pub(crate) fn drawn<G: Rng + CryptoRng>(alloc: Global, rng: &mut G) -> Result<F,
 /// The elements of the bytes, of which there are fewer than 2^32, a key, and their check under it.
 pub(crate) fn keyed(alloc: Global, bytes: &[u8], key: F) -> Mem<Vec<F>>
     requires { length bytes.now < 2 ^ 32 }
-    ensures { IfOk result (λ all. AreKeyed bytes.now all.items) }
+    ensures { IfOk result (λ all. (k : AreKeyed bytes.now all.items) × (k.key ≡ key)) }
 {
     let mut all = elements_of(alloc, bytes)?;
     let check = key_check(&all, key);
@@ -31,11 +34,14 @@ pub(crate) fn keyed(alloc: Global, bytes: &[u8], key: F) -> Mem<Vec<F>>
     Ok(all)
 }
 
-/// The bytes whose elements, with a key and a check, these are; `None` where the check is not that
-/// of the elements under the key, or the elements are those of no bytes.
+/// The bytes whose elements, with a key and a check, these are; `None` exactly where there are no
+/// such bytes: the check is not that of the elements under the key, or the elements are those of no
+/// bytes.
 pub(crate) fn unkeyed(alloc: Global, all: &[F]) -> Mem<Option<Vec<u8>>>
     ensures some { IfOk result
         (λ answer. IfSome answer (λ bytes. AreKeyed bytes.items all.now)) }
+    ensures none { IfOk result
+        (λ answer. IfNone answer ((bytes : List ℕ) → ¬ (AreKeyed bytes all.now))) }
 {
     let Some((check, rest)) = all.split_last() else {
         return Ok(None);

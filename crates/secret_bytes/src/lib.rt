@@ -9,6 +9,7 @@ mod combining;
 mod dealing;
 mod error;
 mod keyed;
+pub mod laws;
 mod settling;
 mod text;
 

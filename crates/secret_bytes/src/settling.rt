@@ -1,22 +1,16 @@
 //! Shares that are of one deal, each once.
 
+ghost use Rattle.std.specs.Prelude.{◌≡◌, ◌↔◌, ◌<◌, ◌^◌, length, All};
+ghost use Rattle.std.specs.Prelude.{IsTrue, IfOk, IfErr, IfSome, IfNone};
+ghost use Rattle.secret_bytes.specs.Deals.{IsOfDeal};
+ghost use Rattle.secret_bytes.specs.Settled.{HaveSameValues, IsContradicted, IsFault, IsFirstFault};
+ghost use Rattle.secret_bytes.specs.Settled.{Stands, StandBelow, firsts, has_index};
+
 use crate::error::CombineError;
+use math_base::algebra::Mem;
 use math_base::fields::goldilocks::F;
 use share_lines::SecretShare;
 use std::alloc::Global;
-
-/// Whether both are the same elements in the same order.
-fn are_same(a: &[F], b: &[F]) -> bool {
-    if a.len() != b.len() {
-        return false;
-    }
-    for (x, y) in a.iter().zip(b.iter()) {
-        if *x != *y {
-            return false;
-        }
-    }
-    true
-}
 
 /// What all shares of a deal have in common.
 #[derive(Drop)]
@@ -27,8 +21,40 @@ pub(crate) struct Deal {
     pub width: usize,
 }
 
-/// Why the share at this place is none of the deal, where it is none.
-fn fault_of(of: &Deal, share: &SecretShare, place: usize) -> Option<CombineError> {
+/// Whether both are the same elements in the same order.
+fn are_same(a: &[F], b: &[F]) -> bool
+    ensures { IsTrue result ↔ (a.now ≡ b.now) }
+{
+    a == b
+}
+
+/// Whether one of the shares has the index of this share and other values.
+fn is_contradicted(before: &[SecretShare], share: &SecretShare) -> bool
+    ensures yes { IsTrue result → IsContradicted before.now share.now }
+    ensures no { ¬ (IsTrue result)
+        → All (λ u. u.index ≡ share.now.index → HaveSameValues u share.now) before.now }
+{
+    for other in before {
+        if other.index == share.index && !are_same(&other.values, &share.values) {
+            return true;
+        }
+    }
+    false
+}
+
+/// Why the share at this place does not stand with those before it, where it does not.
+fn fault_of(
+    of: &Deal,
+    before: &[SecretShare],
+    share: &SecretShare,
+    place: usize,
+) -> Option<CombineError>
+    ensures some { IfSome result (λ error. IsFault of.now.threshold of.now.deal of.now.width
+        before.now share.now place error) }
+    ensures none { IfNone result
+        (Stands of.now.threshold of.now.deal of.now.width before.now share.now) }
+    ensures small { IfNone result (share.now.index < 2 ^ 32) }
+{
     if share.threshold == 0 || share.index == 0 {
         return Some(CombineError::Unsound(place));
     }
@@ -41,50 +67,46 @@ fn fault_of(of: &Deal, share: &SecretShare, place: usize) -> Option<CombineError
     if share.values.len() != of.width {
         return Some(CombineError::AnotherLength(place));
     }
-    None
-}
-
-/// The share of this index, where there is one.
-fn of_index(shares: &[SecretShare], index: u32) -> Option<&SecretShare> {
-    for share in shares {
-        if share.index == index {
-            return Some(share);
-        }
+    if is_contradicted(before, share) {
+        return Some(CombineError::Repeated(place));
     }
     None
 }
 
-/// Whether the share is to be passed over, since one before it has its index and its values.
-fn stands_before(
-    kept: &[SecretShare],
-    share: &SecretShare,
-    place: usize,
-) -> Result<bool, CombineError> {
-    let Some(before) = of_index(kept, share.index) else {
-        return Ok(false);
-    };
-    if !are_same(&before.values, &share.values) {
-        return Err(CombineError::Repeated(place));
-    }
-    Ok(true)
-}
-
-/// The shares, each index once, where all are of the deal.
-pub(crate) fn settled(
-    alloc: Global,
-    of: &Deal,
-    shares: Vec<SecretShare>,
-) -> Result<Vec<SecretShare>, CombineError> {
-    let mut kept: Vec<SecretShare> = Vec::with_capacity(alloc, shares.len())?;
-    let mut place: usize = 0;
-    for share in shares {
-        if let Some(fault) = fault_of(of, &share, place) {
+/// Whether all shares are of the deal, those of one index with the same values.
+///
+/// It refuses at the first share that does not stand with those before it.
+pub(crate) fn settled(of: &Deal, shares: &[SecretShare]) -> Result<(), CombineError>
+    ensures stand { IfOk result (λ _. StandBelow of.now.threshold of.now.deal of.now.width
+        shares.now (length shares.now)) }
+    ensures small { IfOk result (λ _. All (λ s. s.index < 2 ^ 32) shares.now) }
+    ensures fault { IfErr result (λ error. IsFirstFault of.now.threshold of.now.deal of.now.width
+        shares.now error) }
+{
+    for (place, share) in shares.iter().enumerate() {
+        if let Some(fault) = fault_of(of, &shares[..place], share, place) {
             return Err(fault);
         }
-        if !stands_before(&kept, &share, place)? {
+    }
+    Ok(())
+}
+
+/// Whether one of the shares has this index.
+fn has_index(shares: &[SecretShare], index: u32) -> bool
+    ensures { result ≡ has_index shares.now index }
+{
+    shares.iter().any(|share| share.index == index)
+}
+
+/// The shares, of each index the first.
+pub(crate) fn firsts(alloc: Global, shares: Vec<SecretShare>) -> Mem<Vec<SecretShare>>
+    ensures { IfOk result (λ kept. kept.items ≡ firsts shares.items) }
+{
+    let mut kept: Vec<SecretShare> = Vec::with_capacity(alloc, shares.len())?;
+    for share in shares {
+        if !has_index(&kept, share.index) {
             kept.push(share)?;
         }
-        place = place.saturating_add(1);
     }
     Ok(kept)
 }

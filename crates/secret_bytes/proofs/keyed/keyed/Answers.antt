@@ -1,4 +1,4 @@
-use Rattle.std.proofs.Common.{◌≡◌, ◌∙◌, ◌++◌, ◌∷◌, [], ap, append_assoc, subst, arith}
+use Rattle.std.proofs.Common.{◌≡◌, ◌∙◌, ◌++◌, ◌∷◌, [], ap, append_assoc, refl, subst, arith}
 use Rattle.math_base.specs.Elements.{same}
 use Rattle.secret_elements.specs.KeyChecks.{check_at}
 use Rattle.secret_elements.proofs.PackedBytes.{all_bytes}
@@ -10,12 +10,14 @@ returns c =
     let key = c.args.key in
     let check = c.key_check-check.result in
     let first : c.push.new.self.items ≡ elements ++ (key ∷ []) = c.in_ok-push.ensures.items in
-    let second : c.push-2.new.self.items ≡ c.push.new.self.items ++ (check ∷ []) = c.in_ok-push-2.ensures.items in
-    record {
-      elements = elements;
-      key = key;
-      check = check;
-      packed = (record { each_byte = all_bytes c.args.bytes.now (λ k. omega (arith, c.type_inv.bytes k)); few = omega (arith, c.requires) }, c.in_ok-all.ensures);
-      fits = subst (λ es. same check (check_at es key)) c.deref.ensures.value c.key_check-check.ensures;
-      parts = second ∙ ap (λ x. x ++ (check ∷ [])) first ∙ append_assoc elements (key ∷ []) (check ∷ []);
-    }
+    let second : c.push-2.new.self.items ≡ c.push.new.self.items ++ (check ∷ []) = c.in_ok-push-2.ensures.items in (
+      record {
+        elements = elements;
+        key = key;
+        check = check;
+        packed = (record { each_byte = all_bytes c.args.bytes.now (λ k. omega (arith, c.type_inv.bytes k)); few = omega (arith, c.requires) }, c.in_ok-all.ensures);
+        fits = subst (λ es. same check (check_at es key)) c.deref.ensures.value c.key_check-check.ensures;
+        parts = second ∙ ap (λ x. x ++ (check ∷ [])) first ∙ append_assoc elements (key ∷ []) (check ∷ []);
+      },
+      refl,
+    )

@@ -1,4 +1,4 @@
-use Rattle.std.proofs.Common.{◌≡◌, ◌++◌, take}
+use Rattle.std.proofs.Common.{◌≡◌, take}
 use Rattle.secret_bytes.specs.Lines.{lines_spelling}
 use Rattle.secret_bytes.proofs.text.text_of.Given as goal
 

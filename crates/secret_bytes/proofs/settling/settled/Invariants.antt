@@ -1,0 +1,11 @@
+use Rattle.std.proofs.Common.{◌<◌, ◌^◌, ℕ, slice_index_or}
+use Rattle.share_lines.specs.declared.shares.SecretShare.{SecretShare}
+use Rattle.secret_bytes.specs.Settled.{StandBelow}
+use Rattle.secret_bytes.proofs.settling.settled.Given as goal
+
+-- the shares so far stand
+abbrev pub invariant-loop-place : goal.invariant-loop-place
+invariant-loop-place l = record {
+  stand : StandBelow l.of.threshold l.of.deal l.of.width l.shares l.place;
+  small : (k : ℕ) (s : SecretShare) → k < l.place → (slice_index_or l.shares k s).index < 2 ^ 32;
+}

@@ -1,0 +1,23 @@
+-- Shares of several elements, element by element.
+use Rattle.std.specs.Prelude.{ℕ, List, map, slice_index_or, None, true}
+use Rattle.math_base.specs.declared.fields.goldilocks.F.{F}
+use Rattle.math_base.specs.Elements.{negative, product, residue, same, sum}
+use Rattle.math_base.specs.Members.{RingOf}
+use Rattle.share_lines.specs.declared.shares.SecretShare.{SecretShare}
+use Rattle.shared_secret.specs.declared.shares.Share.{Share}
+
+-- the operations of the Goldilocks field
+abbrev pub goldilocks : RingOf F
+goldilocks = record { product = product; debug_output = λ a. None; same = same; NEVER_REFUSES = true; zero = residue 0; sum = sum; negative = negative; one = residue 1 }
+
+-- the share of element j: the index, and value j
+abbrev pub share_of : ℕ → SecretShare → Share F
+share_of j s = record { index = s.index; value = slice_index_or s.values.items j (residue 0) }
+
+-- the shares of element j
+abbrev pub column : ℕ → List SecretShare → List (Share F)
+column j shares = map (share_of j) shares
+
+-- the value of share i
+abbrev pub value_at : List (Share F) → ℕ → F
+value_at shares i = let s : Share F = slice_index_or shares i (record { index = 0; value = residue 0 }) in s.value

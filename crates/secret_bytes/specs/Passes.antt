@@ -1,0 +1,40 @@
+-- One look at all elements of shares.
+use Rattle.std.specs.Prelude.{◌≡◌, ◌≢◌, ◌<◌, ◌≤◌, ◌^◌, ℕ, List, [], map, length, slice_index_or, All, AllPairs}
+use Rattle.math_base.specs.declared.fields.goldilocks.F.{F}
+use Rattle.math_base.specs.Elements.{residue}
+use Rattle.share_lines.specs.declared.shares.SecretShare.{SecretShare}
+use Rattle.shared_secret.specs.CorrectedShares.{AreWithinRadius, IsCorrected}
+use Rattle.secret_bytes.specs.Columns.{column, goldilocks}
+use Rattle.secret_bytes.specs.Combined.{AreRecovered}
+use Rattle.secret_bytes.specs.declared.combining.Pass.{Pass}
+use Rattle.secret_bytes.specs.declared.combining.Pass.TheVariants.{Fit, TooManyWrong, Wrong}
+use Rattle.secret_bytes.specs.declared.error.CombineError.{CombineError}
+use Rattle.secret_bytes.specs.declared.error.CombineError.TheVariants as error
+
+-- the index is one that 32 bits can say, not zero, and the share has so many values
+pub record IsPlain (width : ℕ) (s : SecretShare) : Type 0 where
+  pub some : 0 < s.index
+  pub small : s.index < 2 ^ 32
+  pub count : length s.values.items ≡ width
+
+-- at least t shares of distinct indices, each with so many values
+pub record AreReady (t width : ℕ) (shares : List SecretShare) : Type 0 where
+  pub enough : t ≤ length shares
+  pub apart : AllPairs (λ s u. s.index ≢ u.index) shares
+  pub plain : All (IsPlain width) shares
+
+-- the indices of the shares at these places
+abbrev pub indices_at : List SecretShare → List ℕ → List ℕ
+indices_at shares places = map (λ i. slice_index_or (map (λ s. s.index) shares) i 0) places
+
+-- each element is that of all shares; or at some element those at these places are wrong; or at some element too many
+abbrev pub IsPass : ℕ → ℕ → List SecretShare → Pass → Type 0
+IsPass t width shares (Fit elements) = (length elements.items ≡ width) × ((j : ℕ) → j < width → IsCorrected goldilocks t (column j shares) (slice_index_or elements.items j (residue 0)) [])
+IsPass t width shares (Wrong places) = (j : ℕ) × (a : F) × (j < width) × (0 < length places.items) × IsCorrected goldilocks t (column j shares) a places.items
+IsPass t width shares TooManyWrong = (j : ℕ) × (j < width) × ((p : List F) → ¬ (AreWithinRadius goldilocks t p (column j shares)))
+
+-- why no elements are recovered
+abbrev pub IsDueRecovering : ℕ → ℕ → List SecretShare → CombineError → Type 0
+IsDueRecovering t width shares (error.Memory e) = Unit {0}
+IsDueRecovering t width shares error.TooManyWrong = (all : List F) (wrong : List ℕ) → ¬ (AreRecovered t width shares all wrong)
+IsDueRecovering t width shares _ = ⊥

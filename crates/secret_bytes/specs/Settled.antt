@@ -1,0 +1,57 @@
+-- Shares of one deal, and of each index the first.
+use Rattle.std.specs.List.{Contains, list_any}
+use Rattle.std.specs.Prelude.{◌≡◌, ◌<◌, ◌==◌, ℕ, Bool, List, [], ◌∷◌, ◌++◌, if◌then◌else◌, length, slice_index_or, take, All}
+use Rattle.math_base.specs.declared.fields.goldilocks.F.{F}
+use Rattle.share_lines.specs.declared.shares.SecretShare.{SecretShare}
+use Rattle.secret_bytes.specs.Deals.{IsOfDeal}
+use Rattle.secret_bytes.specs.declared.error.CombineError.{CombineError}
+use Rattle.secret_bytes.specs.declared.error.CombineError.TheVariants.{AnotherDeal, AnotherLength, AnotherThreshold, Repeated, Unsound}
+
+-- neither the threshold nor the index is zero
+abbrev pub IsSound : SecretShare → Type 0
+IsSound s = (0 < s.threshold) × (0 < s.index)
+
+-- both have the same values
+abbrev pub HaveSameValues : SecretShare → SecretShare → Type 0
+HaveSameValues s u = s.values.items ≡ u.values.items
+
+-- one of the shares has the index of s and other values
+abbrev pub IsContradicted : List SecretShare → SecretShare → Type 0
+IsContradicted before s = (u : SecretShare) × Contains before u × (u.index ≡ s.index) × ¬ (HaveSameValues u s)
+
+-- the share is sound, has this threshold, deal and number of values, and each of those before it that has its index has its values
+pub record Stands (t : ℕ) (identity : F) (width : ℕ) (before : List SecretShare) (s : SecretShare) : Type 0 where
+  pub sound : IsSound s
+  pub of_deal : IsOfDeal t identity width s
+  pub values : All (λ u. u.index ≡ s.index → HaveSameValues u s) before
+
+-- each of the first n shares stands with those before it
+abbrev pub StandBelow : ℕ → F → ℕ → List SecretShare → ℕ → Type 0
+StandBelow t identity width shares n = (k : ℕ) (s : SecretShare) → k < n → Stands t identity width (take k shares) (slice_index_or shares k s)
+
+-- why a share at place k does not stand with those before it, where that is the refusal: the first of these faults in the order of the cases
+abbrev pub IsFault : ℕ → F → ℕ → List SecretShare → SecretShare → ℕ → CombineError → Type 0
+IsFault t identity width before s k (Unsound place) = (place ≡ k) × ¬ (IsSound s)
+IsFault t identity width before s k (AnotherDeal place) = (place ≡ k) × IsSound s × ¬ (s.deal ≡ identity)
+IsFault t identity width before s k (AnotherThreshold place) = (place ≡ k) × IsSound s × (s.deal ≡ identity) × ¬ (s.threshold ≡ t)
+IsFault t identity width before s k (AnotherLength place) = (place ≡ k) × IsSound s × (s.deal ≡ identity) × (s.threshold ≡ t) × ¬ (length s.values.items ≡ width)
+IsFault t identity width before s k (Repeated place) = (place ≡ k) × IsSound s × IsOfDeal t identity width s × IsContradicted before s
+IsFault t identity width before s k _ = ⊥
+
+-- the refusal is the fault of the first share that does not stand with those before it
+abbrev pub IsFirstFault : ℕ → F → ℕ → List SecretShare → CombineError → Type 0
+IsFirstFault t identity width shares error =
+    (k : ℕ) × (s : SecretShare) × (k < length shares) × (slice_index_or shares k s ≡ s) × StandBelow t identity width shares k × IsFault t identity width (take k shares) s k error
+
+-- whether one of the shares has this index
+abbrev pub has_index : List SecretShare → ℕ → Bool
+has_index shares index = list_any (λ s. s.index == index) shares
+
+-- those that are kept, and after them each share whose index is none of those before it
+abbrev pub firsts_after : List SecretShare → List SecretShare → List SecretShare
+firsts_after kept [] = kept
+firsts_after kept (s ∷ shares) = firsts_after (if has_index kept s.index then kept else kept ++ (s ∷ [])) shares
+
+-- the shares, of each index the first
+abbrev pub firsts : List SecretShare → List SecretShare
+firsts shares = firsts_after [] shares
