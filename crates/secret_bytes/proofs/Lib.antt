@@ -8,3 +8,4 @@ pub mod RecoveredShares
 pub mod RefusedRecoveries
 pub mod CombinedShares
 pub mod AnyShares
+pub mod ExplainedSecrets

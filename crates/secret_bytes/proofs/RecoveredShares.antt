@@ -158,19 +158,23 @@ progress-end t width shares kept wrong all ready g count fit =
     only : (j : ℕ) (l : j < width) (q : List F) → AreWithinRadius goldilocks t q (column j shares) → AreSame goldilocks q (fit j l).polynomial
     only j l q h = within-once t (column j shares) (fit j l).polynomial q (apart-at j) (enough-at j) (radius j l) h
 
--- the shares of distinct indices are at distinct points other than zero
-pub distinct-points : (t width j : ℕ) (shares : List SecretShare) → AreReady t width shares → AreAtDistinctPoints goldilocks (column j shares)
-distinct-points t width j shares ready = (
+-- shares of distinct indices are at distinct points other than zero
+pub distinct-points-of : (j : ℕ) (shares : List SecretShare) → AreDistinct shares → All (λ s. 0 < s.index) shares → All (λ s. s.index < 2 ^ 32) shares → AreAtDistinctPoints goldilocks (column j shares)
+distinct-points-of j shares apart some few = (
   λ h.
       let below : h.0 < length shares = omega (arith, h.2, length-map shares (share_of j)) in
       let s = share-at shares h.0 below in
-      let plain : IsPlain width s.0 = subst (IsPlain width) s.1 (ready.plain h.0 s.0 below) in
+      let positive : 0 < s.0.index = subst (λ (u : SecretShare). 0 < u.index) s.1 (some h.0 s.0 below) in
+      let fits : s.0.index < 2 ^ 32 = subst (λ (u : SecretShare). u.index < 2 ^ 32) s.1 (few h.0 s.0 below) in
       let at : number (get_or (points goldilocks (column j shares)) h.0 h.1) ≡ s.0.index =
-      ap number (point-of j shares h.0 s.0 h.1 below s.1) ∙ point-number s.0.index (omega (arith, plain.small)) in
+      ap number (point-of j shares h.0 s.0 h.1 below s.1) ∙ point-number s.0.index (omega (arith, fits)) in
       let zero_at : number (get_or (points goldilocks (column j shares)) h.0 h.1) ≡ 0 = h.3 in
-      omega (arith, plain.some, at, zero_at),
-  points_apart j shares ready.apart (small t width shares ready),
+      omega (arith, positive, at, zero_at),
+  points_apart j shares apart few,
 )
+
+pub distinct-points : (t width j : ℕ) (shares : List SecretShare) → AreReady t width shares → AreAtDistinctPoints goldilocks (column j shares)
+distinct-points t width j shares ready = distinct-points-of j shares ready.apart (λ k d l. (ready.plain k d l).some) (small t width shares ready)
 
 index-at : (shares : List SecretShare) (i : ℕ) (s : SecretShare) → i < length shares → get_or shares i s ≡ s → get_or (map (λ s. s.index) shares) i 0 ≡ s.index
 index-at shares i s l e = get_or-map (λ (u : SecretShare). u.index) shares i s 0 l ∙ ap (λ (u : SecretShare). u.index) e

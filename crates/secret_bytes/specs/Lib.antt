@@ -2,6 +2,7 @@ pub mod Columns
 pub mod Combined
 pub mod CombiningLaws
 pub mod Deals
+pub mod Explanations
 pub mod Keyed
 pub mod Lines
 pub mod Passes
