@@ -104,17 +104,20 @@ fn by_limbs<R: Element>(alloc: Global, call: &str, arguments: &str) -> Result<R,
     out.map_err(Fault::Memory)
 }
 
+/// The sum of the points, each scaled, by `msm` or by `msm_naive`.
+fn sum<R: Element>(alloc: Global, call: &str, points: &[R], scalars: &[R]) -> Mem<R> {
+    match call {
+        "msm" => R::msm(alloc, points, scalars),
+        _ => msm_naive::<R, R>(alloc, points, scalars),
+    }
+}
+
 /// `msm P .. @ S ..`, `msm_naive P .. @ S ..`: the sum of the points, each scaled.
 fn weighted<R: Element>(alloc: Global, call: &str, arguments: &str) -> Result<R, Fault> {
     let (points, scalars) = parted(arguments, '@')?;
     let points = elements::<R>(alloc, points)?;
     let scalars = elements::<R>(alloc, scalars)?;
-    let sum = if call == "msm" {
-        R::msm(alloc, &points, &scalars)
-    } else {
-        msm_naive::<R, R>(alloc, &points, &scalars)
-    };
-    sum.map_err(Fault::Memory)
+    sum(alloc, call, &points, &scalars).map_err(Fault::Memory)
 }
 
 /// Adds the first powers of an element, each times `shift`.
@@ -145,16 +148,21 @@ fn progression<R: Element>(
     put_powers(alloc, shift, &base, count, answer).map_err(Fault::Memory)
 }
 
-/// `root_of_unity LG`: the root, or `none`.
-fn root<R: Element>(alloc: Global, arguments: &str, answer: &mut Answer<R>) -> Result<(), Fault> {
-    let lg = u8::try_from(number(arguments)?)
-        .ok()
-        .ok_or(Fault::OutOfRange("lg above 255"))?;
-    let done = match R::root_of_unity(alloc, lg)? {
+/// Adds the root of unity of the order 2^lg, or `none`.
+fn put_root<R: Element>(alloc: Global, lg: u8, answer: &mut Answer<R>) -> Mem<()> {
+    match R::root_of_unity(alloc, lg)? {
         Some(root) => answer.element(root),
         None => answer.text.push_str(" none"),
-    };
-    done.map_err(Fault::Memory)
+    }
+}
+
+/// `root_of_unity LG`: the root, or `none`.
+fn root<R: Element>(alloc: Global, arguments: &str, answer: &mut Answer<R>) -> Result<(), Fault> {
+    let lg = number(arguments)?;
+    if lg > 255 {
+        return Err(Fault::OutOfRange("lg above 255"));
+    }
+    put_root(alloc, lg as u8, answer).map_err(Fault::Memory)
 }
 
 /// `equals A ..`: for each element the place of the first that it equals.

@@ -23,9 +23,8 @@ impl<R: Element> Answer<R> {
 
     /// Adds an element.
     pub fn element(&mut self, x: R) -> Mem<()> {
-        self.text.push_str(" _")?;
         self.elements.push(x)?;
-        Ok(())
+        self.text.push_str(" _")
     }
 
     /// Adds the element that was found, or says why there is none.
@@ -35,9 +34,8 @@ impl<R: Element> Answer<R> {
 
     /// Adds an element with a key, as `K:E`.
     pub fn keyed(&mut self, key: u64, x: R) -> Mem<()> {
-        write!(self.text, " {key}:_")?;
         self.elements.push(x)?;
-        Ok(())
+        write!(self.text, " {key}:_")
     }
 
     /// Adds copies of elements.
@@ -77,10 +75,19 @@ fn is_element<R: Element>(
     x: Option<&R>,
     word: &str,
 ) -> Result<bool, Fault> {
-    match (x, word.strip_prefix(key)) {
-        (Some(x), Some(word)) => Ok(x.equals(alloc, &element::<R>(alloc, word)?)?),
-        _ => Ok(false),
+    let Some(x) = x else {
+        return Ok(false);
+    };
+    match word.strip_prefix(key) {
+        Some(word) => equals_word(alloc, x, word),
+        None => Ok(false),
     }
+}
+
+/// Whether an element equals that of a word.
+fn equals_word<R: Element>(alloc: Global, x: &R, word: &str) -> Result<bool, Fault> {
+    let y = element::<R>(alloc, word)?;
+    x.equals(alloc, &y).map_err(Fault::Memory)
 }
 
 /// Adds a number to a text.
@@ -96,6 +103,12 @@ pub fn put_all(text: &mut String, numbers: &[u64]) -> Mem<()> {
     Ok(())
 }
 
+/// Adds how many bytes are left.
+pub fn put_rest(text: &mut String, count: usize) -> Mem<()> {
+    text.push_str(" rest")?;
+    put(text, count as u64)
+}
+
 /// Adds bytes to a text, as two hexadecimal digits each.
 pub fn put_bytes(text: &mut String, bytes: &[u8]) -> Mem<()> {
     for byte in bytes {
@@ -108,8 +121,8 @@ pub fn put_bytes(text: &mut String, bytes: &[u8]) -> Mem<()> {
 fn first<T, E: Fn(&T, &T) -> Mem<bool>>(items: &[T], item: &T, equal: &E) -> Mem<u64>
     requires { E.IsAlwaysCallable equal.now }
 {
-    for (i, other) in items.iter().enumerate() {
-        if equal(other, item)? {
+    for i in 0..items.len() {
+        if equal(&items[i], item)? {
             return Ok(i as u64);
         }
     }

@@ -86,13 +86,22 @@ fn unpack(alloc: Global, arguments: &str, text: &mut String) -> Result<(), Fault
     put_all(text, &words).map_err(Fault::Memory)
 }
 
+/// Adds how many elements the words are packed into.
+fn put_packed_count(alloc: Global, words: &[u64], text: &mut String) -> Mem<()> {
+    let packed: Vec<F> = F::stream_from_u64s(words.iter().copied()).collect(alloc)?;
+    put(text, packed.len() as u64)
+}
+
+/// Adds the words that these elements hold.
+fn put_back(alloc: Global, words: &[u64], text: &mut String) -> Mem<()> {
+    let packed = F::stream_from_u64s(words.iter().copied());
+    let back: Vec<u64> = F::stream_to_u64s(packed).collect(alloc)?;
+    put_all(text, &back)
+}
+
 /// `pack_unpack W ..`: how many elements the words are packed into, and the words that these hold.
 fn pack_unpack(alloc: Global, arguments: &str, text: &mut String) -> Result<(), Fault> {
     let words = numbers(alloc, arguments)?;
-    let packed: Vec<F> = F::stream_from_u64s(words.iter().copied()).collect(alloc)?;
-    put(text, packed.len() as u64)?;
-    let back: Vec<u64> = F::stream_to_u64s(F::stream_from_u64s(words.iter().copied())).collect(
-        alloc,
-    )?;
-    put_all(text, &back).map_err(Fault::Memory)
+    put_packed_count(alloc, &words, text)?;
+    put_back(alloc, &words, text).map_err(Fault::Memory)
 }

@@ -2,7 +2,7 @@
 
 use crate::answer::put;
 use crate::fault::Fault;
-use crate::words::{number, numbers, parted};
+use crate::words::{numbers, pair, parted};
 use math_base::algebra::Mem;
 use math_codec::ordered::{BiMap, Map};
 use std::alloc::Global;
@@ -25,16 +25,20 @@ pub fn run(alloc: Global, call: &str, arguments: &str, text: &mut String) -> Res
 fn pairs(alloc: Global, text: &str) -> Result<Vec<(u64, u64)>, Fault> {
     let mut out = Vec::new(alloc);
     for word in text.split_whitespace() {
-        let (key, value) = parted(word, ':')?;
-        out.push((number(key)?, number(value)?))?;
+        out.push(pair(word, ':')?)?;
     }
     Ok(out)
 }
 
+/// Adds the number of pairs, and whether there is none.
+fn put_count(text: &mut String, count: usize, is_empty: bool) -> Mem<()> {
+    put(text, count as u64)?;
+    text.push_str(if is_empty { " empty" } else { " :" })
+}
+
 /// Adds the number of pairs, whether there is none, and the pairs.
 fn put_map(map: &Map<u64, u64>, text: &mut String) -> Mem<()> {
-    put(text, map.len() as u64)?;
-    text.push_str(if map.is_empty() { " empty" } else { " :" })?;
+    put_count(text, map.len(), map.is_empty())?;
     for (key, value) in map.keys().iter().zip(map.values()) {
         write!(text, " {key}:{value}")?;
     }
@@ -107,8 +111,7 @@ fn two_way_map(alloc: Global, arguments: &str) -> Result<Map<u64, u64>, Fault> {
 /// Adds the number of pairs, whether there is none, and for each number the value of it as a key and the
 /// key of it as a value.
 fn put_both_ways(map: &BiMap<u64, u64>, wanted: &[u64], text: &mut String) -> Mem<()> {
-    put(text, map.len() as u64)?;
-    text.push_str(if map.is_empty() { " empty" } else { " :" })?;
+    put_count(text, map.len(), map.is_empty())?;
     for n in wanted {
         put_found(text, map.get(n))?;
         put_found(text, map.get_key(n))?;

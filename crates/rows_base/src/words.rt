@@ -6,8 +6,10 @@ use std::alloc::Global;
 
 /// What stands before and after the first `mark` of a text.
 pub fn parted(text: &str, mark: char) -> Result<(&str, &str), Fault> {
-    text.split_once(mark)
-        .ok_or(Fault::Unreadable("mark between arguments"))
+    match text.split_once(mark) {
+        Some(parts) => Ok(parts),
+        None => Err(Fault::Unreadable("mark between arguments")),
+    }
 }
 
 /// A number in decimal, or in hexadecimal after `0x`.
@@ -16,20 +18,29 @@ pub fn number(word: &str) -> Result<u64, Fault> {
         Some(digits) => u64::from_str_radix(digits, 16),
         None => word.parse::<u64>(),
     };
-    read.ok().ok_or(Fault::Unreadable("number"))
+    match read {
+        Ok(n) => Ok(n),
+        Err(_) => Err(Fault::Unreadable("number")),
+    }
 }
 
 /// A number below 2^32.
 pub fn short(word: &str) -> Result<u32, Fault> {
-    u32::try_from(number(word.trim())?)
-        .ok()
-        .ok_or(Fault::OutOfRange("a number of 2^32 or more"))
+    match u32::try_from(number(word.trim())?) {
+        Ok(n) => Ok(n),
+        Err(_) => Err(Fault::OutOfRange("a number of 2^32 or more")),
+    }
+}
+
+/// Two numbers, with a mark between them.
+pub fn pair(text: &str, mark: char) -> Result<(u64, u64), Fault> {
+    let (a, b) = parted(text, mark)?;
+    Ok((number(a)?, number(b.trim())?))
 }
 
 /// Two numbers, with a space between them.
 pub fn two_numbers(text: &str) -> Result<(u64, u64), Fault> {
-    let (a, b) = parted(text.trim(), ' ')?;
-    Ok((number(a)?, number(b.trim())?))
+    pair(text.trim(), ' ')
 }
 
 /// A number, and how often it stands there: `n*count`, or n once.
@@ -80,29 +91,44 @@ pub fn elements<R: Element>(alloc: Global, text: &str) -> Result<Vec<R>, Fault> 
     Ok(out)
 }
 
+/// The pair `K:E` of a number and an element.
+fn keyed_element<R: Element>(alloc: Global, word: &str) -> Result<(u64, R), Fault> {
+    let (key, value) = parted(word, ':')?;
+    let key = number(key)?;
+    Ok((key, element::<R>(alloc, value)?))
+}
+
 /// The pairs `K:E` of a number and an element.
 pub fn keyed<R: Element>(alloc: Global, text: &str) -> Result<Vec<(u64, R)>, Fault> {
     let mut out = Vec::new(alloc);
     for word in text.split_whitespace() {
-        let (key, value) = parted(word, ':')?;
-        out.push((number(key)?, element::<R>(alloc, value)?))?;
+        out.push(keyed_element::<R>(alloc, word)?)?;
     }
     Ok(out)
+}
+
+/// Adds the byte that a word of two hexadecimal digits stands for, or the eight bytes of sixteen.
+fn push_bytes(out: &mut Vec<u8>, word: &str) -> Result<(), Fault> {
+    let Ok(n) = u64::from_str_radix(word, 16) else {
+        return Err(Fault::Unreadable("byte"));
+    };
+    if word.len() != 16 && n > 255 {
+        return Err(Fault::Unreadable("byte"));
+    }
+    let all = n.to_be_bytes();
+    let bytes = if word.len() == 16 {
+        &all[..]
+    } else {
+        &all[7..]
+    };
+    out.extend_from_slice(bytes).map_err(Fault::Memory)
 }
 
 /// The bytes that words stand for: two hexadecimal digits a byte, or sixteen for eight bytes.
 pub fn bytes(alloc: Global, text: &str) -> Result<Vec<u8>, Fault> {
     let mut out = Vec::new(alloc);
     for word in text.split_whitespace() {
-        let n = u64::from_str_radix(word, 16)
-            .ok()
-            .ok_or(Fault::Unreadable("byte"))?;
-        if word.len() == 16 {
-            out.extend_from_slice(&n.to_be_bytes())?;
-        } else {
-            let byte = u8::try_from(n).ok().ok_or(Fault::Unreadable("byte"))?;
-            out.push(byte)?;
-        }
+        push_bytes(&mut out, word)?;
     }
     Ok(out)
 }

@@ -1,8 +1,9 @@
 //! Bitmaps of points. One is written `LG I ..`: 2^LG points, and the indices of those that don't vanish.
 
+use crate::compared::put_firsts;
 use math_base::algebra::Mem;
 use math_ntt::ntt::VanishingPoints;
-use rows_base::answer::{put, put_firsts};
+use rows_base::answer::put;
 use rows_base::fault::Fault;
 use rows_base::words::{number, short};
 use std::alloc::Global;
@@ -87,8 +88,5 @@ fn same(alloc: Global, arguments: &str, text: &mut String) -> Result<(), Fault> 
     for part in arguments.split(';') {
         items.push(bitmap(alloc, part)?)?;
     }
-    put_firsts(text, &items, |a: &VanishingPoints, b: &VanishingPoints| {
-        Ok(a == b)
-    })
-    .map_err(Fault::Memory)
+    put_firsts(alloc, &items, text).map_err(Fault::Memory)
 }

@@ -2,5 +2,6 @@
 #![tactic(auto)]
 
 pub mod bitmaps;
+mod compared;
 pub mod matrices;
 pub mod vectors;

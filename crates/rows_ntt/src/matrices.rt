@@ -2,10 +2,11 @@
 
 ghost use Rattle.std.specs.Prelude.{◌≡◌, ◌*◌, length, IfOk};
 
+use crate::compared::put_firsts;
 use math_base::algebra::Mem;
 use math_ntt::ntt::Matrix;
 use math_samples::elements::Element;
-use rows_base::answer::{Answer, put, put_firsts};
+use rows_base::answer::{Answer, put};
 use rows_base::fault::Fault;
 use rows_base::words::{element, elements, number, parted, two_numbers};
 use std::alloc::Global;
@@ -127,10 +128,7 @@ fn product<R: Element>(alloc: Global, arguments: &str) -> Result<Matrix<R>, Faul
 /// `matrix_equals M ; N ; ..`: for each matrix the place of the first that it equals.
 fn same<R: Element>(alloc: Global, arguments: &str, answer: &mut Answer<R>) -> Result<(), Fault> {
     let items = matrices::<R>(alloc, arguments)?;
-    put_firsts(&mut answer.text, &items, |a: &Matrix<R>, b: &Matrix<R>| {
-        a.equals(alloc, b)
-    })
-    .map_err(Fault::Memory)
+    put_firsts(alloc, &items, &mut answer.text).map_err(Fault::Memory)
 }
 
 /// The cells of row i.

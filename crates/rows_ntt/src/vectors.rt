@@ -3,11 +3,12 @@
 ghost use Rattle.std.specs.Prelude.{◌≡◌, IfOk, IfSome};
 ghost use Rattle.std.specs.Int.{IsNextPowerOfTwo};
 
+use crate::compared::put_firsts;
 use crate::matrices::{matrix, put_matrix};
 use math_base::algebra::Mem;
 use math_ntt::ntt::{EvaluationVector, Matrix, PolynomialVector};
 use math_samples::elements::Element;
-use rows_base::answer::{Answer, put, put_firsts};
+use rows_base::answer::{Answer, put};
 use rows_base::fault::Fault;
 use rows_base::words::{elements, number, parted, two_numbers};
 use std::alloc::Global;
@@ -104,12 +105,7 @@ fn same_polynomials<R: Element>(
     for part in arguments.split(';') {
         items.push(copied::<R>(alloc, part)?)?;
     }
-    put_firsts(
-        &mut answer.text,
-        &items,
-        |a: &PolynomialVector<R>, b: &PolynomialVector<R>| a.equals(alloc, b),
-    )
-    .map_err(Fault::Memory)
+    put_firsts(alloc, &items, &mut answer.text).map_err(Fault::Memory)
 }
 
 /// Rows of values, some of which are filled.
@@ -188,10 +184,5 @@ fn same_evaluations<R: Element>(
     for part in arguments.split(';') {
         items.push(filled::<R>(alloc, part)?.vector)?;
     }
-    put_firsts(
-        &mut answer.text,
-        &items,
-        |a: &EvaluationVector<R>, b: &EvaluationVector<R>| a.equals(alloc, b),
-    )
-    .map_err(Fault::Memory)
+    put_firsts(alloc, &items, &mut answer.text).map_err(Fault::Memory)
 }

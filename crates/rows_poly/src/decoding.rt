@@ -37,6 +37,13 @@ fn put_division<R: Element>(
     put_quotient(alloc, &p, &d, answer)
 }
 
+/// Adds a list of elements, `;`, and another.
+fn put_two<R: Element>(alloc: Global, xs: &[R], ys: &[R], answer: &mut Answer<R>) -> Mem<()> {
+    answer.copies(alloc, xs)?;
+    answer.text.push_str(" ;")?;
+    answer.copies(alloc, ys)
+}
+
 /// Adds the quotient, `;`, and the remainder.
 fn put_quotient<R: Element>(
     alloc: Global,
@@ -48,9 +55,7 @@ fn put_quotient<R: Element>(
         return Err(Fault::OutOfRange("a division by zero"));
     };
     let (quotient, remainder) = divide(alloc, p, d)?;
-    answer.copies(alloc, &quotient)?;
-    answer.text.push_str(" ;")?;
-    answer.copies(alloc, &remainder).map_err(Fault::Memory)
+    put_two(alloc, &quotient, &remainder, answer).map_err(Fault::Memory)
 }
 
 /// `decode COUNT ; POINT .. ; VALUE ..`: the coefficients, `;`, and the wrong places, or `none`.

@@ -76,22 +76,25 @@ fn put_found<R: Element>(
     put_stored(alloc, &p?, answer).map_err(Fault::Memory)
 }
 
+/// The value at x, by `eval` or by `eval_msm`.
+fn value<R: Element>(alloc: Global, call: &str, p: &Poly<R>, x: &R) -> Mem<R> {
+    match call {
+        "eval" => p.eval(alloc, x),
+        _ => p.eval_msm(alloc, x),
+    }
+}
+
 /// `eval C .. @ X`, `eval_msm C .. @ X`: the value at X.
 fn eval<R: Element>(alloc: Global, call: &str, arguments: &str) -> Result<R, Fault> {
     let (coefficients, point) = parted(arguments, '@')?;
     let p = polynomial::<R>(alloc, coefficients)?;
     let x = element::<R>(alloc, point)?;
-    let value = if call == "eval" {
-        p.eval(alloc, &x)
-    } else {
-        p.eval_msm(alloc, &x)
-    };
-    value.map_err(Fault::Memory)
+    value(alloc, call, &p, &x).map_err(Fault::Memory)
 }
 
-/// The weight and the point of `W:X`.
-fn weighted_point<R: Element>(alloc: Global, word: &str) -> Result<(R, R), Fault> {
-    let (weight, point) = parted(word, ':')?;
+/// The weight and the point of `W:X`, with this mark between them.
+pub fn weighted_point<R: Element>(alloc: Global, word: &str, mark: char) -> Result<(R, R), Fault> {
+    let (weight, point) = parted(word, mark)?;
     let weight = element::<R>(alloc, weight)?;
     Ok((weight, element::<R>(alloc, point)?))
 }
@@ -100,7 +103,7 @@ fn weighted_point<R: Element>(alloc: Global, word: &str) -> Result<(R, R), Fault
 fn weighted_points<R: Element>(alloc: Global, text: &str) -> Result<Vec<(R, R)>, Fault> {
     let mut out = Vec::new(alloc);
     for word in text.split_whitespace() {
-        out.push(weighted_point::<R>(alloc, word)?)?;
+        out.push(weighted_point::<R>(alloc, word, ':')?)?;
     }
     Ok(out)
 }

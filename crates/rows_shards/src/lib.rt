@@ -5,25 +5,25 @@ use math_base::algebra::Mem;
 use math_base::fields::goldilocks::F;
 use math_codec::codec::{EncodeSize, Read, Write};
 use math_samples::elements::Element;
-use math_shards::shards::{Error, Shard, join, join_corrected, split};
-use rows_base::answer::{put, put_all, put_bytes};
+use math_shards::shards::{Error, Joined, Shard, join, join_corrected, split};
+use rows_base::answer::{put, put_all, put_bytes, put_rest};
 use rows_base::fault::Fault;
 use rows_base::words::{bytes, elements, numbers, parted, short};
-use std::alloc::Global;
+use std::alloc::{AllocError, Global};
 
 /// Runs a call of this module; `false` where it is none.
 pub fn run(alloc: Global, call: &str, arguments: &str, text: &mut String) -> Result<bool, Fault> {
-    match call {
-        "split" => split_words(alloc, arguments, text)?,
-        "join" => join_shards(alloc, arguments, text)?,
-        "join_corrected" => join_wrong_shards(alloc, arguments, text)?,
-        "join_each_pair" => join_each_pair(alloc, arguments, text)?,
-        "join_each_set" => join_each_set(alloc, arguments, text)?,
-        "write_shard" => write_shard(alloc, arguments, text)?,
-        "read_shard" => read_shard(alloc, arguments, text)?,
+    let done = match call {
+        "split" => split_words(alloc, arguments, text),
+        "join" => join_shards(alloc, arguments, text),
+        "join_corrected" => join_wrong_shards(alloc, arguments, text),
+        "join_each_pair" => join_each_pair(alloc, arguments, text),
+        "join_each_set" => join_each_set(alloc, arguments, text),
+        "write_shard" => write_shard(alloc, arguments, text),
+        "read_shard" => read_shard(alloc, arguments, text),
         _ => return Ok(false),
-    }
-    Ok(true)
+    };
+    done.and(Ok(true))
 }
 
 /// Adds a shard: index, `min`, `total`, `:` and the cells.
@@ -45,11 +45,13 @@ fn shard_in(alloc: Global, text: &str) -> Result<Shard, Fault> {
     let (Some(index), Some(min), Some(total)) = (words.next(), words.next(), words.next()) else {
         return Err(Fault::Unreadable("shard"));
     };
+    let (index, min, total) = (short(index)?, short(min)?, short(total)?);
+    let cells = elements::<F>(alloc, cells)?;
     Ok(Shard {
-        index: short(index)?,
-        min: short(min)?,
-        total: short(total)?,
-        cells: elements::<F>(alloc, cells)?,
+        index,
+        min,
+        total,
+        cells,
     })
 }
 
@@ -61,12 +63,14 @@ fn shards_of(alloc: Global, data: &[u64], min: u32, total: u32) -> Result<Vec<Sh
     Ok(split(alloc, data, min, total)?)
 }
 
-/// `split MIN TOTAL ; W ..`: the shards, with `;` between them.
-fn split_words(alloc: Global, arguments: &str, text: &mut String) -> Result<(), Fault> {
-    let (head, data) = parted(arguments, ';')?;
-    let (min, total) = parted(head.trim(), ' ')?;
-    let data = numbers(alloc, data)?;
-    let shards = shards_of(alloc, &data, short(min)?, short(total)?)?;
+/// `MIN TOTAL`, of which neither is above 2^32 - 1.
+fn min_and_total(text: &str) -> Result<(u32, u32), Fault> {
+    let (min, total) = parted(text.trim(), ' ')?;
+    Ok((short(min)?, short(total)?))
+}
+
+/// Adds shards, with `;` between them.
+fn put_shards(text: &mut String, shards: &[Shard]) -> Mem<()> {
     for (i, shard) in shards.iter().enumerate() {
         if i > 0 {
             text.push_str(" ;")?;
@@ -76,17 +80,35 @@ fn split_words(alloc: Global, arguments: &str, text: &mut String) -> Result<(), 
     Ok(())
 }
 
-/// Adds the words that shards give back, after `data`, or why they give none.
-fn put_joined(alloc: Global, shards: &[Shard], text: &mut String) -> Result<(), Fault> {
-    match join(alloc, shards) {
-        Ok(data) => {
-            text.push_str(" data")?;
-            put_all(text, &data)?;
-        }
-        Err(Error::Memory(e)) => return Err(Fault::Memory(e)),
-        Err(error) => write!(text, " refused {error}")?,
+/// `split MIN TOTAL ; W ..`: the shards, with `;` between them.
+fn split_words(alloc: Global, arguments: &str, text: &mut String) -> Result<(), Fault> {
+    let (head, data) = parted(arguments, ';')?;
+    let (min, total) = min_and_total(head)?;
+    let data = numbers(alloc, data)?;
+    let shards = shards_of(alloc, &data, min, total)?;
+    put_shards(text, &shards).map_err(Fault::Memory)
+}
+
+/// Adds words, after `data`.
+fn put_data(text: &mut String, words: &[u64]) -> Mem<()> {
+    text.push_str(" data")?;
+    put_all(text, words)
+}
+
+/// Adds why shards give no words.
+fn put_refusal(text: &mut String, error: &Error) -> Mem<()> {
+    match error {
+        Error::Memory(_) => Err(AllocError),
+        _ => write!(text, " refused {error}"),
     }
-    Ok(())
+}
+
+/// Adds the words that shards give back, after `data`, or why they give none.
+fn put_joined(alloc: Global, shards: &[Shard], text: &mut String) -> Mem<()> {
+    match join(alloc, shards) {
+        Ok(data) => put_data(text, &data),
+        Err(error) => put_refusal(text, &error),
+    }
 }
 
 /// The shards that a text writes, with `;` between them.
@@ -103,25 +125,37 @@ fn shards_in(alloc: Global, text: &str) -> Result<Vec<Shard>, Fault> {
 /// `join INDEX MIN TOTAL : CELL .. ; ..`: `data` and the words, or the refusal.
 fn join_shards(alloc: Global, arguments: &str, text: &mut String) -> Result<(), Fault> {
     let shards = shards_in(alloc, arguments)?;
-    put_joined(alloc, &shards, text)
+    put_joined(alloc, &shards, text).map_err(Fault::Memory)
+}
+
+/// Adds the words, after `data`, and the positions, after `left out`.
+fn put_corrected(text: &mut String, joined: &Joined) -> Mem<()> {
+    put_data(text, &joined.words)?;
+    text.push_str(" left out")?;
+    for position in &joined.left_out {
+        put(text, *position as u64)?;
+    }
+    Ok(())
 }
 
 /// `join_corrected SHARD ; ..`: `data` and the words, `left out` and the positions, or the refusal.
 fn join_wrong_shards(alloc: Global, arguments: &str, text: &mut String) -> Result<(), Fault> {
     let shards = shards_in(alloc, arguments)?;
-    match join_corrected(alloc, &shards) {
-        Ok(joined) => {
-            text.push_str(" data")?;
-            put_all(text, &joined.words)?;
-            text.push_str(" left out")?;
-            for position in &joined.left_out {
-                put(text, *position as u64)?;
-            }
-        }
-        Err(Error::Memory(e)) => return Err(Fault::Memory(e)),
-        Err(error) => write!(text, " refused {error}")?,
+    let done = match join_corrected(alloc, &shards) {
+        Ok(joined) => put_corrected(text, &joined),
+        Err(error) => put_refusal(text, &error),
+    };
+    done.map_err(Fault::Memory)
+}
+
+/// Copies of the shards, with one more in cell k of each of two.
+fn with_pair_changed(alloc: Global, shards: &[Shard], pair: &[usize], k: usize) -> Mem<Vec<Shard>> {
+    let mut out = Vec::new(alloc);
+    for (position, shard) in shards.iter().enumerate() {
+        let cell = pair.contains(&position).then_some(k);
+        out.push(copy_of(alloc, shard, cell)?)?;
     }
-    Ok(())
+    Ok(out)
 }
 
 /// Whether the shards, with one more in cell k of each of two, are corrected to the words, and these
@@ -132,38 +166,40 @@ fn is_pair_left_out(
     pair: &[usize],
     k: usize,
     words: &[u64],
-) -> Result<bool, Fault> {
-    let mut given = Vec::new(alloc);
-    for (position, shard) in shards.iter().enumerate() {
-        let cell = pair.contains(&position).then_some(k);
-        given.push(copy_of(alloc, shard, cell)?)?;
-    }
+) -> Mem<bool> {
+    let given = with_pair_changed(alloc, shards, pair, k)?;
     match join_corrected(alloc, &given) {
         Ok(joined) => Ok(joined.words.as_slice() == words && joined.left_out.as_slice() == pair),
-        Err(Error::Memory(e)) => Err(Fault::Memory(e)),
+        Err(Error::Memory(e)) => Err(e),
         Err(_) => Ok(false),
     }
+}
+
+/// For how many pairs of shards and cells of these, with one more in this cell of both, the words are given
+/// back and the pair is left out.
+fn pairs_left_out(alloc: Global, shards: &[Shard], words: &[u64]) -> Mem<u64> {
+    let mut found = 0u64;
+    for i in 0..shards.len() {
+        for j in i + 1..shards.len() {
+            for k in 0..shards[i].cells.len() {
+                if is_pair_left_out(alloc, shards, &[i, j], k, words)? {
+                    found = found.saturating_add(1);
+                }
+            }
+        }
+    }
+    Ok(found)
 }
 
 /// `join_each_pair MIN TOTAL ; W ..`: for how many pairs of shards and cells of these, with one more
 /// in this cell of both, the words are given back and the pair is left out.
 fn join_each_pair(alloc: Global, arguments: &str, text: &mut String) -> Result<(), Fault> {
     let (head, data) = parted(arguments, ';')?;
-    let (min, total) = parted(head.trim(), ' ')?;
+    let (min, total) = min_and_total(head)?;
     let data = numbers(alloc, data)?;
-    let shards = shards_of(alloc, &data, short(min)?, short(total)?)?;
-    let mut found = 0u64;
-    for i in 0..shards.len() {
-        for j in i + 1..shards.len() {
-            for k in 0..shards[i].cells.len() {
-                if is_pair_left_out(alloc, &shards, &[i, j], k, &data)? {
-                    found = found.saturating_add(1);
-                }
-            }
-        }
-    }
-    put(text, found)?;
-    Ok(())
+    let shards = shards_of(alloc, &data, min, total)?;
+    let found = pairs_left_out(alloc, &shards, &data)?;
+    put(text, found).map_err(Fault::Memory)
 }
 
 /// A copy of a shard, with one more in a cell where `changed` names it.
@@ -202,6 +238,12 @@ fn chosen(
     Ok(out)
 }
 
+/// Whether the shards of a set, with one more in cell k of shard `changed`, are of no data.
+fn is_damage_found(alloc: Global, shards: &[Shard], set: u64, changed: u32, k: usize) -> Mem<bool> {
+    let all = chosen(alloc, shards, set, changed, Some(k))?;
+    is_of_no_data(alloc, &all)
+}
+
 /// In how many ways a shard of a set with one more in a cell, beside a further shard, is found to be
 /// of no data.
 fn damages_found(alloc: Global, shards: &[Shard], set: u64) -> Mem<u64> {
@@ -213,14 +255,8 @@ fn damages_found(alloc: Global, shards: &[Shard], set: u64) -> Mem<u64> {
                 && further.index != changed.index
             {
                 for k in 0..changed.cells.len() {
-                    let all = chosen(
-                        alloc,
-                        shards,
-                        set | 1 << further.index,
-                        changed.index,
-                        Some(k),
-                    )?;
-                    if is_of_no_data(alloc, &all)? {
+                    let all = set | 1 << further.index;
+                    if is_damage_found(alloc, shards, all, changed.index, k)? {
                         found = found.saturating_add(1);
                     }
                 }
@@ -248,31 +284,54 @@ fn give_back(alloc: Global, shards: &[Shard], data: &[u64]) -> Mem<bool> {
     }
 }
 
+/// Whether the shards of a set give these words back.
+fn set_gives_back(alloc: Global, shards: &[Shard], set: u64, data: &[u64]) -> Mem<bool> {
+    let some = chosen(alloc, shards, set, 0, None)?;
+    give_back(alloc, &some, data)
+}
+
+/// How many sets of `min` shards below `sets` give the words back, and in how many ways one more in a cell of
+/// such a set, beside a further shard, is refused as of no data.
+fn sets_joined(
+    alloc: Global,
+    shards: &[Shard],
+    data: &[u64],
+    min: u32,
+    sets: u64,
+) -> Mem<(u64, u64)> {
+    let mut joined = 0u64;
+    let mut found = 0u64;
+    for set in 0..sets {
+        if set.count_ones() == min {
+            if set_gives_back(alloc, shards, set, data)? {
+                joined = joined.saturating_add(1);
+            }
+            found = found.saturating_add(damages_found(alloc, shards, set)?);
+        }
+    }
+    Ok((joined, found))
+}
+
 /// `join_each_set MIN TOTAL ; W ..`: how many sets of `min` shards give the words back, and in how many
 /// ways one more in a cell of such a set, beside a further shard, is refused as of no data.
 fn join_each_set(alloc: Global, arguments: &str, text: &mut String) -> Result<(), Fault> {
     let (head, data) = parted(arguments, ';')?;
-    let (min, total) = parted(head.trim(), ' ')?;
-    let data = numbers(alloc, data)?;
-    let (min, total) = (short(min)?, short(total)?);
+    let (min, total) = min_and_total(head)?;
     if total > 16 {
         return Err(Fault::OutOfRange("too many sets"));
     }
+    let data = numbers(alloc, data)?;
     let shards = shards_of(alloc, &data, min, total)?;
-    let mut joined = 0u64;
-    let mut found = 0u64;
-    for set in 0..1u64 << total {
-        if set.count_ones() == min {
-            let some = chosen(alloc, &shards, set, total, None)?;
-            if give_back(alloc, &some, &data)? {
-                joined = joined.saturating_add(1);
-            }
-            found = found.saturating_add(damages_found(alloc, &shards, set)?);
-        }
-    }
+    let (joined, found) = sets_joined(alloc, &shards, &data, min, 1 << total)?;
     put(text, joined)?;
-    put(text, found)?;
-    Ok(())
+    put(text, found).map_err(Fault::Memory)
+}
+
+/// Adds bytes, and how many a value says that there are.
+fn put_written(text: &mut String, bytes: &[u8], size: usize) -> Mem<()> {
+    put_bytes(text, bytes)?;
+    text.push_str(" size")?;
+    put(text, size as u64)
 }
 
 /// `write_shard INDEX MIN TOTAL : CELL ..`: the bytes, and how many there are.
@@ -283,10 +342,7 @@ fn write_shard(alloc: Global, arguments: &str, text: &mut String) -> Result<(), 
     }
     let mut out = Vec::new(alloc);
     shard.write(alloc, &mut out)?;
-    put_bytes(text, &out)?;
-    text.push_str(" size")?;
-    put(text, shard.encode_size() as u64)?;
-    Ok(())
+    put_written(text, &out, shard.encode_size()).map_err(Fault::Memory)
 }
 
 /// `read_shard MOST @ BYTE ..`: the shard, `rest` and how many bytes are left.
@@ -297,7 +353,5 @@ fn read_shard(alloc: Global, arguments: &str, text: &mut String) -> Result<(), F
     let mut rest: &[u8] = &given;
     let shard = Shard::read_cfg(alloc, &mut rest, &most)?;
     put_shard(text, &shard)?;
-    text.push_str(" rest")?;
-    put(text, rest.len() as u64)?;
-    Ok(())
+    put_rest(text, rest.len()).map_err(Fault::Memory)
 }
