@@ -1,6 +1,9 @@
 //! The commands, over what was read.
 
-ghost use Rattle.std.specs.Prelude.{◌<◌, ◌≤◌, IfOk};
+ghost use Rattle.std.specs.Prelude.{◌≡◌, ◌<◌, ◌≤◌, List, IfOk};
+ghost use Rattle.share_lines.specs.declared.shares.SecretShare.{SecretShare};
+ghost use Rattle.secret_bytes.specs.Deals.{AreDealtBytes};
+ghost use Rattle.secret_bytes.specs.Lines.{lines_spelling};
 
 use crate::fault::Fault;
 use rand_core::{CryptoRng, Rng};
@@ -51,6 +54,9 @@ pub fn dealt<G: Rng + CryptoRng>(
 ) -> Result<Told, Fault>
     requires some { 0 < t }
     requires enough { t ≤ n }
+    ensures { IfOk result (λ told. (shares : List SecretShare)
+        × AreDealtBytes secret.now t n (G.stream rng.old) (G.stream rng.new) shares
+        × (told.out.items ≡ lines_spelling shares)) }
 {
     if secret.len() > MOST_BYTES {
         return Err(Fault::TooLong);
