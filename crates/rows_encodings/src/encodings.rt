@@ -10,7 +10,7 @@ use math_codec::codec::{
 };
 use math_ntt::ntt::Matrix;
 use math_poly::poly::Poly;
-use rows_base::answer::{put, put_all, put_bytes};
+use rows_base::answer::{put, put_all, put_bytes, put_rest};
 use rows_base::fault::Fault;
 use rows_base::goldilocks::put_element;
 use rows_base::words::{bytes, element, number, numbers, parted, short};
@@ -20,17 +20,17 @@ use std::alloc::Global;
 
 /// Runs a call of this module; `false` where it is none.
 pub fn run(alloc: Global, call: &str, arguments: &str, text: &mut String) -> Result<bool, Fault> {
-    match call {
-        "read" => read(alloc, arguments, text)?,
-        "beginnings" => beginnings(alloc, arguments, text)?,
-        "decode_words" => decode_words(alloc, arguments, text)?,
-        "decode_poly" => decode_poly(alloc, arguments, text)?,
-        "write" => write(alloc, arguments, text)?,
-        "sizes" => sizes(text)?,
-        "max_encode_size" => greatest(arguments, text)?,
+    let done = match call {
+        "read" => read(alloc, arguments, text),
+        "beginnings" => beginnings(alloc, arguments, text),
+        "decode_words" => decode_words(alloc, arguments, text),
+        "decode_poly" => decode_poly(alloc, arguments, text),
+        "write" => write(alloc, arguments, text),
+        "sizes" => sizes(text).map_err(Fault::Memory),
+        "max_encode_size" => greatest(arguments, text),
         _ => return Ok(false),
-    }
-    Ok(true)
+    };
+    done.and(Ok(true))
 }
 
 /// A range of lengths: `A..B`, `..B` or `=A`, and after it `nonzero` where zero is left out.
@@ -92,8 +92,8 @@ fn decode_words(alloc: Global, arguments: &str, text: &mut String) -> Result<(),
     let (range, all) = parted(arguments, '@')?;
     let cfg = (range_of(range)?, ());
     let all = bytes(alloc, all)?;
-    put_all(text, &decode::<Vec<u64>>(alloc, &all, &cfg)?)?;
-    Ok(())
+    let words = decode::<Vec<u64>>(alloc, &all, &cfg)?;
+    put_all(text, &words).map_err(Fault::Memory)
 }
 
 /// `decode_poly RANGE @ BYTE ..`: the numbers.
@@ -101,8 +101,8 @@ fn decode_poly(alloc: Global, arguments: &str, text: &mut String) -> Result<(), 
     let (range, all) = parted(arguments, '@')?;
     let cfg = (range_of(range)?, ());
     let all = bytes(alloc, all)?;
-    put_poly(&decode::<Poly<F>>(alloc, &all, &cfg)?, text)?;
-    Ok(())
+    let p = decode::<Poly<F>>(alloc, &all, &cfg)?;
+    put_poly(&p, text).map_err(Fault::Memory)
 }
 
 /// `sizes`: sizes and greatest sizes of words and of elements.
@@ -113,26 +113,44 @@ fn sizes(text: &mut String) -> Mem<()> {
     put(text, F::MAX_ENCODE_SIZE as u64)
 }
 
+/// Reads a `length`.
+fn take_length(alloc: Global, input: &mut &[u8], text: &mut String) -> Result<(), Fault> {
+    let n = read_len(alloc, input)?;
+    put(text, u64::from(n)).map_err(Fault::Memory)
+}
+
+/// Reads a `word`.
+fn take_word(alloc: Global, input: &mut &[u8], text: &mut String) -> Result<(), Fault> {
+    let word = u64::read_cfg(alloc, input, &())?;
+    put(text, word).map_err(Fault::Memory)
+}
+
+/// Reads an `element`.
+fn take_element(alloc: Global, input: &mut &[u8], text: &mut String) -> Result<(), Fault> {
+    let x = F::read_cfg(alloc, input, &())?;
+    put_element(text, x).map_err(Fault::Memory)
+}
+
 /// Reads `words` with the range of their number.
 fn take_words(alloc: Global, cfg: &str, input: &mut &[u8], text: &mut String) -> Result<(), Fault> {
     let cfg = (range_of(cfg)?, ());
-    put_all(text, &Vec::<u64>::read_cfg(alloc, input, &cfg)?)?;
-    Ok(())
+    let words = Vec::<u64>::read_cfg(alloc, input, &cfg)?;
+    put_all(text, &words).map_err(Fault::Memory)
 }
 
 /// Reads `lists` of words with the ranges of their number and of that of the words of each.
 fn take_lists(alloc: Global, cfg: &str, input: &mut &[u8], text: &mut String) -> Result<(), Fault> {
     let (outer, inner) = parted(cfg, ' ')?;
     let cfg = (range_of(outer)?, (range_of(inner)?, ()));
-    put_lists(&Vec::<Vec<u64>>::read_cfg(alloc, input, &cfg)?, text)?;
-    Ok(())
+    let lists = Vec::<Vec<u64>>::read_cfg(alloc, input, &cfg)?;
+    put_lists(&lists, text).map_err(Fault::Memory)
 }
 
 /// Reads a `poly` with the range of its length.
 fn take_poly(alloc: Global, cfg: &str, input: &mut &[u8], text: &mut String) -> Result<(), Fault> {
     let cfg = (range_of(cfg)?, ());
-    put_poly(&Poly::<F>::read_cfg(alloc, input, &cfg)?, text)?;
-    Ok(())
+    let p = Poly::<F>::read_cfg(alloc, input, &cfg)?;
+    put_poly(&p, text).map_err(Fault::Memory)
 }
 
 /// Reads a `matrix` with the greatest count.
@@ -143,41 +161,42 @@ fn take_matrix(
     text: &mut String,
 ) -> Result<(), Fault> {
     let cfg = (short(cfg)?, ());
-    put_matrix(&Matrix::<F>::read_cfg(alloc, input, &cfg)?, text)?;
-    Ok(())
+    let m = Matrix::<F>::read_cfg(alloc, input, &cfg)?;
+    put_matrix(&m, text).map_err(Fault::Memory)
 }
 
-/// Reads a value from the front of the input, and adds it: a `length`, a `word`, an `element`, or one of
-/// those above.
+/// Reads a value of a kind from the front of the input, and adds it.
 fn take(alloc: Global, kind: &str, input: &mut &[u8], text: &mut String) -> Result<(), Fault> {
     let (kind, cfg) = kind.trim().split_once(' ').unwrap_or((kind.trim(), ""));
     match kind {
-        "length" => put(text, u64::from(read_len(alloc, input)?))?,
-        "word" => put(text, u64::read_cfg(alloc, input, &())?)?,
-        "element" => put_element(text, F::read_cfg(alloc, input, &())?)?,
-        "words" => take_words(alloc, cfg, input, text)?,
-        "lists" => take_lists(alloc, cfg, input, text)?,
-        "poly" => take_poly(alloc, cfg, input, text)?,
-        "matrix" => take_matrix(alloc, cfg, input, text)?,
-        _ => return Err(Fault::Unreadable("kind")),
+        "length" => take_length(alloc, input, text),
+        "word" => take_word(alloc, input, text),
+        "element" => take_element(alloc, input, text),
+        "words" => take_words(alloc, cfg, input, text),
+        "lists" => take_lists(alloc, cfg, input, text),
+        "poly" => take_poly(alloc, cfg, input, text),
+        "matrix" => take_matrix(alloc, cfg, input, text),
+        _ => Err(Fault::Unreadable("kind")),
     }
-    Ok(())
 }
 
-/// `read KIND @ BYTE ..`: the value, and how many bytes are left. Where it is refused, the input has to
-/// stand as it was.
-fn read(alloc: Global, arguments: &str, text: &mut String) -> Result<(), Fault> {
-    let (kind, all) = parted(arguments, '@')?;
-    let all = bytes(alloc, all)?;
-    let mut input = all.as_slice();
+/// Reads a value from bytes, and adds how many are left. Where it is refused, the input has to stand as it
+/// was.
+fn read_all(alloc: Global, kind: &str, all: &[u8], text: &mut String) -> Result<(), Fault> {
+    let mut input = all;
     let taken = take(alloc, kind, &mut input, text);
     if taken.is_err() && input.len() != all.len() {
         return Err(Fault::Unreadable("input that stands"));
     }
     taken?;
-    text.push_str(" rest")?;
-    put(text, input.len() as u64)?;
-    Ok(())
+    put_rest(text, input.len()).map_err(Fault::Memory)
+}
+
+/// `read KIND @ BYTE ..`: the value, and how many bytes are left.
+fn read(alloc: Global, arguments: &str, text: &mut String) -> Result<(), Fault> {
+    let (kind, all) = parted(arguments, '@')?;
+    let all = bytes(alloc, all)?;
+    read_all(alloc, kind, &all, text)
 }
 
 /// Whether the first n bytes are refused as ended, the input standing as it was.
@@ -199,8 +218,7 @@ fn beginnings(alloc: Global, arguments: &str, text: &mut String) -> Result<(), F
     for n in 0..all.len() {
         refused = refused.saturating_add(u64::from(ends_early(alloc, kind, &all, n)));
     }
-    put(text, refused)?;
-    Ok(())
+    put(text, refused).map_err(Fault::Memory)
 }
 
 /// Writes a value, and answers the number of bytes that it says.
@@ -216,14 +234,19 @@ fn written(alloc: Global, kind: &str, value: &str, out: &mut Vec<u8>) -> Result<
     }
 }
 
+/// Adds the number of bytes that a value says, and the bytes.
+fn put_written(text: &mut String, size: usize, bytes: &[u8]) -> Mem<()> {
+    put(text, size as u64)?;
+    text.push_str(" :")?;
+    put_bytes(text, bytes)
+}
+
 /// `write KIND @ VALUE`: the number of bytes, and the bytes.
 fn write(alloc: Global, arguments: &str, text: &mut String) -> Result<(), Fault> {
     let (kind, value) = parted(arguments, '@')?;
     let mut out = Vec::new(alloc);
-    put(text, written(alloc, kind, value, &mut out)? as u64)?;
-    text.push_str(" :")?;
-    put_bytes(text, &out)?;
-    Ok(())
+    let size = written(alloc, kind, value, &mut out)?;
+    put_written(text, size, &out).map_err(Fault::Memory)
 }
 
 fn written_length(alloc: Global, value: &str, out: &mut Vec<u8>) -> Result<usize, Fault> {
@@ -278,6 +301,5 @@ fn greatest(arguments: &str, text: &mut String) -> Result<(), Fault> {
         return Err(Fault::OutOfRange("a length of more than five bytes"));
     }
     put(text, Poly::<F>::max_encode_size(n) as u64)?;
-    put(text, Poly::<u64>::max_encode_size(n) as u64)?;
-    Ok(())
+    put(text, Poly::<u64>::max_encode_size(n) as u64).map_err(Fault::Memory)
 }

@@ -1,6 +1,6 @@
 //! Samples of a source, whose words are listed.
 
-use math_base::algebra::Random;
+use math_base::algebra::{Mem, Random};
 use math_ntt::ntt::Matrix;
 use math_poly::poly::Poly;
 use math_samples::elements::Element;
@@ -20,20 +20,36 @@ pub fn run<R: Element + Random>(
     answer: &mut Answer<R>,
 ) -> Result<bool, Fault> {
     match call {
-        "random" | "poly_random" | "poly_random_with_constant" | "matrix_random" => {}
-        _ => return Ok(false),
+        "random" | "poly_random" | "poly_random_with_constant" | "matrix_random" => {
+            put_sample(alloc, call, arguments, answer).and(Ok(true))
+        }
+        _ => Ok(false),
     }
+}
+
+/// Adds the sample, and how many words are left.
+fn put_sample<R: Element + Random>(
+    alloc: Global,
+    call: &str,
+    arguments: &str,
+    answer: &mut Answer<R>,
+) -> Result<(), Fault> {
     let (how, words) = parted(arguments, '@')?;
     let words = numbers(alloc, words)?;
     let mut source = Listed::new(&words);
-    match call {
-        "random" => answer.element(R::random(alloc, &mut source)?)?,
-        "matrix_random" => matrix(alloc, how, &mut source, answer)?,
-        _ => polynomial(alloc, how, &mut source, answer)?,
-    }
-    answer.text.push_str(" left")?;
-    put(&mut answer.text, source.left() as u64)?;
-    Ok(true)
+    let done = match call {
+        "random" => answer.found(R::random(alloc, &mut source).map_err(Fault::Source)),
+        "matrix_random" => matrix(alloc, how, &mut source, answer),
+        _ => put_polynomial(alloc, polynomial(alloc, how, &mut source), answer),
+    };
+    done?;
+    put_left(&mut answer.text, source.left()).map_err(Fault::Memory)
+}
+
+/// Adds how many words are left.
+fn put_left(text: &mut String, count: usize) -> Mem<()> {
+    text.push_str(" left")?;
+    put(text, count as u64)
 }
 
 /// `matrix_random ROWS COLUMNS @ W ..`: the matrix.
@@ -49,28 +65,32 @@ fn matrix<R: Element + Random>(
         return Err(Fault::OutOfRange("2^64 cells"));
     }
     let m = Matrix::<R>::rand(alloc, source, rows, cols)?;
-    put_matrix(alloc, &m, answer)?;
-    Ok(())
+    put_matrix(alloc, &m, answer).map_err(Fault::Memory)
 }
 
-/// `poly_random DEGREE @ W ..`, `poly_random DEGREE CONSTANT @ W ..`: the stored coefficients.
+/// Adds the stored coefficients of the polynomial that was found, or says why there is none.
+fn put_polynomial<R: Element>(
+    alloc: Global,
+    p: Result<Poly<R>, Fault>,
+    answer: &mut Answer<R>,
+) -> Result<(), Fault> {
+    put_stored(alloc, &p?, answer).map_err(Fault::Memory)
+}
+
+/// `poly_random DEGREE @ W ..`, `poly_random_with_constant DEGREE CONSTANT @ W ..`: the polynomial.
 fn polynomial<R: Element + Random>(
     alloc: Global,
     how: &str,
     source: &mut Listed<'_>,
-    answer: &mut Answer<R>,
-) -> Result<(), Fault> {
+) -> Result<Poly<R>, Fault> {
     let (degree, constant) = how.trim().split_once(' ').unwrap_or((how, ""));
     let degree = short(degree)?;
     if degree == u32::MAX {
         return Err(Fault::OutOfRange("2^32 coefficients"));
     }
-    let p = if constant.is_empty() {
-        Poly::<R>::new(alloc, source, degree)?
-    } else {
-        let constant = element::<R>(alloc, constant)?;
-        Poly::<R>::new_with_constant(alloc, source, degree, constant)?
-    };
-    put_stored(alloc, &p, answer)?;
-    Ok(())
+    if constant.is_empty() {
+        return Poly::<R>::new(alloc, source, degree).map_err(Fault::Source);
+    }
+    let constant = element::<R>(alloc, constant)?;
+    Poly::<R>::new_with_constant(alloc, source, degree, constant).map_err(Fault::Source)
 }

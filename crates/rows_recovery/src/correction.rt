@@ -19,10 +19,9 @@ pub fn run<R: Element>(
     answer: &mut Answer<R>,
 ) -> Result<bool, Fault> {
     match call {
-        "correct" => correct(alloc, arguments, answer)?,
-        _ => return Ok(false),
+        "correct" => correct(alloc, arguments, answer).and(Ok(true)),
+        _ => Ok(false),
     }
-    Ok(true)
 }
 
 /// What `correct_counted` answers, where it may be called, and its work.
@@ -50,11 +49,19 @@ fn correct<R: Element>(
     let count = number(count.trim())? as usize;
     let (found, work) = corrected(alloc, listed::<R>(alloc, rows)?, count)?;
     write!(answer.text, " {}", work.butterflies())?;
+    put_found(alloc, &found, answer).map_err(Fault::Memory)
+}
+
+/// Adds the rows of coefficients with the wrong rows, or `none`.
+fn put_found<R: Element>(
+    alloc: Global,
+    found: &Option<Corrected<R>>,
+    answer: &mut Answer<R>,
+) -> Mem<()> {
     match found {
-        Some(corrected) => put_corrected(alloc, &corrected, answer)?,
-        None => answer.text.push_str(" none")?,
+        Some(corrected) => put_corrected(alloc, corrected, answer),
+        None => answer.text.push_str(" none"),
     }
-    Ok(())
 }
 
 /// Adds the rows of coefficients as `recover` does, `;`, and the wrong rows.

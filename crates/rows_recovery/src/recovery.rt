@@ -19,16 +19,16 @@ pub fn run<R: Element>(
     arguments: &str,
     answer: &mut Answer<R>,
 ) -> Result<bool, Fault> {
-    match call {
-        "recover" => recover(alloc, arguments, answer)?,
-        "recover_counted" => recover_counted(alloc, arguments, answer)?,
-        "recover_ones" => recover_ones(alloc, arguments, answer)?,
-        "recover_words" => recover_words(alloc, arguments, answer)?,
-        "recover_ones_within" => recover_within(alloc, arguments, answer)?,
-        "recover_each_set" => recover_each_set::<R>(alloc, arguments, answer)?,
+    let done = match call {
+        "recover" => recover(alloc, arguments, answer),
+        "recover_counted" => recover_counted(alloc, arguments, answer),
+        "recover_ones" => recover_ones(alloc, arguments, answer),
+        "recover_words" => recover_words(alloc, arguments, answer),
+        "recover_ones_within" => recover_within(alloc, arguments, answer),
+        "recover_each_set" => recover_each_set::<R>(alloc, arguments, &mut answer.text),
         _ => return Ok(false),
-    }
-    Ok(true)
+    };
+    done.and(Ok(true))
 }
 
 /// The polynomials that fit, and the work that they took.
@@ -182,8 +182,7 @@ fn recover<R: Element>(
     answer: &mut Answer<R>,
 ) -> Result<(), Fault> {
     let (polynomials, _work) = recovered(alloc, listed::<R>(alloc, arguments)?)?;
-    put_rows(alloc, &polynomials, answer)?;
-    Ok(())
+    put_rows(alloc, &polynomials, answer).map_err(Fault::Memory)
 }
 
 /// Adds the butterflies and the root products.
@@ -199,8 +198,7 @@ fn recover_counted<R: Element>(
 ) -> Result<(), Fault> {
     let (polynomials, work) = recovered(alloc, filled::<R>(alloc, arguments)?)?;
     put_work(&work, &mut answer.text)?;
-    put_matrix(alloc, &polynomials.data(), answer)?;
-    Ok(())
+    put_matrix(alloc, &polynomials.data(), answer).map_err(Fault::Memory)
 }
 
 /// The rule and the lg of `LG RULE`.
@@ -221,8 +219,7 @@ fn recover_ones<R: Element>(
 ) -> Result<(), Fault> {
     let (lg, rule) = lg_and_rule(arguments)?;
     let (polynomials, _work) = recovered(alloc, ones::<R>(alloc, lg, rule)?)?;
-    put_rows(alloc, &polynomials, answer)?;
-    Ok(())
+    put_rows(alloc, &polynomials, answer).map_err(Fault::Memory)
 }
 
 /// Adds `within` where the work is at most so much, else how much it is.
@@ -247,8 +244,7 @@ fn recover_within<R: Element>(
     let (butterflies, root_products) = two_numbers(bounds)?;
     let (polynomials, work) = recovered(alloc, ones::<R>(alloc, lg, rule)?)?;
     put_rows(alloc, &polynomials, answer)?;
-    put_within(&work, butterflies, root_products, &mut answer.text)?;
-    Ok(())
+    put_within(&work, butterflies, root_products, &mut answer.text).map_err(Fault::Memory)
 }
 
 /// Whether the first row of coefficients is one in each column.
@@ -262,12 +258,24 @@ fn begins_with_one<R: Element>(alloc: Global, polynomials: &PolynomialVector<R>)
     Ok(true)
 }
 
+/// Whether the polynomials are the constant one, or zero where `one` is false.
+fn are_constant<R: Element>(
+    alloc: Global,
+    polynomials: &PolynomialVector<R>,
+    one: bool,
+) -> Mem<bool> {
+    let (used, _count) = row_counts(alloc, polynomials)?;
+    if used != u64::from(one) || !one {
+        return Ok(used == u64::from(one));
+    }
+    begins_with_one(alloc, polynomials)
+}
+
 /// Whether of the set of rows that are filled with one the constant one is recovered, or zero of none.
 fn is_recovered<R: Element>(alloc: Global, lg: u64, set: u64) -> Result<bool, Fault> {
     let values = ones::<R>(alloc, lg, Rule::Bits(set))?;
     let (polynomials, _work) = recovered(alloc, values)?;
-    let (used, _count) = row_counts(alloc, &polynomials)?;
-    Ok(used == u64::from(set > 0) && (set == 0 || begins_with_one(alloc, &polynomials)?))
+    are_constant(alloc, &polynomials, set > 0).map_err(Fault::Memory)
 }
 
 /// `recover_each_set LG`: of how many sets of filled rows, with one in each, the constant one is
@@ -275,7 +283,7 @@ fn is_recovered<R: Element>(alloc: Global, lg: u64, set: u64) -> Result<bool, Fa
 fn recover_each_set<R: Element>(
     alloc: Global,
     arguments: &str,
-    answer: &mut Answer<R>,
+    text: &mut String,
 ) -> Result<(), Fault> {
     let lg = number(arguments.trim())?;
     if lg > 5 {
@@ -288,8 +296,7 @@ fn recover_each_set<R: Element>(
     for set in 0..sets {
         fits = fits.saturating_add(u64::from(is_recovered::<R>(alloc, lg, set)?));
     }
-    put(&mut answer.text, fits)?;
-    Ok(())
+    put(text, fits).map_err(Fault::Memory)
 }
 
 /// The next word of the generator splitmix64.
@@ -305,7 +312,7 @@ fn next_element<R: Element>(alloc: Global, state: &mut u64) -> Result<R, Fault> 
     for _ in 0..64 {
         let word = next_word(state);
         if word < MODULUS {
-            return Ok(R::from_number(alloc, word)?);
+            return R::from_number(alloc, word).map_err(Fault::Memory);
         }
     }
     Err(Fault::Unreadable("element"))
@@ -355,6 +362,14 @@ fn fill_words<R: Element>(
     Ok(())
 }
 
+/// Two columns of words of splitmix64, whose state begins at lg times 2^32, in the rows that the rule names.
+fn words<R: Element>(alloc: Global, lg: u64, rule: Rule) -> Result<Values<R>, Fault> {
+    let mut values = Values::<R>::empty(alloc, lg, 2)?;
+    let mut state = lg << 32;
+    fill_words(alloc, &mut values, rule, &mut state)?;
+    Ok(values)
+}
+
 /// `recover_words LG RULE`: two columns of words of splitmix64, whose state begins at LG times 2^32, in the
 /// rows that are filled, and the hash FNV-1a of all coefficients.
 fn recover_words<R: Element>(
@@ -363,10 +378,6 @@ fn recover_words<R: Element>(
     answer: &mut Answer<R>,
 ) -> Result<(), Fault> {
     let (lg, rule) = lg_and_rule(arguments)?;
-    let mut values = Values::<R>::empty(alloc, lg, 2)?;
-    let mut state = lg << 32;
-    fill_words(alloc, &mut values, rule, &mut state)?;
-    let (polynomials, _work) = recovered(alloc, values)?;
-    write!(answer.text, " fnv {:016x}", hash(&polynomials))?;
-    Ok(())
+    let (polynomials, _work) = recovered(alloc, words::<R>(alloc, lg, rule)?)?;
+    write!(answer.text, " fnv {:016x}", hash(&polynomials)).map_err(Fault::Memory)
 }

@@ -21,14 +21,14 @@ pub fn run<R: Element>(
     arguments: &str,
     answer: &mut Answer<R>,
 ) -> Result<bool, Fault> {
-    match call {
-        "evaluate" => evaluate(alloc, arguments, answer)?,
-        "evaluate_work" => evaluate_work(alloc, arguments, answer)?,
-        "vanishing" => put_vanishing(alloc, arguments, answer)?,
-        "vanishing_polynomial" => put_polynomial(alloc, arguments, answer)?,
+    let done = match call {
+        "evaluate" => evaluate(alloc, arguments, answer),
+        "evaluate_work" => evaluate_work::<R>(alloc, arguments, &mut answer.text),
+        "vanishing" => put_vanishing(alloc, arguments, answer),
+        "vanishing_polynomial" => put_polynomial(alloc, arguments, answer),
         _ => return Ok(false),
-    }
-    Ok(true)
+    };
+    done.and(Ok(true))
 }
 
 /// Whether the field has a root of unity of order `rows`, which is a power of two.
@@ -39,14 +39,12 @@ pub fn has_domain<R: Element>(rows: usize) -> bool
     lg <= R::MAX_LG_ROOT_ORDER
 }
 
-/// `evaluate N @ M`: the columns of M as polynomials of N coefficients at least, evaluated: how many
-/// butterflies that took, how many rows are filled, and the matrix of the values; `evaluate_work`
-/// without the matrix.
+/// The columns of M of `N @ M` as polynomials of N coefficients at least, evaluated: their values, and the
+/// work that it took.
 fn evaluated<R: Element>(
     alloc: Global,
     arguments: &str,
-    answer: &mut Answer<R>,
-) -> Result<EvaluationVector<R>, Fault> {
+) -> Result<(EvaluationVector<R>, Work), Fault> {
     let (n, m) = parted(arguments, '@')?;
     let n = number(n.trim())? as usize;
     let Some(rows) = n.checked_next_power_of_two() else {
@@ -60,30 +58,35 @@ fn evaluated<R: Element>(
     };
     let mut work = Work::new();
     let values = v.evaluate_counted(alloc, &mut work)?;
-    write!(answer.text, " {}", work.butterflies())?;
-    put(&mut answer.text, values.filled_rows() as u64)?;
-    Ok(values)
+    Ok((values, work))
 }
 
-/// `evaluate N @ M`: with the matrix.
+/// Adds how many butterflies it took, and how many rows are filled.
+fn put_counts<R: Element>(values: &EvaluationVector<R>, work: &Work, text: &mut String) -> Mem<()> {
+    write!(text, " {}", work.butterflies())?;
+    put(text, values.filled_rows() as u64)
+}
+
+/// `evaluate N @ M`: the columns of M as polynomials of N coefficients at least, evaluated: how many
+/// butterflies that took, how many rows are filled, and the matrix of the values.
 fn evaluate<R: Element>(
     alloc: Global,
     arguments: &str,
     answer: &mut Answer<R>,
 ) -> Result<(), Fault> {
-    let values = evaluated(alloc, arguments, answer)?;
-    put_matrix(alloc, &values.data(), answer)?;
-    Ok(())
+    let (values, work) = evaluated::<R>(alloc, arguments)?;
+    put_counts(&values, &work, &mut answer.text)?;
+    put_matrix(alloc, &values.data(), answer).map_err(Fault::Memory)
 }
 
 /// `evaluate_work N @ M`: without the matrix.
 fn evaluate_work<R: Element>(
     alloc: Global,
     arguments: &str,
-    answer: &mut Answer<R>,
+    text: &mut String,
 ) -> Result<(), Fault> {
-    let _values = evaluated(alloc, arguments, answer)?;
-    Ok(())
+    let (values, work) = evaluated::<R>(alloc, arguments)?;
+    put_counts(&values, &work, text).map_err(Fault::Memory)
 }
 
 /// The points of which those in the list do not vanish, from `LG ; [I, ..]`.
@@ -109,6 +112,11 @@ fn vanishing<R: Element>(
     Ok((at_zero.inv(alloc)?, values))
 }
 
+/// An element times another.
+fn scaled<R: Element>(alloc: Global, x: &R, scale: &R) -> Mem<R> {
+    x.clone(alloc)?.mul(alloc, scale)
+}
+
 /// Adds the scaled values at the points that do not vanish, with their indices.
 fn put_values<R: Element>(
     alloc: Global,
@@ -121,10 +129,20 @@ fn put_values<R: Element>(
         if points.get(index)
             && let Some(value) = values.get(index as usize)
         {
-            answer.keyed(index, value.clone(alloc)?.mul(alloc, scale)?)?;
+            answer.keyed(index, scaled(alloc, value, scale)?)?;
         }
     }
     Ok(())
+}
+
+/// Adds the values of what vanishes at the other points, each over the value at zero.
+fn put_over_value_at_zero<R: Element>(
+    alloc: Global,
+    points: &VanishingPoints,
+    answer: &mut Answer<R>,
+) -> Result<(), Fault> {
+    let (scale, values) = vanishing::<R>(alloc, points)?;
+    put_values(alloc, points, values.values(), &scale, answer).map_err(Fault::Memory)
 }
 
 /// `vanishing LG ; [I, ..]`: the values of what vanishes at the points that are not listed, at those that
@@ -134,19 +152,30 @@ fn put_vanishing<R: Element>(
     arguments: &str,
     answer: &mut Answer<R>,
 ) -> Result<(), Fault> {
-    let points = points(alloc, arguments)?;
     answer.text.push_str(" values over the value at zero")?;
-    let (scale, values) = vanishing::<R>(alloc, &points)?;
-    put_values(alloc, &points, values.values(), &scale, answer)?;
-    Ok(())
+    let points = points(alloc, arguments)?;
+    put_over_value_at_zero(alloc, &points, answer)
 }
 
 /// Adds an element times another.
 fn put_scaled<R: Element>(alloc: Global, x: &R, scale: &R, answer: &mut Answer<R>) -> Mem<()> {
-    answer.element(x.clone(alloc)?.mul(alloc, scale)?)
+    answer.element(scaled(alloc, x, scale)?)
 }
 
-/// Adds the first coefficients, scaled.
+/// Adds elements, scaled.
+fn put_all_scaled<R: Element>(
+    alloc: Global,
+    xs: &[R],
+    scale: &R,
+    answer: &mut Answer<R>,
+) -> Mem<()> {
+    for x in xs {
+        put_scaled(alloc, x, scale, answer)?;
+    }
+    Ok(())
+}
+
+/// Adds the first coefficients, scaled, and `:`.
 fn put_coefficients<R: Element>(
     alloc: Global,
     polynomial: &PolynomialColumn<R>,
@@ -159,7 +188,7 @@ fn put_coefficients<R: Element>(
     for i in 0..count {
         put_scaled(alloc, polynomial.coefficient(i), scale, answer)?;
     }
-    Ok(())
+    answer.text.push_str(" :")
 }
 
 /// `vanishing_polynomial LG ; [I, ..]`: its coefficients, and after `:` its values at all points, each over
@@ -176,9 +205,6 @@ fn put_polynomial<R: Element>(
     }
     let polynomial = values.interpolate(alloc)?;
     put_coefficients(alloc, &polynomial, count, &scale, answer)?;
-    answer.text.push_str(" :")?;
-    for value in polynomial.evaluate(alloc)?.values() {
-        put_scaled(alloc, value, &scale, answer)?;
-    }
-    Ok(())
+    let values = polynomial.evaluate(alloc)?;
+    put_all_scaled(alloc, values.values(), &scale, answer).map_err(Fault::Memory)
 }
