@@ -34,12 +34,8 @@ fn of_words(alloc: Global, row: Row<'_>, text: &mut String) -> Result<bool, Faul
     )
 }
 
-/// Runs a call on elements and polynomials; `false` where it is none.
-fn of_elements<R: Element>(
-    alloc: Global,
-    row: Row<'_>,
-    answer: &mut Answer<R>,
-) -> Result<bool, Fault> {
+/// Runs a call that each field has; `false` where it is none.
+fn at_any<R: Element>(alloc: Global, row: Row<'_>, answer: &mut Answer<R>) -> Result<bool, Fault> {
     let Row {
         call,
         arguments,
@@ -50,36 +46,13 @@ fn of_elements<R: Element>(
             || polynomials::run(alloc, call, arguments, answer)?
             || decoding::run(alloc, call, arguments, answer)?
             || combinations::run(alloc, call, arguments, answer)?
-            || interpolation::run(alloc, call, arguments, answer)?,
-    )
-}
-
-/// Runs a call on matrices and at roots of unity; `false` where it is none.
-fn of_matrices<R: Element>(
-    alloc: Global,
-    row: Row<'_>,
-    answer: &mut Answer<R>,
-) -> Result<bool, Fault> {
-    let Row {
-        call,
-        arguments,
-        ..
-    } = row;
-    Ok(
-        matrices::run(alloc, call, arguments, answer)?
+            || interpolation::run(alloc, call, arguments, answer)?
+            || matrices::run(alloc, call, arguments, answer)?
             || vectors::run(alloc, call, arguments, answer)?
             || transforms::run(alloc, call, arguments, answer)?
             || recovery::run(alloc, call, arguments, answer)?
             || correction::run(alloc, call, arguments, answer)?
-            || root_weights::run(alloc, call, arguments, answer)?,
-    )
-}
-
-/// Runs a call that each field has; `false` where it is none.
-fn at_any<R: Element>(alloc: Global, row: Row<'_>, answer: &mut Answer<R>) -> Result<bool, Fault> {
-    Ok(
-        of_elements(alloc, row, answer)?
-            || of_matrices(alloc, row, answer)?
+            || root_weights::run(alloc, call, arguments, answer)?
             || of_words(alloc, row, &mut answer.text)?,
     )
 }

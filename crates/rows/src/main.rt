@@ -89,27 +89,6 @@ fn judged<R: Element>(
     told(rt, line, field, right, &answer)
 }
 
-/// Runs a row at the Goldilocks field, and says whether its answer is right.
-fn is_right_at_field(rt: &HostRuntime, line: &str, row: Row<'_>) -> io::Result<bool> {
-    let mut answer = Answer::new(rt.alloc());
-    let known = calls::at_field(rt.alloc(), row, &mut answer);
-    judged(rt, line, "field", row, known, answer)
-}
-
-/// The same at the boxed field.
-fn is_right_at_boxed(rt: &HostRuntime, line: &str, row: Row<'_>) -> io::Result<bool> {
-    let mut answer = Answer::new(rt.alloc());
-    let known = calls::at_boxed(rt.alloc(), row, &mut answer);
-    judged(rt, line, "boxed", row, known, answer)
-}
-
-/// The same at the quotients.
-fn is_right_at_quotients(rt: &HostRuntime, line: &str, row: Row<'_>) -> io::Result<bool> {
-    let mut answer = Answer::new(rt.alloc());
-    let known = calls::at_quotients(rt.alloc(), row, &mut answer);
-    judged(rt, line, "quotients", row, known, answer)
-}
-
 /// Runs a row at the fields that are chosen.
 fn run_row(
     rt: &HostRuntime,
@@ -118,14 +97,21 @@ fn run_row(
     row: Row<'_>,
     tally: &mut Tally,
 ) -> io::Result<()> {
+    let alloc = rt.alloc();
     if fields.field {
-        tally.add(is_right_at_field(rt, line, row)?);
+        let mut answer = Answer::new(alloc);
+        let known = calls::at_field(alloc, row, &mut answer);
+        tally.add(judged(rt, line, "field", row, known, answer)?);
     }
     if fields.boxed {
-        tally.add(is_right_at_boxed(rt, line, row)?);
+        let mut answer = Answer::new(alloc);
+        let known = calls::at_boxed(alloc, row, &mut answer);
+        tally.add(judged(rt, line, "boxed", row, known, answer)?);
     }
     if fields.quotients {
-        tally.add(is_right_at_quotients(rt, line, row)?);
+        let mut answer = Answer::new(alloc);
+        let known = calls::at_quotients(alloc, row, &mut answer);
+        tally.add(judged(rt, line, "quotients", row, known, answer)?);
     }
     Ok(())
 }

@@ -52,12 +52,6 @@ pub fn write_matrix(alloc: Global, m: &Matrix<F>, out: &mut Vec<u8>) -> Mem<()>
     m.write(alloc, out)
 }
 
-/// Writes a matrix of two rows of two cells.
-fn write_new_matrix(alloc: Global, out: &mut Vec<u8>) -> Mem<()> {
-    let m = matrix(alloc, &[1, 2, 3])?;
-    write_matrix(alloc, &m, out)
-}
-
 /// A polynomial, the bytes that it and a matrix are written after, and the input that they are read from.
 #[derive(Debug, Drop)]
 pub struct Given {
@@ -92,16 +86,19 @@ impl Calls for Given {
     fn run(&mut self, alloc: Global, name: &str) -> Mem<Answer> {
         let Given { p, out, input } = self;
         match name {
-            "Poly::write" => p.write(alloc, out).and(Ok(Answer::Written)),
-            "Matrix::write" => write_new_matrix(alloc, out).and(Ok(Answer::Written)),
+            "Poly::write" => p.write(alloc, out)?,
+            "Matrix::write" => write_matrix(alloc, &matrix(alloc, &[1, 2, 3])?, out)?,
             "Poly::read_cfg" => {
                 let cfg = (LengthRange::at_most(4), ());
-                memory_alone(Poly::read_cfg(alloc, input, &cfg)).map(Answer::Polynomial)
+                return Ok(Answer::Polynomial(memory_alone(Poly::read_cfg(alloc, input, &cfg))?));
             }
-            "Matrix::read_cfg" => {
-                memory_alone(Matrix::read_cfg(alloc, input, &(4, ()))).map(Answer::Matrix)
-            }
-            _ => Err(AllocError),
+            "Matrix::read_cfg" => return Ok(Answer::Matrix(memory_alone(Matrix::read_cfg(
+                alloc,
+                input,
+                &(4, ()),
+            ))?)),
+            _ => return Err(AllocError),
         }
+        Ok(Answer::Written)
     }
 }

@@ -51,14 +51,6 @@ pub fn write_shard(alloc: Global, shard: &Shard, out: &mut Vec<u8>) -> Mem<()> {
     shard.write(alloc, out)
 }
 
-/// Writes the first shard.
-fn write_first(alloc: Global, shards: &[Shard], out: &mut Vec<u8>) -> Mem<()> {
-    match shards.first() {
-        Some(shard) => write_shard(alloc, shard, out),
-        None => Err(AllocError),
-    }
-}
-
 /// The shards of the word 1, the bytes that one is written after, and the input that one is read from.
 #[derive(Debug, Drop)]
 pub struct Given {
@@ -91,13 +83,16 @@ impl Calls for Given {
     fn run(&mut self, alloc: Global, name: &str) -> Mem<Answer> {
         let Given { shards, out, input } = self;
         match name {
-            "split" => split(alloc, &[1], 3, 4).map(Answer::Shards),
-            "join" => found(join(alloc, shards)).map(Answer::Words),
-            "join_corrected" => found(join_corrected(alloc, shards)).map(Answer::Corrected),
-            "Shard::write" => write_first(alloc, shards, out).and(Ok(Answer::Written)),
-            "Shard::read_cfg" => {
-                memory_alone(Shard::read_cfg(alloc, input, &4)).map(Answer::Shard)
+            "split" => Ok(Answer::Shards(split(alloc, &[1], 3, 4)?)),
+            "join" => Ok(Answer::Words(found(join(alloc, shards))?)),
+            "join_corrected" => Ok(Answer::Corrected(found(join_corrected(alloc, shards))?)),
+            "Shard::write" => {
+                write_shard(alloc, shards.first().ok_or(AllocError)?, out)?;
+                Ok(Answer::Written)
             }
+            "Shard::read_cfg" => Ok(Answer::Shard(memory_alone(Shard::read_cfg(
+                alloc, input, &4,
+            ))?)),
             _ => Err(AllocError),
         }
     }

@@ -52,30 +52,9 @@ fn dealt<V: Drop>(answer: Result<V, DealError>) -> Mem<Option<V>> {
     }
 }
 
-/// The shares of a secret.
-fn shares_of(alloc: Global, secret: Boxed<F>) -> Mem<Option<Vec<Share<Boxed<F>>>>> {
-    dealt(deal(alloc, secret, 2, 3, &mut Listed::new(&[7])))
-}
-
-/// Whether the first share is of the committed polynomial.
-fn verified(alloc: Global, shares: &[Share<Boxed<F>>], commitment: &Poly<Boxed<F>>) -> Mem<bool> {
-    match shares.first() {
-        Some(share) => verify(alloc, share, commitment),
-        None => Err(AllocError),
-    }
-}
-
 /// The shares of a secret and their commitment.
-fn committed_of(alloc: Global, secret: Boxed<F>) -> Mem<Option<Committed>> {
+fn committed(alloc: Global, secret: Boxed<F>) -> Mem<Option<Committed>> {
     dealt(deal_committed::<Boxed<F>, _>(alloc, secret, 2, 3, &mut Listed::new(&[7])))
-}
-
-/// Three shares of 12, and the commitment to their polynomial.
-fn new_committed(alloc: Global) -> Mem<Committed> {
-    match committed_of(alloc, number(alloc, 12)?)? {
-        Some(found) => Ok(found),
-        None => Err(AllocError),
-    }
 }
 
 /// The secret of the shares, any two of which combine to it.
@@ -102,20 +81,30 @@ impl Calls for Given {
     fn new(alloc: Global, _name: &str) -> Mem<Given> {
         Ok(Given {
             secret: Handed::new(number(alloc, 12)?),
-            committed: new_committed(alloc)?,
+            committed: committed(alloc, number(alloc, 12)?)?.ok_or(AllocError)?,
         })
     }
 
     fn run(&mut self, alloc: Global, name: &str) -> Mem<Answer> {
-        let Given { secret, committed } = self;
-        let (shares, commitment) = &*committed;
-        match name {
-            "deal" => shares_of(alloc, secret.take()?).map(Answer::Shares),
-            "deal_committed" => committed_of(alloc, secret.take()?).map(Answer::Committed),
-            "combine" => combined(alloc, shares).map(Answer::Secret),
-            "combine_corrected" => corrected(alloc, shares).map(Answer::Corrected),
-            "verify" => verified(alloc, shares, commitment).map(Answer::Truth),
-            _ => Err(AllocError),
-        }
+        let (shares, commitment) = &self.committed;
+        let answer = match name {
+            "deal" => Answer::Shares(dealt(deal(
+                alloc,
+                self.secret.take()?,
+                2,
+                3,
+                &mut Listed::new(&[7]),
+            ))?),
+            "deal_committed" => Answer::Committed(committed(alloc, self.secret.take()?)?),
+            "combine" => Answer::Secret(combined(alloc, shares)?),
+            "combine_corrected" => Answer::Corrected(corrected(alloc, shares)?),
+            "verify" => Answer::Truth(verify(
+                alloc,
+                shares.first().ok_or(AllocError)?,
+                commitment,
+            )?),
+            _ => return Err(AllocError),
+        };
+        Ok(answer)
     }
 }

@@ -33,29 +33,17 @@ pub const NAMES: [&str; 12] = [
 /// What is swept with 512 rows.
 pub const LARGE: &str = "EvaluationVector::recover_counted with 512 rows";
 
-/// Cells, a matrix of cells, and four rows of two columns, of which the first is filled.
+/// Cells, and a matrix of them; four rows of two columns, of which the first is filled; a column; and rows of one
+/// column, of which the first half is missing; four rows of one column, of which one is wrong.
 #[derive(Debug, Drop)]
-struct Cells<R: Element> {
+pub struct Given<R: Element> {
+    taken_cells: Handed<Vec<R>>,
     cells: Vec<R>,
     matrix: Matrix<R>,
     values: Values<R>,
-}
-
-/// Cells; a column; rows of one column, of which the first half is missing; and four rows of one column, of which
-/// one is wrong.
-#[derive(Debug, Drop)]
-struct Taken<R: Element> {
-    cells: Handed<Vec<R>>,
     column: Handed<EvaluationColumn<R>>,
     missing: Handed<Values<R>>,
     wrong: Handed<Values<R>>,
-}
-
-/// What calls borrow, and what they take.
-#[derive(Debug, Drop)]
-pub struct Given<R: Element> {
-    lent: Cells<R>,
-    taken: Taken<R>,
 }
 
 /// What the calls answer; `None` where more work was counted than its bound.
@@ -116,120 +104,71 @@ fn interpolated<R: Element>(
     column.interpolate(alloc)
 }
 
-/// Four rows of two columns, of which the first is filled.
-fn values<R: Element>(alloc: Global) -> Mem<Values<R>> {
-    let mut out = Values::empty(alloc, 2, 2)?;
-    out.fill(alloc, 0, &elements::<R>(alloc, &[1, 2])?)?;
-    Ok(out)
-}
-
-/// Four rows of one column, of which the last is wrong.
-fn wrong<R: Element>(alloc: Global) -> Mem<Values<R>> {
-    let mut out = Values::ones(alloc, 2, 0..4)?;
-    out.fill(alloc, 3, &elements::<R>(alloc, &[2])?)?;
-    Ok(out)
-}
-
-/// Rows of one column, of which the first half is missing: 512 for `LARGE`, and else four.
-fn missing<R: Element>(alloc: Global, name: &str) -> Mem<Values<R>> {
-    match name {
-        LARGE => Values::ones(alloc, 9, 256..512),
-        _ => Values::ones(alloc, 2, 2..4),
-    }
-}
-
-impl<R: Element> Cells<R> {
-    fn new(alloc: Global) -> Mem<Cells<R>> {
-        Ok(Cells {
-            cells: elements(alloc, &[3, 5])?,
-            matrix: matrix(alloc, &[1, 2, 3, 4])?,
-            values: values(alloc)?,
-        })
-    }
-
-    /// Runs a call that takes nothing.
-    fn run(&mut self, alloc: Global, name: &str) -> Mem<Answer<R>> {
-        let Cells {
-            cells,
-            matrix,
-            values,
-        } = self;
-        match name {
-            "EvaluationVector::fill_row" => values.fill(alloc, 1, cells).and(Ok(Answer::Done)),
-            "Matrix::mul" => product(alloc, matrix, matrix).map(Answer::Matrix),
-            "Matrix::clone" => matrix.clone(alloc).map(Answer::Matrix),
-            "Matrix::as_polynomials" => polynomials(alloc, matrix, 4).map(Answer::Polynomials),
-            "PolynomialVector::evaluate_counted" => {
-                evaluated_within(alloc, matrix, 8).map(Answer::Evaluations)
-            }
-            "VanishingPoints::new" => VanishingPoints::new(alloc, 2).map(Answer::Points),
-            "EvaluationColumn::vanishing" => vanishing(alloc).map(Answer::Vanishing),
-            _ => Err(AllocError),
-        }
-    }
-}
-
-impl<R: Element> Taken<R> {
-    fn new(alloc: Global, name: &str) -> Mem<Taken<R>> {
-        Ok(Taken {
-            cells: Handed::new(elements(alloc, &[1, 2, 3])?),
-            column: Handed::new(vanishing(alloc)?.1),
-            missing: Handed::new(missing(alloc, name)?),
-            wrong: Handed::new(wrong(alloc)?),
-        })
-    }
-
-    /// The polynomials of the rows of which some are missing, within the bound of their number.
-    fn recovered_within(&mut self, alloc: Global, name: &str) -> Mem<Option<PolynomialVector<R>>> {
-        let missing = self.missing.take()?;
-        match name {
-            LARGE => missing.recovered_within(alloc, 73_728, 65_536),
-            _ => missing.recovered_within(alloc, 44, 512),
-        }
-    }
-
-    /// The polynomials of the rows of which some are missing.
-    fn recovered(&mut self, alloc: Global) -> Mem<PolynomialVector<R>> {
-        self.missing.take()?.recovered(alloc)
-    }
-
-    /// The polynomials of the rows of which one is wrong.
-    fn corrected(&mut self, alloc: Global) -> Mem<Option<Corrected<R>>> {
-        self.wrong.take()?.corrected(alloc, 1)
-    }
-
-    /// The matrix of the cells.
-    fn matrix(&mut self, alloc: Global) -> Mem<Matrix<R>> {
-        Matrix::init(alloc, 2, 2, self.cells.take()?)
-    }
-
-    /// The polynomial of the column.
-    fn interpolated(&mut self, alloc: Global) -> Mem<PolynomialColumn<R>> {
-        interpolated(alloc, self.column.take()?)
-    }
-}
-
 impl<R: Element> Calls for Given<R> {
     type Answer = Answer<R>;
 
     fn new(alloc: Global, name: &str) -> Mem<Given<R>> {
+        let (lg, filled) = if name == LARGE {
+            (9, 256..512)
+        } else {
+            (2, 2..4)
+        };
+        let mut values = Values::empty(alloc, 2, 2)?;
+        values.fill(alloc, 0, &elements::<R>(alloc, &[1, 2])?)?;
+        let mut wrong = Values::ones(alloc, 2, 0..4)?;
+        wrong.fill(alloc, 3, &elements::<R>(alloc, &[2])?)?;
         Ok(Given {
-            lent: Cells::new(alloc)?,
-            taken: Taken::new(alloc, name)?,
+            taken_cells: Handed::new(elements(alloc, &[1, 2, 3])?),
+            cells: elements(alloc, &[3, 5])?,
+            matrix: matrix(alloc, &[1, 2, 3, 4])?,
+            values,
+            column: Handed::new(vanishing(alloc)?.1),
+            missing: Handed::new(Values::ones(alloc, lg, filled)?),
+            wrong: Handed::new(wrong),
         })
     }
 
     fn run(&mut self, alloc: Global, name: &str) -> Mem<Answer<R>> {
-        let Given { lent, taken } = self;
+        let Given {
+            taken_cells,
+            cells,
+            matrix,
+            values,
+            column,
+            missing,
+            wrong,
+        } = self;
         match name {
-            "Matrix::init" => taken.matrix(alloc).map(Answer::Matrix),
-            "EvaluationColumn::interpolate" => taken.interpolated(alloc).map(Answer::Column),
-            "EvaluationVector::recover" => taken.recovered(alloc).map(Answer::Polynomials),
-            "EvaluationVector::recover_counted" | LARGE => {
-                taken.recovered_within(alloc, name).map(Answer::Recovered)
+            "EvaluationVector::fill_row" => {
+                values.fill(alloc, 1, cells)?;
+                Ok(Answer::Done)
             }
-            "EvaluationVector::correct" => taken.corrected(alloc).map(Answer::Corrected),
-            _ => lent.run(alloc, name),
+            "Matrix::init" => Ok(Answer::Matrix(Matrix::init(alloc, 2, 2, taken_cells.take()?)?)),
+            "Matrix::mul" => Ok(Answer::Matrix(product(alloc, matrix, matrix)?)),
+            "Matrix::clone" => Ok(Answer::Matrix(matrix.clone(alloc)?)),
+            "Matrix::as_polynomials" => Ok(Answer::Polynomials(polynomials(alloc, matrix, 4)?)),
+            "PolynomialVector::evaluate_counted" => Ok(Answer::Evaluations(evaluated_within(
+                alloc, matrix, 8,
+            )?)),
+            "VanishingPoints::new" => Ok(Answer::Points(VanishingPoints::new(alloc, 2)?)),
+            "EvaluationColumn::vanishing" => Ok(Answer::Vanishing(vanishing(alloc)?)),
+            "EvaluationColumn::interpolate" => Ok(Answer::Column(interpolated(
+                alloc,
+                column.take()?,
+            )?)),
+            "EvaluationVector::recover" => Ok(Answer::Polynomials(
+                missing.take()?.recovered(alloc)?,
+            )),
+            "EvaluationVector::recover_counted" => {
+                Ok(Answer::Recovered(missing.take()?.recovered_within(alloc, 44, 512)?))
+            }
+            "EvaluationVector::correct" => {
+                Ok(Answer::Corrected(wrong.take()?.corrected(alloc, 1)?))
+            }
+            LARGE => Ok(Answer::Recovered(
+                missing.take()?.recovered_within(alloc, 73_728, 65_536)?,
+            )),
+            _ => Err(AllocError),
         }
     }
 }

@@ -35,23 +35,12 @@ pub enum Answer<R: Element> {
     Items(Option<Vec<Synthetic<R, R>>>),
 }
 
-/// Adds the multiple of a generator.
-fn add_multiple<R: Element>(
-    alloc: Global,
-    out: &mut Synthetic<R, R>,
-    generator: Synthetic<R, R>,
-    weight: &R,
-) -> Mem<()> {
-    let term = generator.scaled(alloc, weight)?;
-    out.add_assign(alloc, &term)
-}
-
 /// Two free terms of this weight, and a point.
 fn combination<R: Element>(alloc: Global, weight: u64) -> Mem<Synthetic<R, R>> {
     let weight = number::<R>(alloc, weight)?;
     let mut out = Synthetic::concrete(alloc, pairs::<R>(alloc, &[(3, 5)])?)?;
     for generator in Synthetic::<R, R>::generators_array::<2>(alloc)? {
-        add_multiple(alloc, &mut out, generator, &weight)?;
+        out.add_assign(alloc, &generator.scaled(alloc, &weight)?)?;
     }
     Ok(out)
 }
@@ -103,18 +92,17 @@ impl<R: Element> Calls for Given<R> {
             two,
             generators,
         } = self;
-        let done = match name {
-            "Synthetic::add_assign" => a.add_assign(alloc, b),
-            "Synthetic::sub_assign" => a.sub_assign(alloc, b),
-            "Synthetic::scale_assign" => a.scale_assign(alloc, two),
-            "Synthetic::eval" => {
-                return value(alloc, taken.take()?, generators).map(Answer::Value);
-            }
-            "Generators" => {
-                return four(alloc, &mut Synthetic::generators(alloc)).map(Answer::Items);
-            }
-            _ => Err(AllocError),
-        };
-        done.and(Ok(Answer::Done))
+        match name {
+            "Synthetic::add_assign" => a.add_assign(alloc, b)?,
+            "Synthetic::sub_assign" => a.sub_assign(alloc, b)?,
+            "Synthetic::scale_assign" => a.scale_assign(alloc, two)?,
+            "Synthetic::eval" => return Ok(Answer::Value(value(alloc, taken.take()?, generators)?)),
+            "Generators" => return Ok(Answer::Items(four(
+                alloc,
+                &mut Synthetic::generators(alloc),
+            )?)),
+            _ => return Err(AllocError),
+        }
+        Ok(Answer::Done)
     }
 }

@@ -67,23 +67,11 @@ impl<R: Element> Calls for Given<R> {
             values,
         } = self;
         match name {
-            "divide" => divided(alloc, p, d).map(Answer::Divided),
-            "decode" => decoded(alloc, points, values).map(Answer::Decoded),
+            "divide" => Ok(Answer::Divided(divided(alloc, p, d)?)),
+            "decode" => Ok(Answer::Decoded(decoded(alloc, points, values)?)),
             _ => Err(AllocError),
         }
     }
-}
-
-/// The boxed elements of the numbers below 64; where not `all` are asked for, those of the even ones and of the
-/// greatest are 100.
-fn boxes(alloc: Global, all: bool) -> Mem<Vec<Boxed<F>>> {
-    let mut out = Vec::new(alloc);
-    for n in 0..64u64 {
-        let spoiled = n % 2 == 1 && n < 60;
-        let number = if all || spoiled { n } else { 100 };
-        out.push(Boxed::<F>::from_number(alloc, number)?)?;
-    }
-    Ok(out)
 }
 
 /// Of 64 boxed values 30 are wrong, as many as can be. A product of boxed elements takes memory, and so does the copy that
@@ -94,8 +82,13 @@ pub fn decoding_of_64(alloc: Global, table: &mut Table<'_>) -> Mem<()> {
     if !table.wants(name) || !table.refuses() {
         return Ok(());
     }
-    let points = boxes(alloc, true)?;
-    let values = boxes(alloc, false)?;
+    let mut points = Vec::new(alloc);
+    let mut values = Vec::new(alloc);
+    for n in 0..64u64 {
+        points.push(Boxed::<F>::from_number(alloc, n)?)?;
+        let spoiled = n % 2 == 1 && n < 60;
+        values.push(Boxed::<F>::from_number(alloc, if spoiled { n } else { 100 })?)?;
+    }
     refuse(alloc, 40_960);
     let answer = decoded(alloc, &points, &values);
     let met = has_come(alloc);

@@ -26,28 +26,17 @@ pub const NAMES: [&str; 11] = [
     "lagrange_coefficients_at another point",
 ];
 
-/// One, the root of order four, and five.
+/// 3, 1 and 2 under the keys 0, 1 and 2; the indices 2 and 0 under the keys 7 and 5; an interpolator, and
+/// values for it; one, the root of order four, and five.
 #[derive(Debug, Drop)]
-struct Places<R: Element> {
+pub struct Given<R: Element> {
+    points: Handed<Vec<(u64, R)>>,
+    indices: Handed<Vec<(u64, u32)>>,
+    interpolator: Interpolator<u64, R>,
+    values: Map<u64, R>,
     one: R,
     root: R,
     five: R,
-}
-
-/// 3, 1 and 2 under the keys 0, 1 and 2; the indices 2 and 0 under the keys 7 and 5.
-#[derive(Debug, Drop)]
-struct Taken<R: Element> {
-    points: Handed<Vec<(u64, R)>>,
-    indices: Handed<Vec<(u64, u32)>>,
-}
-
-/// Pairs; an interpolator, and values for it; and places.
-#[derive(Debug, Drop)]
-pub struct Given<R: Element> {
-    taken: Taken<R>,
-    interpolator: Interpolator<u64, R>,
-    values: Map<u64, R>,
-    places: Places<R>,
 }
 
 /// What the calls answer; `None` where pairs were refused, or keys differ.
@@ -94,79 +83,8 @@ fn weights<R: Element>(alloc: Global) -> Mem<Vec<(u32, R)>> {
 
 /// The same, by the keys of the indices.
 fn weights_of<R: Element>(alloc: Global, pairs: Vec<(u64, u32)>) -> Mem<Interpolator<u64, R>> {
-    let total = total::<R>(4)?;
-    match BiMap::try_from_iter(alloc, pairs) {
-        Ok(points) => Interpolator::roots_of_unity(alloc, total, points),
-        Err(_) => Err(AllocError),
-    }
-}
-
-/// The interpolator of 3, 1 and 2 under the keys 0, 1 and 2.
-fn interpolator<R: Element>(alloc: Global) -> Mem<Interpolator<u64, R>> {
-    Interpolator::new(alloc, keyed::<R>(alloc, &[3, 1, 2])?)
-}
-
-/// Values for it: 4, 6 and 8.
-fn values<R: Element>(alloc: Global) -> Mem<Map<u64, R>> {
-    Map::from_iter_dedup(alloc, keyed::<R>(alloc, &[4, 6, 8])?)
-}
-
-impl<R: Element> Places<R> {
-    fn new(alloc: Global) -> Mem<Places<R>> {
-        Ok(Places {
-            one: number(alloc, 1)?,
-            root: root(alloc)?,
-            five: number(alloc, 5)?,
-        })
-    }
-
-    /// Runs a call that answers weights with their indices, or `None` where it is none.
-    fn weights(&self, alloc: Global, name: &str) -> Option<Mem<Vec<(u32, R)>>> {
-        match name {
-            "lagrange_coefficients" => Some(weights(alloc)),
-            "lagrange_coefficients_at a given point" => Some(weights_at(alloc, &self.one)),
-            "lagrange_coefficients_at a missing point" => Some(weights_at(alloc, &self.root)),
-            "lagrange_coefficients_at another point" => Some(weights_at(alloc, &self.five)),
-            _ => None,
-        }
-    }
-}
-
-impl<R: Element> Taken<R> {
-    fn new(alloc: Global) -> Mem<Taken<R>> {
-        Ok(Taken {
-            points: Handed::new(keyed(alloc, &[3, 1, 2])?),
-            indices: Handed::new(indices(alloc)?),
-        })
-    }
-
-    /// Runs a call that answers a map of the points.
-    fn map(&mut self, alloc: Global, name: &str) -> Mem<Option<Map<u64, R>>> {
-        let points = self.points.take()?;
-        match name {
-            "Map::from_iter_dedup" => Map::from_iter_dedup(alloc, points).map(Some),
-            _ => memory_alone(Map::try_from_iter(alloc, points)),
-        }
-    }
-
-    /// The two-way map of the indices.
-    fn keys(&mut self, alloc: Global) -> Mem<Option<BiMap<u64, u32>>> {
-        memory_alone(BiMap::try_from_iter(alloc, self.indices.take()?))
-    }
-
-    /// The interpolator of the points, for the value at zero or, for `Interpolator::at`, at five.
-    fn of_points(&mut self, alloc: Global, name: &str, five: &R) -> Mem<Interpolator<u64, R>> {
-        let points = self.points.take()?;
-        match name {
-            "Interpolator::new" => Interpolator::new(alloc, points),
-            _ => Interpolator::at(alloc, points, five),
-        }
-    }
-
-    /// The interpolator of the indices.
-    fn of_indices(&mut self, alloc: Global) -> Mem<Interpolator<u64, R>> {
-        weights_of(alloc, self.indices.take()?)
-    }
+    let points = BiMap::try_from_iter(alloc, pairs).ok().ok_or(AllocError)?;
+    Interpolator::roots_of_unity(alloc, total::<R>(4)?, points)
 }
 
 impl<R: Element> Calls for Given<R> {
@@ -174,36 +92,56 @@ impl<R: Element> Calls for Given<R> {
 
     fn new(alloc: Global, _name: &str) -> Mem<Given<R>> {
         Ok(Given {
-            taken: Taken::new(alloc)?,
-            interpolator: interpolator(alloc)?,
-            values: values(alloc)?,
-            places: Places::new(alloc)?,
+            points: Handed::new(keyed(alloc, &[3, 1, 2])?),
+            indices: Handed::new(indices(alloc)?),
+            interpolator: Interpolator::new(alloc, keyed::<R>(alloc, &[3, 1, 2])?)?,
+            values: Map::from_iter_dedup(alloc, keyed::<R>(alloc, &[4, 6, 8])?)?,
+            one: number(alloc, 1)?,
+            root: root(alloc)?,
+            five: number(alloc, 5)?,
         })
     }
 
     fn run(&mut self, alloc: Global, name: &str) -> Mem<Answer<R>> {
         let Given {
-            taken,
+            points,
+            indices,
             interpolator,
             values,
-            places,
+            one,
+            root,
+            five,
         } = self;
-        if let Some(weights) = places.weights(alloc, name) {
-            return weights.map(Answer::Weights);
-        }
-        match name {
-            "Map::from_iter_dedup" | "Map::try_from_iter" => {
-                taken.map(alloc, name).map(Answer::Map)
-            }
-            "BiMap::try_from_iter" => taken.keys(alloc).map(Answer::Keys),
-            "Interpolator::new" | "Interpolator::at" => taken
-                .of_points(alloc, name, &places.five)
-                .map(Answer::Interpolator),
-            "Interpolator::interpolate" => interpolator
-                .interpolate(alloc, values)
-                .map(Answer::Value),
-            "Interpolator::roots_of_unity" => taken.of_indices(alloc).map(Answer::Interpolator),
-            _ => Err(AllocError),
-        }
+        let answer = match name {
+            "Map::from_iter_dedup" => Answer::Map(Some(Map::from_iter_dedup(
+                alloc,
+                points.take()?,
+            )?)),
+            "Map::try_from_iter" => Answer::Map(memory_alone(Map::try_from_iter(
+                alloc,
+                points.take()?,
+            ))?),
+            "BiMap::try_from_iter" => Answer::Keys(memory_alone(BiMap::try_from_iter(
+                alloc,
+                indices.take()?,
+            ))?),
+            "Interpolator::new" => Answer::Interpolator(Interpolator::new(alloc, points.take()?)?),
+            "Interpolator::at" => Answer::Interpolator(Interpolator::at(
+                alloc,
+                points.take()?,
+                five,
+            )?),
+            "Interpolator::interpolate" => Answer::Value(interpolator.interpolate(alloc, values)?),
+            "Interpolator::roots_of_unity" => Answer::Interpolator(weights_of(
+                alloc,
+                indices.take()?,
+            )?),
+            "lagrange_coefficients" => Answer::Weights(weights(alloc)?),
+            "lagrange_coefficients_at a given point" => Answer::Weights(weights_at(alloc, one)?),
+            "lagrange_coefficients_at a missing point" => Answer::Weights(weights_at(alloc, root)?),
+            "lagrange_coefficients_at another point" => Answer::Weights(weights_at(alloc, five)?),
+            _ => return Err(AllocError),
+        };
+        Ok(answer)
     }
 }

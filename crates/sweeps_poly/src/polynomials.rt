@@ -24,28 +24,17 @@ pub const NAMES: [&str; 13] = [
     "Poly::equals",
 ];
 
-/// The elements 3 and 2, 3 and 5 in a list, and the weights 1 and 3 at 2 and 5.
+/// The elements 3 and 2, 3 and 5 in a list, 1 + 2 X + 3 X^2, that and 4 + 6 X in a list, and the weights 1 and 3 at
+/// 2 and 5.
 #[derive(Debug, Drop)]
-struct Elements<R: Element> {
+pub struct Given<R: Element> {
     x: R,
     two: R,
-    both: Vec<R>,
-    weighted: Vec<(R, R)>,
-}
-
-/// 4 + 6 X and 1 + 2 X + 3 X^2, and both in a list.
-#[derive(Debug, Drop)]
-struct Polynomials<R: Element> {
+    elements: Vec<R>,
     p: Poly<R>,
     q: Poly<R>,
     both: Vec<Poly<R>>,
-}
-
-/// Elements and polynomials.
-#[derive(Debug, Drop)]
-pub struct Given<R: Element> {
-    elements: Elements<R>,
-    polynomials: Polynomials<R>,
+    weighted: Vec<(R, R)>,
 }
 
 /// What the calls answer; `None` where items came after an `Err`.
@@ -78,103 +67,53 @@ fn four<R: Element>(alloc: Global, items: &mut Powers<'_, R>) -> Mem<Option<Vec<
     if all { Ok(Some(out)) } else { Ok(None) }
 }
 
-/// The first four powers of an element.
-fn four_powers<R: Element>(alloc: Global, x: &R) -> Mem<Option<Vec<R>>> {
-    let one = R::one(alloc)?;
-    four(alloc, &mut powers(alloc, one, x))
-}
-
-/// 4 + 6 X and 1 + 2 X + 3 X^2 in a list.
-fn both<R: Element>(alloc: Global) -> Mem<Vec<Poly<R>>> {
-    let mut out = Vec::new(alloc);
-    out.push(polynomial::<R>(alloc, &[4, 6])?)?;
-    out.push(polynomial::<R>(alloc, &[1, 2, 3])?)?;
-    Ok(out)
-}
-
-impl<R: Element> Elements<R> {
-    fn new(alloc: Global) -> Mem<Elements<R>> {
-        Ok(Elements {
-            x: number(alloc, 3)?,
-            two: number(alloc, 2)?,
-            both: elements(alloc, &[3, 5])?,
-            weighted: pairs(alloc, &[(1, 2), (3, 5)])?,
-        })
-    }
-}
-
-impl<R: Element> Polynomials<R> {
-    fn new(alloc: Global) -> Mem<Polynomials<R>> {
-        Ok(Polynomials {
-            p: polynomial(alloc, &[4, 6])?,
-            q: polynomial(alloc, &[1, 2, 3])?,
-            both: both(alloc)?,
-        })
-    }
-
-    /// Runs a call that changes a polynomial.
-    fn change(&mut self, alloc: Global, name: &str, two: &R) -> Mem<()> {
-        let Polynomials { p, q, .. } = self;
-        match name {
-            "Poly::add_assign" => p.add_assign(alloc, q),
-            "Poly::sub_assign" => p.sub_assign(alloc, q),
-            "Poly::scale_assign" => Space::<R>::scale_assign(p, alloc, two),
-            _ => Err(AllocError),
-        }
-    }
-}
-
-impl<R: Element> Given<R> {
-    /// Runs a call that answers no element.
-    fn run_others(&mut self, alloc: Global, name: &str) -> Mem<Answer<R>> {
-        let Given {
-            elements,
-            polynomials,
-        } = self;
-        match name {
-            "Powers" => four_powers(alloc, &elements.x).map(Answer::Items),
-            "Poly::scale" => polynomials.q.scale(alloc, &[5]).map(Answer::Polynomial),
-            "Poly::msm" => {
-                Space::<R>::msm(alloc, &polynomials.both, &elements.both).map(Answer::Polynomial)
-            }
-            "Poly::equals" => polynomials
-                .p
-                .equals(alloc, &polynomials.q)
-                .map(Answer::Truth),
-            _ => polynomials
-                .change(alloc, name, &elements.two)
-                .and(Ok(Answer::Done)),
-        }
-    }
-}
-
 impl<R: Element> Calls for Given<R> {
     type Answer = Answer<R>;
 
     fn new(alloc: Global, _name: &str) -> Mem<Given<R>> {
+        let mut both = Vec::new(alloc);
+        both.push(polynomial::<R>(alloc, &[4, 6])?)?;
+        both.push(polynomial::<R>(alloc, &[1, 2, 3])?)?;
         Ok(Given {
-            elements: Elements::new(alloc)?,
-            polynomials: Polynomials::new(alloc)?,
+            x: number(alloc, 3)?,
+            two: number(alloc, 2)?,
+            elements: elements(alloc, &[3, 5])?,
+            p: polynomial(alloc, &[4, 6])?,
+            q: polynomial(alloc, &[1, 2, 3])?,
+            both,
+            weighted: pairs(alloc, &[(1, 2), (3, 5)])?,
         })
     }
 
     fn run(&mut self, alloc: Global, name: &str) -> Mem<Answer<R>> {
-        let Elements {
+        let Given {
             x,
             two,
+            elements,
+            p,
+            q,
             both,
             weighted,
-        } = &self.elements;
-        let q = &self.polynomials.q;
-        let value = match name {
-            "scale" => x.scale(alloc, &[6]),
-            "exp" => x.exp(alloc, &[6]),
-            "msm" => R::msm(alloc, both, both),
-            "Poly::eval" => q.eval(alloc, two),
-            "Poly::eval_msm" => q.eval_msm(alloc, two),
-            "Poly::lin_comb_eval" => q.lin_comb_eval(alloc, weighted),
-            _ => return self.run_others(alloc, name),
-        };
-        value.map(Answer::Value)
+        } = self;
+        match name {
+            "Poly::add_assign" => p.add_assign(alloc, q)?,
+            "Poly::sub_assign" => p.sub_assign(alloc, q)?,
+            "Poly::scale_assign" => Space::<R>::scale_assign(p, alloc, two)?,
+            "scale" => return Ok(Answer::Value(x.scale(alloc, &[6])?)),
+            "exp" => return Ok(Answer::Value(x.exp(alloc, &[6])?)),
+            "msm" => return Ok(Answer::Value(R::msm(alloc, elements, elements)?)),
+            "Powers" => return Ok(Answer::Items(four(
+                alloc,
+                &mut powers(alloc, R::one(alloc)?, x),
+            )?)),
+            "Poly::scale" => return Ok(Answer::Polynomial(q.scale(alloc, &[5])?)),
+            "Poly::msm" => return Ok(Answer::Polynomial(Space::<R>::msm(alloc, both, elements)?)),
+            "Poly::eval" => return Ok(Answer::Value(q.eval(alloc, two)?)),
+            "Poly::eval_msm" => return Ok(Answer::Value(q.eval_msm(alloc, two)?)),
+            "Poly::lin_comb_eval" => return Ok(Answer::Value(q.lin_comb_eval(alloc, weighted)?)),
+            "Poly::equals" => return Ok(Answer::Truth(p.equals(alloc, q)?)),
+            _ => return Err(AllocError),
+        }
+        Ok(Answer::Done)
     }
 }

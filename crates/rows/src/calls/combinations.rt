@@ -6,7 +6,6 @@ use math_samples::elements::Element;
 use rows_base::answer::{Answer, put, put_firsts};
 use rows_base::fault::Fault;
 use rows_base::words::{element, elements, number, parted};
-use rows_poly::polynomials::weighted_point;
 use std::alloc::Global;
 
 /// Runs a call of this module; `false` where it is none.
@@ -16,12 +15,12 @@ pub fn run<R: Element>(
     arguments: &str,
     answer: &mut Answer<R>,
 ) -> Result<bool, Fault> {
-    let done = match call {
-        "synthetic" => value(alloc, arguments, answer),
-        "synthetic_equals" => same(alloc, arguments, answer),
+    match call {
+        "synthetic" => value(alloc, arguments, answer)?,
+        "synthetic_equals" => same(alloc, arguments, answer)?,
         _ => return Ok(false),
-    };
-    done.and(Ok(true))
+    }
+    Ok(true)
 }
 
 /// `synthetic STEP .. @ G ..`: the greatest index that is stored, or `none`, and the value under the generators G.
@@ -46,7 +45,8 @@ fn put_value<R: Element>(
     } else {
         answer.text.push_str(" none")?;
     }
-    answer.found(c.eval(alloc, generators).map_err(Fault::Memory))
+    answer.element(c.eval(alloc, generators)?)?;
+    Ok(())
 }
 
 /// `synthetic_equals STEP .. ; STEP .. ; ..`: for each combination the place of the first that it equals.
@@ -58,9 +58,9 @@ fn same<R: Element>(alloc: Global, arguments: &str, answer: &mut Answer<R>) -> R
     put_firsts(
         &mut answer.text,
         &items,
-        |a: &Synthetic<R, R>, b: &Synthetic<R, R>| a.equals(alloc, b),
-    )
-    .map_err(Fault::Memory)
+        |a: &Synthetic<R, R>, b: &Synthetic<R, R>| { a.equals(alloc, b) },
+    )?;
+    Ok(())
 }
 
 /// The combination that is on top after these steps.
@@ -75,10 +75,9 @@ fn combination<R: Element>(alloc: Global, steps: &str) -> Result<Synthetic<R, R>
 
 /// The combination on top, which is taken away.
 fn top<R: Element>(stack: &mut Vec<Synthetic<R, R>>) -> Result<Synthetic<R, R>, Fault> {
-    match stack.pop() {
-        Some(c) => Ok(c),
-        None => Err(Fault::Unreadable("combination on the stack")),
-    }
+    stack
+        .pop()
+        .ok_or(Fault::Unreadable("combination on the stack"))
 }
 
 /// What a step puts on top: `gI` generator I, `cS*P,..` the points P with the weights S, and of what it takes from the
@@ -92,13 +91,15 @@ fn taken<R: Element>(
         return generator::<R>(alloc, number(index)?);
     }
     if let Some(terms) = step.strip_prefix('c') {
-        return concrete(alloc, terms);
+        return Ok(Synthetic::concrete(alloc, weighted_points::<R>(alloc, terms)?)?);
     }
     if let Some(factor) = step.strip_prefix('*') {
-        return multiple(alloc, factor, stack);
+        let factor = element::<R>(alloc, factor)?;
+        return Ok(Space::<R>::scaled(top(stack)?, alloc, &factor)?);
     }
     if let Some(count) = step.strip_prefix('s') {
-        return repeated(alloc, count, stack);
+        let count = number(count)?;
+        return Ok(top(stack)?.scale(alloc, &[count])?);
     }
     if let Some(scalars) = step.strip_prefix('m') {
         return weighted(alloc, scalars, stack);
@@ -109,7 +110,7 @@ fn taken<R: Element>(
 /// The free generator of an index.
 fn generator<R: Element>(alloc: Global, index: u64) -> Result<Synthetic<R, R>, Fault> {
     match Synthetic::<R, R>::generators(alloc).nth(index as usize) {
-        Some(generator) => generator.map_err(Fault::Memory),
+        Some(generator) => Ok(generator?),
         None => Err(Fault::OutOfRange("an index of 2^32 or more")),
     }
 }
@@ -118,43 +119,10 @@ fn generator<R: Element>(alloc: Global, index: u64) -> Result<Synthetic<R, R>, F
 fn weighted_points<R: Element>(alloc: Global, terms: &str) -> Result<Vec<(R, R)>, Fault> {
     let mut out = Vec::new(alloc);
     for term in terms.split_terminator(',') {
-        out.push(weighted_point::<R>(alloc, term, '*')?)?;
+        let (weight, point) = parted(term, '*')?;
+        let weight = element::<R>(alloc, weight)?;
+        out.push((weight, element::<R>(alloc, point)?))?;
     }
-    Ok(out)
-}
-
-/// The points with the weights of `S*P,..`.
-fn concrete<R: Element>(alloc: Global, terms: &str) -> Result<Synthetic<R, R>, Fault> {
-    let terms = weighted_points::<R>(alloc, terms)?;
-    Synthetic::concrete(alloc, terms).map_err(Fault::Memory)
-}
-
-/// The multiple of the one on top by an element.
-fn multiple<R: Element>(
-    alloc: Global,
-    factor: &str,
-    stack: &mut Vec<Synthetic<R, R>>,
-) -> Result<Synthetic<R, R>, Fault> {
-    let factor = element::<R>(alloc, factor)?;
-    Space::<R>::scaled(top(stack)?, alloc, &factor).map_err(Fault::Memory)
-}
-
-/// The N-fold sum of the one on top.
-fn repeated<R: Element>(
-    alloc: Global,
-    count: &str,
-    stack: &mut Vec<Synthetic<R, R>>,
-) -> Result<Synthetic<R, R>, Fault> {
-    let count = number(count)?;
-    top(stack)?.scale(alloc, &[count]).map_err(Fault::Memory)
-}
-
-/// The elements X and Y of `X,Y`.
-fn two_elements<R: Element>(alloc: Global, text: &str) -> Result<Vec<R>, Fault> {
-    let (x, y) = parted(text, ',')?;
-    let mut out = Vec::new(alloc);
-    out.push(element::<R>(alloc, x)?)?;
-    out.push(element::<R>(alloc, y)?)?;
     Ok(out)
 }
 
@@ -164,9 +132,12 @@ fn weighted<R: Element>(
     scalars: &str,
     stack: &mut Vec<Synthetic<R, R>>,
 ) -> Result<Synthetic<R, R>, Fault> {
-    let weights = two_elements::<R>(alloc, scalars)?;
+    let (x, y) = parted(scalars, ',')?;
+    let mut weights = Vec::new(alloc);
+    weights.push(element::<R>(alloc, x)?)?;
+    weights.push(element::<R>(alloc, y)?)?;
     let points = two(alloc, stack)?;
-    Space::<R>::msm(alloc, &points, &weights).map_err(Fault::Memory)
+    Ok(Space::<R>::msm(alloc, &points, &weights)?)
 }
 
 /// The two on top, the lower one first.
@@ -188,24 +159,16 @@ fn of_top<R: Element>(
     step: &str,
     stack: &mut Vec<Synthetic<R, R>>,
 ) -> Result<Synthetic<R, R>, Fault> {
-    let next = match step {
-        "z" => Synthetic::zero(alloc),
-        "n" => top(stack)?.neg(alloc),
-        "d" => doubled(alloc, top(stack)?),
-        "+" | "-" => return of_top_two(alloc, step, stack),
-        _ => return Err(Fault::Unreadable("step")),
-    };
-    next.map_err(Fault::Memory)
-}
-
-/// The sum or the difference of the two on top.
-fn of_top_two<R: Element>(
-    alloc: Global,
-    step: &str,
-    stack: &mut Vec<Synthetic<R, R>>,
-) -> Result<Synthetic<R, R>, Fault> {
-    let b = top(stack)?;
-    of_two(alloc, step, top(stack)?, &b).map_err(Fault::Memory)
+    match step {
+        "z" => Ok(Synthetic::zero(alloc)?),
+        "n" => Ok(top(stack)?.neg(alloc)?),
+        "d" => Ok(doubled(alloc, top(stack)?)?),
+        "+" | "-" => {
+            let b = top(stack)?;
+            Ok(of_two(alloc, step, top(stack)?, &b)?)
+        }
+        _ => Err(Fault::Unreadable("step")),
+    }
 }
 
 /// Twice the combination.

@@ -2,7 +2,7 @@
 
 use commonware_math::algebra::Mem;
 use commonware_math::ordered::Map;
-use commonware_math::poly::{Interpolator, Poly};
+use commonware_math::poly::Interpolator;
 use math_samples::elements::Element;
 use rows_base::answer::Answer;
 use rows_base::fault::Fault;
@@ -17,15 +17,15 @@ pub fn run<R: Element>(
     arguments: &str,
     answer: &mut Answer<R>,
 ) -> Result<bool, Fault> {
-    let done = match call {
-        "weights" => weights(alloc, arguments, answer),
-        "interpolator" => interpolator(alloc, arguments, answer),
-        "interpolator_at" => put_at(alloc, arguments, answer),
-        "interpolate" => interpolate(alloc, arguments, answer),
-        "interpolate_poly" => interpolate_polynomials(alloc, arguments, answer),
+    match call {
+        "weights" => weights(alloc, arguments, answer)?,
+        "interpolator" => interpolator(alloc, arguments, answer)?,
+        "interpolator_at" => put_at(alloc, arguments, answer)?,
+        "interpolate" => interpolate(alloc, arguments, answer)?,
+        "interpolate_poly" => interpolate_polynomials(alloc, arguments, answer)?,
         _ => return Ok(false),
-    };
-    done.and(Ok(true))
+    }
+    Ok(true)
 }
 
 /// Pairs of the numbers from 0 upwards and of these values.
@@ -44,7 +44,7 @@ fn interpolator_at<R: Element>(
 ) -> Result<Interpolator<u64, R>, Fault> {
     let (x, points) = parted(arguments, '@')?;
     let x = element::<R>(alloc, x)?;
-    Interpolator::at(alloc, keyed::<R>(alloc, points)?, &x).map_err(Fault::Memory)
+    Ok(Interpolator::at(alloc, keyed::<R>(alloc, points)?, &x)?)
 }
 
 /// Adds the weights with their keys.
@@ -68,9 +68,8 @@ fn weights<R: Element>(
 ) -> Result<(), Fault> {
     let points = counted(alloc, elements::<R>(alloc, arguments)?)?;
     let interpolator = Interpolator::new(alloc, points)?;
-    answer
-        .copies(alloc, interpolator.weights().values())
-        .map_err(Fault::Memory)
+    answer.copies(alloc, interpolator.weights().values())?;
+    Ok(())
 }
 
 /// `interpolator K:P ..`: the weights at zero with their keys.
@@ -80,21 +79,14 @@ fn interpolator<R: Element>(
     answer: &mut Answer<R>,
 ) -> Result<(), Fault> {
     let interpolator = Interpolator::new(alloc, keyed::<R>(alloc, arguments)?)?;
-    put_weights(alloc, &interpolator, answer).map_err(Fault::Memory)
+    put_weights(alloc, &interpolator, answer)?;
+    Ok(())
 }
 
 /// `interpolator_at X @ K:P ..`: the weights at X with their keys.
 fn put_at<R: Element>(alloc: Global, arguments: &str, answer: &mut Answer<R>) -> Result<(), Fault> {
-    put_weights(alloc, &interpolator_at::<R>(alloc, arguments)?, answer).map_err(Fault::Memory)
-}
-
-/// The value of `K:V .. @ X @ K:P ..` at X, where there is one.
-fn interpolated<R: Element>(alloc: Global, text: &str) -> Result<Option<R>, Fault> {
-    let (values, points) = parted(text, '@')?;
-    let values = Map::from_iter_dedup(alloc, keyed::<R>(alloc, values)?)?;
-    interpolator_at::<R>(alloc, points)?
-        .interpolate(alloc, &values)
-        .map_err(Fault::Memory)
+    put_weights(alloc, &interpolator_at::<R>(alloc, arguments)?, answer)?;
+    Ok(())
 }
 
 /// `interpolate K:V .. @ X @ K:P ..`: the value at X, or `none`.
@@ -103,29 +95,13 @@ fn interpolate<R: Element>(
     arguments: &str,
     answer: &mut Answer<R>,
 ) -> Result<(), Fault> {
-    let done = match interpolated::<R>(alloc, arguments)? {
-        Some(value) => answer.element(value),
-        None => answer.text.push_str(" none"),
-    };
-    done.map_err(Fault::Memory)
-}
-
-/// The polynomials of `A .. ; B .. ; ..` under the keys 0, 1 and so on.
-fn keyed_polynomials<R: Element>(alloc: Global, text: &str) -> Result<Map<u64, Poly<R>>, Fault> {
-    let values = counted(alloc, polynomials::<R>(alloc, text)?)?;
-    Map::from_iter_dedup(alloc, values).map_err(Fault::Memory)
-}
-
-/// The value of `A .. ; B .. ; .. @ X @ K:P ..` at X, where there is one.
-fn interpolated_polynomial<R: Element>(
-    alloc: Global,
-    text: &str,
-) -> Result<Option<Poly<R>>, Fault> {
-    let (values, points) = parted(text, '@')?;
-    let values = keyed_polynomials::<R>(alloc, values)?;
-    interpolator_at::<R>(alloc, points)?
-        .interpolate(alloc, &values)
-        .map_err(Fault::Memory)
+    let (values, points) = parted(arguments, '@')?;
+    let values = Map::from_iter_dedup(alloc, keyed::<R>(alloc, values)?)?;
+    match interpolator_at::<R>(alloc, points)?.interpolate(alloc, &values)? {
+        Some(value) => answer.element(value)?,
+        None => answer.text.push_str(" none")?,
+    }
+    Ok(())
 }
 
 /// `interpolate_poly A .. ; B .. ; .. @ X @ K:P ..`: the values, of the keys 0, 1 and so on, are
@@ -135,9 +111,12 @@ fn interpolate_polynomials<R: Element>(
     arguments: &str,
     answer: &mut Answer<R>,
 ) -> Result<(), Fault> {
-    let done = match interpolated_polynomial::<R>(alloc, arguments)? {
-        Some(value) => put_stored(alloc, &value, answer),
-        None => answer.text.push_str(" none"),
-    };
-    done.map_err(Fault::Memory)
+    let (values, points) = parted(arguments, '@')?;
+    let values = counted(alloc, polynomials::<R>(alloc, values)?)?;
+    let values = Map::from_iter_dedup(alloc, values)?;
+    match interpolator_at::<R>(alloc, points)?.interpolate(alloc, &values)? {
+        Some(value) => put_stored(alloc, &value, answer)?,
+        None => answer.text.push_str(" none")?,
+    }
+    Ok(())
 }

@@ -23,16 +23,16 @@ pub fn run<R: Element>(
     arguments: &str,
     answer: &mut Answer<R>,
 ) -> Result<bool, Fault> {
-    let done = match call {
-        "lagrange" => lagrange(alloc, arguments, answer),
-        "lagrange_at" => lagrange_at(alloc, arguments, answer),
-        "lagrange_as_at" => lagrange_as_at::<R>(alloc, arguments, &mut answer.text),
-        "roots_of_unity" => roots_of_unity(alloc, arguments, answer),
-        "roots_of_unity_at" => roots_of_unity_at(alloc, arguments, answer),
-        "roots_of_unity_as_new" => roots_of_unity_as_new::<R>(alloc, arguments, &mut answer.text),
+    match call {
+        "lagrange" => lagrange(alloc, arguments, answer)?,
+        "lagrange_at" => lagrange_at(alloc, arguments, answer)?,
+        "lagrange_as_at" => lagrange_as_at::<R>(alloc, arguments, answer)?,
+        "roots_of_unity" => roots_of_unity(alloc, arguments, answer)?,
+        "roots_of_unity_at" => roots_of_unity_at(alloc, arguments, answer)?,
+        "roots_of_unity_as_new" => roots_of_unity_as_new::<R>(alloc, arguments, answer)?,
         _ => return Ok(false),
-    };
-    done.and(Ok(true))
+    }
+    Ok(true)
 }
 
 /// A total whose domain the field has.
@@ -68,19 +68,14 @@ fn indices(alloc: Global, text: &str) -> Result<Vec<u32>, Fault> {
     Ok(out)
 }
 
-/// The key and the index of `K:I`.
-fn key_and_index(word: &str) -> Result<(u64, u32), Fault> {
-    let (key, index) = parted(word, ':')?;
-    Ok((number(key)?, short(index)?))
-}
-
 /// The indices of `K:I ..` by their keys.
 fn keys(alloc: Global, text: &str) -> Result<BiMap<u64, u32>, Fault> {
     let mut pairs = Vec::new(alloc);
     for word in text.split_whitespace() {
-        pairs.push(key_and_index(word)?)?;
+        let (key, index) = parted(word, ':')?;
+        pairs.push((number(key)?, short(index)?))?;
     }
-    BiMap::try_from_iter(alloc, pairs).map_err(Fault::Pairs)
+    Ok(BiMap::try_from_iter(alloc, pairs)?)
 }
 
 /// Adds weights with their indices.
@@ -100,7 +95,8 @@ fn lagrange<R: Element>(
     let (total, list) = parted(arguments, ';')?;
     let total = total_in::<R>(total)?;
     let weights = lagrange_coefficients(alloc, total, indices(alloc, list)?)?;
-    put_indexed(weights, answer).map_err(Fault::Memory)
+    put_indexed(weights, answer)?;
+    Ok(())
 }
 
 /// `lagrange_at X @ TOTAL ; [I, ..]`: the same for the value at X.
@@ -114,7 +110,8 @@ fn lagrange_at<R: Element>(
     let total = total_in::<R>(total)?;
     let x = element::<R>(alloc, x)?;
     let weights = lagrange_coefficients_at(alloc, total, indices(alloc, list)?, &x)?;
-    put_indexed(weights, answer).map_err(Fault::Memory)
+    put_indexed(weights, answer)?;
+    Ok(())
 }
 
 /// `roots_of_unity TOTAL ; K:I ..`: the interpolator for the value at zero.
@@ -126,7 +123,8 @@ fn roots_of_unity<R: Element>(
     let (total, points) = parted(arguments, ';')?;
     let total = total_in::<R>(total)?;
     let interpolator = Interpolator::roots_of_unity(alloc, total, keys(alloc, points)?)?;
-    put_weights(alloc, &interpolator, answer).map_err(Fault::Memory)
+    put_weights(alloc, &interpolator, answer)?;
+    Ok(())
 }
 
 /// `roots_of_unity_at X @ TOTAL ; K:I ..`: the interpolator for the value at X.
@@ -141,7 +139,8 @@ fn roots_of_unity_at<R: Element>(
     let points = keys(alloc, points)?;
     let x = element::<R>(alloc, x)?;
     let interpolator = Interpolator::roots_of_unity_at(alloc, total, points, &x)?;
-    put_weights(alloc, &interpolator, answer).map_err(Fault::Memory)
+    put_weights(alloc, &interpolator, answer)?;
+    Ok(())
 }
 
 /// The first powers of an element.
@@ -157,7 +156,7 @@ fn first_powers<R: Element>(alloc: Global, x: &R, count: usize) -> Mem<Vec<R>> {
 fn domain<R: Element>(alloc: Global, total: NonZeroU32) -> Result<Vec<R>, Fault> {
     let size = (total.get() as usize).next_power_of_two();
     match R::root_of_unity(alloc, size.trailing_zeros() as u8)? {
-        Some(root) => first_powers(alloc, &root, size).map_err(Fault::Memory),
+        Some(root) => Ok(first_powers(alloc, &root, size)?),
         None => Err(Fault::OutOfRange("no such domain")),
     }
 }
@@ -197,42 +196,32 @@ fn are_same<R: Element>(alloc: Global, a: &Map<u32, R>, b: &Map<u32, R>) -> Mem<
     Ok(true)
 }
 
-/// The interpolator for the value at x of the points of these indices.
-fn expected_at<R: Element>(
-    alloc: Global,
-    indices: &[u32],
-    points: &[R],
-    x: &R,
-) -> Mem<Interpolator<u32, R>> {
-    let pairs = indexed(alloc, indices, points)?;
-    Interpolator::at(alloc, pairs, x)
-}
-
-/// The weights at the points of these indices for the value at x.
-fn weights_at<R: Element>(
+/// Whether the weights at these points of the domain for the value at x are those of `Interpolator::at`.
+fn is_as_at<R: Element>(
     alloc: Global,
     total: NonZeroU32,
-    indices: Vec<u32>,
+    d: u32,
+    points: &[R],
     x: &R,
-) -> Mem<Map<u32, R>>
-    requires { HasDomainOf R.MAX_LG_ROOT_ORDER total.value }
-{
-    let weights = lagrange_coefficients_at(alloc, total, indices, x)?;
-    Map::from_iter_dedup(alloc, weights)
-}
-
-/// Whether the weights at these points of the domain for the value at x are those of `Interpolator::at`.
-fn is_as_at<R: Element>(alloc: Global, total: NonZeroU32, d: u32, points: &[R], x: &R) -> Mem<bool>
+) -> Result<bool, Fault>
     requires { HasDomainOf R.MAX_LG_ROOT_ORDER total.value }
 {
     let indices = multiples(alloc, total, d)?;
-    let expected = expected_at(alloc, &indices, points, x)?;
-    let weights = weights_at(alloc, total, indices, x)?;
-    are_same(alloc, &weights, expected.weights())
+    let pairs = indexed(alloc, &indices, points)?;
+    let expected = Interpolator::at(alloc, pairs, x)?;
+    let weights = lagrange_coefficients_at(alloc, total, indices, x)?;
+    let weights = Map::from_iter_dedup(alloc, weights)?;
+    Ok(are_same(alloc, &weights, expected.weights())?)
 }
 
 /// At how many of the points these weights are those of `Interpolator::at`.
-fn fits_at<R: Element>(alloc: Global, total: NonZeroU32, d: u32, points: &[R], xs: &[R]) -> Mem<u64>
+fn fits_at<R: Element>(
+    alloc: Global,
+    total: NonZeroU32,
+    d: u32,
+    points: &[R],
+    xs: &[R],
+) -> Result<u64, Fault>
     requires { HasDomainOf R.MAX_LG_ROOT_ORDER total.value }
 {
     let mut fits = 0u64;
@@ -242,34 +231,22 @@ fn fits_at<R: Element>(alloc: Global, total: NonZeroU32, d: u32, points: &[R], x
     Ok(fits)
 }
 
-/// At how many of the points of the domain, zero and five they are.
-fn fits_at_all<R: Element>(
-    alloc: Global,
-    total: NonZeroU32,
-    d: u32,
-    points: &[R],
-    others: &[R],
-) -> Mem<u64>
-    requires { HasDomainOf R.MAX_LG_ROOT_ORDER total.value }
-{
-    let fits = fits_at(alloc, total, d, points, points)?;
-    Ok(fits.saturating_add(fits_at(alloc, total, d, points, others)?))
-}
-
 /// `lagrange_as_at TOTAL D`: at how many of the points of the domain, zero and five the weights for the
 /// indices that D divides are those of `Interpolator::at`.
 fn lagrange_as_at<R: Element>(
     alloc: Global,
     arguments: &str,
-    text: &mut String,
+    answer: &mut Answer<R>,
 ) -> Result<(), Fault> {
     let (total, d) = parted(arguments.trim(), ' ')?;
     let total = total_in::<R>(total)?;
     let d = short(d)?;
     let points = domain::<R>(alloc, total)?;
     let others = elements::<R>(alloc, "0 5")?;
-    let fits = fits_at_all(alloc, total, d, &points, &others)?;
-    put(text, fits).map_err(Fault::Memory)
+    let fits = fits_at(alloc, total, d, &points, &points)?;
+    let fits = fits.saturating_add(fits_at(alloc, total, d, &points, &others)?);
+    put(&mut answer.text, fits)?;
+    Ok(())
 }
 
 /// `roots_of_unity_as_new FIRST LAST`: for how many totals of these the weights of all indices are those of
@@ -277,14 +254,15 @@ fn lagrange_as_at<R: Element>(
 fn roots_of_unity_as_new<R: Element>(
     alloc: Global,
     arguments: &str,
-    text: &mut String,
+    answer: &mut Answer<R>,
 ) -> Result<(), Fault> {
     let (first, last) = parted(arguments.trim(), ' ')?;
     let mut fits = 0u64;
     for total in short(first)?..=short(last)? {
         fits = fits.saturating_add(u64::from(is_as_new::<R>(alloc, total)?));
     }
-    put(text, fits).map_err(Fault::Memory)
+    put(&mut answer.text, fits)?;
+    Ok(())
 }
 
 /// The interpolator of all indices below a total, each its own key.
@@ -299,7 +277,7 @@ fn of_all_indices<R: Element>(
         pairs.push((index, index))?;
     }
     let keys = BiMap::try_from_iter(alloc, pairs)?;
-    Interpolator::roots_of_unity(alloc, total, keys).map_err(Fault::Memory)
+    Ok(Interpolator::roots_of_unity(alloc, total, keys)?)
 }
 
 /// The interpolator of these points by `Interpolator::new`.
@@ -307,7 +285,7 @@ fn of_points<R: Element>(alloc: Global, total: NonZeroU32) -> Result<Interpolato
     let points = domain::<R>(alloc, total)?;
     let indices = multiples(alloc, total, 1)?;
     let pairs = indexed(alloc, &indices, &points)?;
-    Interpolator::new(alloc, pairs).map_err(Fault::Memory)
+    Ok(Interpolator::new(alloc, pairs)?)
 }
 
 /// Whether the weights of all indices below a total are those of `Interpolator::new`.
@@ -315,5 +293,5 @@ fn is_as_new<R: Element>(alloc: Global, total: u32) -> Result<bool, Fault> {
     let total = domain_of::<R>(total)?;
     let expected = of_points::<R>(alloc, total)?;
     let interpolator = of_all_indices::<R>(alloc, total)?;
-    are_same(alloc, interpolator.weights(), expected.weights()).map_err(Fault::Memory)
+    Ok(are_same(alloc, interpolator.weights(), expected.weights())?)
 }
