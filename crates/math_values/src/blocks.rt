@@ -30,8 +30,8 @@ fn reduced(sum: u128) -> F
     joined(F::from((sum % WORD) as u64), F::from(high))
 }
 
-/// The value at x of the polynomial with these coefficients, with a table of powers of x, and, where
-/// they are `COUNTED`, how many of the words are P or more.
+/// The value at x of the polynomial with these coefficients, with a table of powers of x, and,
+/// where they are `COUNTED`, how many of the words are P or more.
 pub fn block_value<W: Word, const COUNTED: bool>(words: &[W], powers: &[F]) -> (F, u64)
     requires { length words.now ≤ length powers.now }
     ensures value { (x : F) → ArePowersOf x powers.now

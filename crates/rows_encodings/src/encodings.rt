@@ -180,8 +180,8 @@ fn take(alloc: Global, kind: &str, input: &mut &[u8], text: &mut String) -> Resu
     }
 }
 
-/// Reads a value from bytes, and adds how many are left. Where it is refused, the input has to stand as it
-/// was.
+/// Reads a value from bytes, and adds how many are left. Where it is refused, the input has to
+/// stand as it was.
 fn read_all(alloc: Global, kind: &str, all: &[u8], text: &mut String) -> Result<(), Fault> {
     let mut input = all;
     let taken = take(alloc, kind, &mut input, text);

@@ -362,7 +362,8 @@ fn fill_words<R: Element>(
     Ok(())
 }
 
-/// Two columns of words of splitmix64, whose state begins at lg times 2^32, in the rows that the rule names.
+/// Two columns of words of splitmix64, whose state begins at lg times 2^32, in the rows that the
+/// rule names.
 fn words<R: Element>(alloc: Global, lg: u64, rule: Rule) -> Result<Values<R>, Fault> {
     let mut values = Values::<R>::empty(alloc, lg, 2)?;
     let mut state = lg << 32;

@@ -39,8 +39,8 @@ pub fn has_domain<R: Element>(rows: usize) -> bool
     lg <= R::MAX_LG_ROOT_ORDER
 }
 
-/// The columns of M of `N @ M` as polynomials of N coefficients at least, evaluated: their values, and the
-/// work that it took.
+/// The columns of M of `N @ M` as polynomials of N coefficients at least, evaluated: their values,
+/// and the work that it took.
 fn evaluated<R: Element>(
     alloc: Global,
     arguments: &str,
@@ -67,8 +67,8 @@ fn put_counts<R: Element>(values: &EvaluationVector<R>, work: &Work, text: &mut 
     put(text, values.filled_rows() as u64)
 }
 
-/// `evaluate N @ M`: the columns of M as polynomials of N coefficients at least, evaluated: how many
-/// butterflies that took, how many rows are filled, and the matrix of the values.
+/// `evaluate N @ M`: the columns of M as polynomials of N coefficients at least, evaluated: how
+/// many butterflies that took, how many rows are filled, and the matrix of the values.
 fn evaluate<R: Element>(
     alloc: Global,
     arguments: &str,

@@ -175,8 +175,8 @@ fn is_pair_left_out(
     }
 }
 
-/// For how many pairs of shards and cells of these, with one more in this cell of both, the words are given
-/// back and the pair is left out.
+/// For how many pairs of shards and cells of these, with one more in this cell of both, the words
+/// are given back and the pair is left out.
 fn pairs_left_out(alloc: Global, shards: &[Shard], words: &[u64]) -> Mem<u64> {
     let mut found = 0u64;
     for i in 0..shards.len() {
@@ -191,8 +191,8 @@ fn pairs_left_out(alloc: Global, shards: &[Shard], words: &[u64]) -> Mem<u64> {
     Ok(found)
 }
 
-/// `join_each_pair MIN TOTAL ; W ..`: for how many pairs of shards and cells of these, with one more
-/// in this cell of both, the words are given back and the pair is left out.
+/// `join_each_pair MIN TOTAL ; W ..`: for how many pairs of shards and cells of these, with one
+/// more in this cell of both, the words are given back and the pair is left out.
 fn join_each_pair(alloc: Global, arguments: &str, text: &mut String) -> Result<(), Fault> {
     let (head, data) = parted(arguments, ';')?;
     let (min, total) = min_and_total(head)?;
@@ -290,8 +290,8 @@ fn set_gives_back(alloc: Global, shards: &[Shard], set: u64, data: &[u64]) -> Me
     give_back(alloc, &some, data)
 }
 
-/// How many sets of `min` shards below `sets` give the words back, and in how many ways one more in a cell of
-/// such a set, beside a further shard, is refused as of no data.
+/// How many sets of `min` shards below `sets` give the words back, and in how many ways one more in
+/// a cell of such a set, beside a further shard, is refused as of no data.
 fn sets_joined(
     alloc: Global,
     shards: &[Shard],
