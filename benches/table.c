@@ -1,4 +1,5 @@
-/* table [SECONDS]: times the calls of the C library, each checked for a right answer, and prints a table.
+/* table [SECONDS [shards]]: times the calls of the C library, each checked for a right answer, and prints a table; with a second
+ * word, those of shards alone.
  *
  * A line has the least processor time of some tries, the time for one butterfly, coefficient or byte, and how much
  * that is of what the first line of the same work took: where the time grows with N lg N it stays near 1.
@@ -299,8 +300,48 @@ static void shards(const char *split, const char *join, uint32_t min, int from) 
   free(indices);
 }
 
+/* prints how many MB of the data of a split go through a call in a second */
+static void rate(const char *call, uint32_t min, uint32_t total, uint32_t shards, size_t bytes, double time) {
+  printf("%-6s %4u of %4u, %4u shards %6.1f MB %14.4f ms %8.1f MB a second\n", call, min, total, shards, (double)bytes * 1e-6,
+         time * 1e3, (double)bytes * 1e-6 / time);
+}
+
+/* the data are joined from the last `min` shards, and, where `all` is not 0, from all of them */
+static void rates(uint32_t min, uint32_t total, size_t bytes, int all) {
+  size_t n = bytes / 8, size = 0, written = 0;
+  double time;
+  need("shard sizes", cwm_shard_sizes(n, min, total, &size));
+  uint64_t *a = some(n), *b = words(n), *rows = words(total * size), *copy = words(total * size);
+  uint32_t *indices = malloc(total * sizeof *indices);
+  if (indices == NULL) fail("malloc");
+  for (uint32_t i = 0; i < total; i++) indices[i] = i;
+  LEAST(time, b, a, n, need("split", cwm_split(b, n, min, total, rows, total * size)));
+  rate("split", min, total, total, bytes, time);
+  for (uint32_t m = min; m != 0; m = all && m != total ? total : 0) {
+    memset(b, 0, n * sizeof *b);
+    LEAST(time, copy, rows + (total - m) * size, m * size,
+          need("join", cwm_join(indices + (total - m), m, min, total, copy, m * size, b, n, &written)));
+    rate("join", min, total, m, bytes, time);
+    if (written != n || memcmp(a, b, n * sizeof *a) != 0) fail("join");
+  }
+  free(a), free(b), free(rows), free(copy), free(indices);
+}
+
+/* shards of several numbers and sizes */
+static void all_rates(void) {
+  rates(10, 16, 4000000, 1);
+  rates(10, 16, 40000000, 1);
+  rates(100, 200, 4000000, 0);
+  rates(100, 200, 40000000, 0);
+  rates(3, 1000, 3000000, 1);
+}
+
 int main(int argc, char **argv) {
   if (argc > 1) seconds = atoi(argv[1]);
+  if (argc > 2) {
+    all_rates();
+    return 0;
+  }
   printf("%-19s %4s %6s %17s %28s %8s\n", "work", "lg", "cols", "time", "for one", "growth");
   evals();
   transforms(1);
@@ -316,5 +357,6 @@ int main(int argc, char **argv) {
   encodings();
   shards("split, 8 of 16", "join, 8 of 16", 8, 10);
   shards("split, 512 of 1024", "join, 512 of 1024", 512, 14);
+  all_rates();
   return 0;
 }

@@ -1,6 +1,6 @@
 -- Shares of a deal of bytes: they stand with one another, and their elements are those that were dealt.
-use Rattle.std.proofs.Common.{◌≡◌, ◌∙◌, ℕ, zero, suc, ◌+◌, ◌<◌, ◌≤◌, ◌^◌, List, [], ◌∷◌, length, take, get_or, slice_get, Some, refl, sym, ap, subst, arith}
-use Rattle.std.specs.List.{All, Contains}
+use Rattle.std.proofs.Common.{◌≡◌, ◌∙◌, ℕ, zero, suc, ◌+◌, ◌<◌, ◌≤◌, ◌^◌, List, [], ◌∷◌, length, take, get_or, slice_get, Some, refl, sym, ap, ap₂, subst, arith}
+use Rattle.std.specs.List.{All, AllZip, Contains}
 use Rattle.std.proofs.lemmas.List.{ext_get_or, get_or-map, get_or_default, length-map, nil_from_length}
 use Rattle.std.proofs.lemmas.List.Elements.{All-contains, All-nil, All-take}
 use Rattle.std.proofs.lemmas.List.FromFn.{get_or-range_with_len, length-range_with_len}
@@ -15,12 +15,13 @@ use Rattle.math_base.specs.Elements.{number, residue, same}
 use Rattle.math_base.specs.Polynomials.{value_in_ring}
 use Rattle.math_base.proofs.ElementNumbers.{same_number}
 use Rattle.share_lines.specs.declared.shares.SecretShare.{SecretShare}
+use Rattle.share_lines.specs.SecretShares.{AreSameShares}
 use Rattle.shared_secret.specs.declared.shares.Share.{Share}
 use Rattle.shared_secret.specs.CorrectedShares.{AreWithinRadius}
 use Rattle.shared_secret.specs.Shares.{point, points}
 use Rattle.secret_bytes.specs.Columns.{column, goldilocks, share_of}
 use Rattle.secret_bytes.specs.Combined.{AreCombined, AreRecovered, Fits, IsDueCombining, IsWrong, others}
-use Rattle.secret_bytes.specs.CombiningLaws.{AnySharesCombine, IsMemory}
+use Rattle.secret_bytes.specs.CombiningLaws.{AnySharesCombine, IsMemory, IsSameAsOne}
 use Rattle.secret_bytes.specs.Deals.{AreDealtBytes, AreSampled, IsOfDeal}
 use Rattle.secret_bytes.specs.Keyed.{AreKeyed}
 use Rattle.secret_bytes.specs.Settled.{IsFault, IsFirstFault, IsSound, firsts}
@@ -58,48 +59,81 @@ constant-at_zero : (p : List F) (a : F) → slice_get p 0 ≡ Some a → same a 
 constant-at_zero p a e =
     ap number (sym (get_or_from_slice_get p 0 a (residue 0) e)) ∙ sym (value_over-at_zero equality group (ring_is_module equality group commutes ring) p)
 
+items-same : (xs ys : List F) → AllZip same xs ys → xs ≡ ys
+items-same [] [] h = refl
+items-same [] (y ∷ ys) h = absurd h
+items-same (x ∷ xs) [] h = absurd h
+items-same (x ∷ xs) (y ∷ ys) h = ap₂ (λ z zs. z ∷ zs) (same_number x y h.0) (items-same xs ys h.1)
+
+-- the share of element j of a share with this index and these values
+abbrev share_with : ℕ → ℕ → List F → Share F
+share_with j i xs = record { index = i; value = get_or xs j (residue 0) }
+
+-- same shares have the same values
+values-same_shares : (s u : SecretShare) → AreSameShares s u → s.values.items ≡ u.values.items
+values-same_shares s u h = items-same s.values.items u.values.items h.values
+
+-- the share at place k of a deal has the index k + 1
+pub number_of-index : (bytes : List ℕ) (t n : ℕ) (before after : Stream) (dealt : List SecretShare) → AreDealtBytes bytes t n before after dealt
+    → (k : ℕ) (s : SecretShare) → k < length dealt → get_or dealt k s ≡ s → (s.index ≡ 1 + k) × (k < n)
+number_of-index bytes t n before after dealt D k s l e =
+    let count : length dealt ≡ n = sym (length-map dealt (λ (u : SecretShare). u.index)) ∙ ap length D.indices ∙ length-range_with_len 1 n in
+    let below : k < n = omega (arith, l, count) in
+    (ap (λ (u : SecretShare). u.index) (sym e) ∙ sym (get_or-map (λ (u : SecretShare). u.index) dealt k s 0 l) ∙ ap (λ is. get_or is k 0) D.indices ∙ get_or-range_with_len 1 n k 0 below, below)
+
 module _ (bytes : List ℕ) (t n : ℕ) (before after : Stream) (dealt shares : List SecretShare) (some : 0 < t) (small : n < 2 ^ 32) (D : AreDealtBytes bytes t n before after dealt)
-    (chosen : All (Contains dealt) shares) (enough : t ≤ length (firsts shares)) where
+    (chosen : All (IsSameAsOne dealt) shares) (enough : t ≤ length (firsts shares)) where
   abbrev polynomial : ℕ → List F
   polynomial j = get_or D.polynomials j []
 
-  number_of-index : (k : ℕ) (s : SecretShare) → k < length dealt → get_or dealt k s ≡ s → (s.index ≡ 1 + k) × (k < n)
-  number_of-index k s l e =
-      let count : length dealt ≡ n = sym (length-map dealt (λ (u : SecretShare). u.index)) ∙ ap length D.indices ∙ length-range_with_len 1 n in
-      let below : k < n = omega (arith, l, count) in
-      (ap (λ (u : SecretShare). u.index) (sym e) ∙ sym (get_or-map (λ (u : SecretShare). u.index) dealt k s 0 l) ∙ ap (λ is. get_or is k 0) D.indices ∙ get_or-range_with_len 1 n k 0 below, below)
+  index-of : (s : SecretShare) (h : IsSameAsOne dealt s) → (s.index ≡ 1 + h.1.0) × (h.1.0 < n)
+  index-of s h = let i = number_of-index bytes t n before after dealt D h.1.0 h.0 h.1.1 h.1.2 in (h.2.index ∙ i.0, i.1)
 
   -- dealt shares of one index are one
-  one-share : (s u : SecretShare) → Contains dealt s → Contains dealt u → s.index ≡ u.index → s ≡ u
-  one-share s u h k e =
-      let a = number_of-index h.0 s h.1 h.2 in
-      let b = number_of-index k.0 u k.1 k.2 in
+  one-dealt : (s u : SecretShare) → Contains dealt s → Contains dealt u → s.index ≡ u.index → s ≡ u
+  one-dealt s u h k e =
+      let a = number_of-index bytes t n before after dealt D h.0 s h.1 h.2 in
+      let b = number_of-index bytes t n before after dealt D k.0 u k.1 k.2 in
       let place : h.0 ≡ k.0 = omega (arith, a.0, b.0, e) in
       sym h.2 ∙ get_or_default dealt h.0 s u h.1 ∙ ap (λ i. get_or dealt i u) place ∙ k.2
 
-  of_deal : (s : SecretShare) → Contains dealt s → IsOfDeal t D.deal (length D.all) s
-  of_deal s h = All-contains (IsOfDeal t D.deal (length D.all)) dealt s D.alike h
+  -- and copies of these have the same values
+  one-share : (s u : SecretShare) → IsSameAsOne dealt s → IsSameAsOne dealt u → s.index ≡ u.index → s.values.items ≡ u.values.items
+  one-share s u h k e =
+      values-same_shares s h.0 h.2 ∙ ap (λ (v : SecretShare). v.values.items) (one-dealt h.0 k.0 h.1 k.1 (sym h.2.index ∙ e ∙ k.2.index))
+      ∙ sym (values-same_shares u k.0 k.2)
 
-  sound : (s : SecretShare) → Contains dealt s → IsSound s
-  sound s h = (omega (arith, some, (of_deal s h).threshold), omega (arith, (number_of-index h.0 s h.1 h.2).0))
+  of_deal : (s : SecretShare) → IsSameAsOne dealt s → IsOfDeal t D.deal (length D.all) s
+  of_deal s h =
+      let d = All-contains (IsOfDeal t D.deal (length D.all)) dealt h.0 D.alike h.1 in
+      record { threshold = h.2.threshold ∙ d.threshold; deal = same_number s.deal h.0.deal h.2.deal ∙ d.deal; count = ap length (values-same_shares s h.0 h.2) ∙ d.count }
+
+  sound : (s : SecretShare) → IsSameAsOne dealt s → IsSound s
+  sound s h = (omega (arith, some, (of_deal s h).threshold), omega (arith, (index-of s h).0))
 
   width_is : length D.polynomials ≡ length D.all
   width_is = sampled-count t D.third after D.all D.polynomials D.sampled
 
   -- each dealt share fits each polynomial
-  fits-dealt : (j : ℕ) → j < length D.all → (s : SecretShare) → Contains dealt s → Fits j (polynomial j) s
-  fits-dealt j l s h =
+  fits-one : (j : ℕ) → j < length D.all → (s : SecretShare) → Contains dealt s → Fits j (polynomial j) s
+  fits-one j l s h =
       let column_at : get_or (column j dealt) h.0 (share_of j s) ≡ share_of j s = get_or-map (share_of j) dealt h.0 s (share_of j s) h.1 ∙ ap (share_of j) h.2 in
       subst (λ (u : Share F). same u.value (value_in_ring goldilocks (polynomial j) (point goldilocks u.index))) column_at
       ((D.columns j (omega (arith, l, width_is))).values h.0 (share_of j s) (omega (arith, h.1, length-map dealt (share_of j))))
 
-  kept-dealt : All (Contains dealt) (firsts shares)
-  kept-dealt = firsts-all (Contains dealt) shares chosen
+  -- and so does each copy
+  fits-dealt : (j : ℕ) → j < length D.all → (s : SecretShare) → IsSameAsOne dealt s → Fits j (polynomial j) s
+  fits-dealt j l s h =
+      let parts : share_of j h.0 ≡ share_of j s =
+      ap₂ (share_with j) (sym h.2.index) (sym (values-same_shares s h.0 h.2)) in
+      subst (λ (u : Share F). same u.value (value_in_ring goldilocks (polynomial j) (point goldilocks u.index))) parts (fits-one j l h.0 h.1)
+
+  kept-dealt : All (IsSameAsOne dealt) (firsts shares)
+  kept-dealt = firsts-all (IsSameAsOne dealt) shares chosen
 
   kept-small : All (λ s. s.index < 2 ^ 32) (firsts shares)
   kept-small k d l =
-      let h = kept-dealt k d l in
-      let i = number_of-index h.0 (get_or (firsts shares) k d) h.1 h.2 in
+      let i = index-of (get_or (firsts shares) k d) (kept-dealt k d l) in
       omega (arith, i.0, i.1, small)
 
   apart-at : (j : ℕ) → AreApart same (points goldilocks (column j (firsts shares)))
@@ -111,9 +145,9 @@ module _ (bytes : List ℕ) (t n : ℕ) (before after : Stream) (dealt shares : 
   radius : (j : ℕ) → j < length D.all → AreWithinRadius goldilocks t (polynomial j) (column j (firsts shares))
   radius j l =
       within t j (firsts shares) [] (polynomial j) (firsts-apart shares) (omega (arith, (sampled-at t D.third after D.all D.polynomials D.sampled j (omega (arith, l, width_is))).0)) (omega (arith, enough))
-      (λ k d m. fits-dealt j l (get_or (others [] (firsts shares)) k d) (All-contains (Contains dealt) (firsts shares) (get_or (others [] (firsts shares)) k d) kept-dealt (others-each [] (firsts shares) k d m).0))
+      (λ k d m. fits-dealt j l (get_or (others [] (firsts shares)) k d) (All-contains (IsSameAsOne dealt) (firsts shares) (get_or (others [] (firsts shares)) k d) kept-dealt (others-each [] (firsts shares) k d m).0))
 
-  not-wrong : (s : SecretShare) → Contains dealt s → ¬ (IsWrong t (length D.all) (firsts shares) s)
+  not-wrong : (s : SecretShare) → IsSameAsOne dealt s → ¬ (IsWrong t (length D.all) (firsts shares) s)
   not-wrong s h w =
       w.4 (fits-same w.0 (polynomial w.0) w.1 s (within-once t (column w.0 (firsts shares)) w.1 (polynomial w.0) (apart-at w.0) (enough-at w.0) w.3 (radius w.0 w.2)) (fits-dealt w.0 w.2 s h))
 
@@ -133,8 +167,8 @@ module _ (bytes : List ℕ) (t n : ℕ) (before after : Stream) (dealt shares : 
   }
 
   -- the first share has the numbers of the deal
-  first-dealt : (first : SecretShare) → slice_get shares 0 ≡ Some first → Contains dealt first
-  first-dealt first e = subst (Contains dealt) (get_or_from_slice_get shares 0 first first e) (chosen 0 first (slice_get_within shares 0 first e))
+  first-dealt : (first : SecretShare) → slice_get shares 0 ≡ Some first → IsSameAsOne dealt first
+  first-dealt first e = subst (IsSameAsOne dealt) (get_or_from_slice_get shares 0 first first e) (chosen 0 first (slice_get_within shares 0 first e))
 
   as-dealt : (first : SecretShare) → slice_get shares 0 ≡ Some first → (all : List F) (wrong : List ℕ) → AreRecovered first.threshold (length first.values.items) (firsts shares) all wrong
       → AreRecovered t (length D.all) (firsts shares) all wrong
@@ -146,8 +180,8 @@ module _ (bytes : List ℕ) (t n : ℕ) (before after : Stream) (dealt shares : 
   no-fault : (first : SecretShare) → slice_get shares 0 ≡ Some first → (error : CombineError) → IsFirstFault first.threshold first.deal (length first.values.items) shares error → ⊥
   no-fault first e error h = at error h.5
     where
-      here : Contains dealt h.1
-      here = subst (Contains dealt) h.3 (chosen h.0 h.1 h.2)
+      here : IsSameAsOne dealt h.1
+      here = subst (IsSameAsOne dealt) h.3 (chosen h.0 h.1 h.2)
 
       f : IsOfDeal t D.deal (length D.all) first
       f = of_deal first (first-dealt first e)
@@ -162,8 +196,8 @@ module _ (bytes : List ℕ) (t n : ℕ) (before after : Stream) (dealt shares : 
       at (AnotherLength place) g = g.4 (d.count ∙ sym f.count)
       at (Repeated place) g =
           let u = g.3 in
-          let there : Contains dealt u.0 = All-contains (Contains dealt) (take h.0 shares) u.0 (All-take (Contains dealt) h.0 shares chosen) u.1 in
-          u.3 (ap (λ (v : SecretShare). v.values.items) (one-share u.0 h.1 there here u.2))
+          let there : IsSameAsOne dealt u.0 = All-contains (IsSameAsOne dealt) (take h.0 shares) u.0 (All-take (IsSameAsOne dealt) h.0 shares chosen) u.1 in
+          u.3 (one-share u.0 h.1 there here u.2)
       at (Memory m) g = g
       at NoShare g = g
       at (TooFew count needed) g = g
@@ -195,7 +229,7 @@ module _ (bytes : List ℕ) (t n : ℕ) (before after : Stream) (dealt shares : 
         none wrong (λ i there.
             let s = All-contains (λ (i : ℕ). (s : SecretShare) × Contains (firsts shares) s × (s.index ≡ i)) wrong i r.among there in
             let exact = All-contains (λ (s : SecretShare). (Contains wrong s.index → IsWrong t (length D.all) (firsts shares) s) × (IsWrong t (length D.all) (firsts shares) s → Contains wrong s.index)) (firsts shares) s.0 r.exactly s.1 in
-            not-wrong s.0 (All-contains (Contains dealt) (firsts shares) s.0 kept-dealt s.1) (exact.0 (subst (Contains wrong) (sym s.2) there))),
+            not-wrong s.0 (All-contains (IsSameAsOne dealt) (firsts shares) s.0 kept-dealt s.1) (exact.0 (subst (Contains wrong) (sym s.2) there))),
       )
     where
       none : (wrong : List ℕ) → ((i : ℕ) → ¬ (Contains wrong i)) → wrong ≡ []

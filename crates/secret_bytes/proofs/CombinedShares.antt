@@ -37,14 +37,6 @@ none-has (s ∷ kept) i e =
       | inr f ↦ All-cons (λ (u : SecretShare). u.index ≢ i) s kept (λ same_index. let z : eqb s.index i ≡ true = eq-eqb s.index i same_index in cc) (none-has kept i (rw f at e))
     ]
 
-has-none : (kept : List SecretShare) (i : ℕ) → All (λ s. s.index ≢ i) kept → has_index kept i ≡ false
-has-none [] i h = refl
-has-none (s ∷ kept) i h =
-    elim (cases_Bool (eqb s.index i)) as (λ _. has_index (s ∷ kept) i ≡ false) [
-      | inl t ↦ absurd (All-head (λ (u : SecretShare). u.index ≢ i) s kept h (eqb-true s.index i t))
-      | inr f ↦ rw f (has-none kept i (All-tail (λ (u : SecretShare). u.index ≢ i) s kept h))
-    ]
-
 after-apart : (kept shares : List SecretShare) → AreDistinct kept → AreDistinct (firsts_after kept shares)
 after-apart kept [] h = h
 after-apart kept (s ∷ shares) h =
@@ -55,21 +47,6 @@ after-apart kept (s ∷ shares) h =
 
 pub firsts-apart : (shares : List SecretShare) → AreDistinct (firsts shares)
 firsts-apart shares = after-apart [] shares (λ i j d l m. absurd (omega (arith, m)))
-
--- shares of distinct indices are the firsts
-after-same : (kept shares : List SecretShare) → AreDistinct (kept ++ shares) → firsts_after kept shares ≡ kept ++ shares
-after-same kept [] h = sym (append-nil kept)
-after-same kept (s ∷ shares) h =
-    let joined : (kept ++ (s ∷ [])) ++ shares ≡ kept ++ (s ∷ shares) = append_assoc kept (s ∷ []) shares in
-    let fresh : has_index kept s.index ≡ false = has-none kept s.index (λ k d l.
-    let here : k < length (kept ++ (s ∷ shares)) = omega (arith, l, length-append kept (s ∷ shares)) in
-    subst (λ (u : SecretShare). u.index ≢ s.index) (get_or_append_left kept (s ∷ shares) d k l)
-    (subst (λ (u : SecretShare). (get_or (kept ++ (s ∷ shares)) k d).index ≢ u.index) (get_or_at kept s shares d (length kept) refl)
-    (h k (length kept) d l (omega (arith, length-append kept (s ∷ shares)))))) in
-    rw fresh (after-same (kept ++ (s ∷ [])) shares (subst AreDistinct (sym joined) h) ∙ joined)
-
-pub firsts-same : (shares : List SecretShare) → AreDistinct shares → firsts shares ≡ shares
-firsts-same shares h = after-same [] shares h
 
 -- the firsts of shares that stand are ready, where they are enough
 pub firsts-ready : (t : ℕ) (identity : F) (width : ℕ) (shares : List SecretShare) → StandBelow t identity width shares (length shares) → All (λ s. s.index < 2 ^ 32) shares

@@ -64,11 +64,6 @@ pub others-none : (shares : List SecretShare) → others [] shares ≡ shares
 others-none [] = refl
 others-none (s ∷ shares) = ap (λ us. s ∷ us) (others-none shares)
 
-not-or : (a b c : Bool) → not ((a || b) || c) ≡ (not (a || b) && not c)
-not-or true b c = refl
-not-or false true c = refl
-not-or false false c = refl
-
 any-append : (xs ys : List ℕ) (i : ℕ) → list_any (λ n. eqb n i) (xs ++ ys) ≡ (list_any (λ n. eqb n i) xs || list_any (λ n. eqb n i) ys)
 any-append [] ys i = refl
 any-append (x ∷ xs) ys i = ap (λ b. eqb x i || b) (any-append xs ys i) ∙ sym (or-assoc (eqb x i) (list_any (λ n. eqb n i) xs) (list_any (λ n. eqb n i) ys))

@@ -9,3 +9,5 @@ pub mod RefusedRecoveries
 pub mod CombinedShares
 pub mod AnyShares
 pub mod ExplainedSecrets
+pub mod TextLines
+pub mod AnyLines

@@ -7,3 +7,4 @@ pub mod Keyed
 pub mod Lines
 pub mod Passes
 pub mod Settled
+pub mod Texts

@@ -1,13 +1,21 @@
 //! Laws of shares of bytes, each the contract of a function that does nothing.
 
-ghost use Rattle.secret_bytes.specs.CombiningLaws.{AnySharesCombine};
+ghost use Rattle.secret_bytes.specs.CombiningLaws.{AnyLinesCombine, AnySharesCombine};
 ghost use Rattle.secret_bytes.specs.Explanations.{EachSecretExplains};
 
-/// Any shares of a deal, in any order and some of them more than once, combine to exactly the bytes
-/// that were dealt, where at least t of them have distinct indices: what `combine` may refuse them
-/// for is want of memory alone, and what it may answer is these bytes alone, with no share wrong.
+/// Any shares of a deal, or copies of them, in any order and some of them more than once, combine to
+/// exactly the bytes that were dealt, where at least t of them have distinct indices: what `combine`
+/// may refuse them for is want of memory alone, and what it may answer is these bytes alone, with no
+/// share wrong.
 pub fn any_shares_combine()
     ensures { AnySharesCombine }
+{}
+
+/// Any text whose lines are those of such shares, with white space around them and blank lines
+/// between them or none, gives the bytes back: what `read_lines` may refuse it for is want of memory
+/// alone, and the shares that it may answer `combine` as above.
+pub fn any_lines_combine()
+    ensures { AnyLinesCombine }
 {}
 
 /// Whatever values t - 1 shares have, of distinct indices other than zero, every list of elements

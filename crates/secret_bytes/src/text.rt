@@ -1,7 +1,10 @@
 //! Lines of shares.
 
-ghost use Rattle.std.specs.Prelude.{◌≡◌, ◌<◌, length, IfOk};
+ghost use Rattle.std.specs.Prelude.{◌≡◌, ◌<◌, ◌∷◌, ◌⊎◌, length, IfOk, IfErr, OnOk};
+ghost use Rattle.share_lines.specs.Refusals.{IsMemory};
 ghost use Rattle.secret_bytes.specs.Lines.{lines_spelling};
+ghost use Rattle.secret_bytes.specs.Texts.{AreReadAs, IsDueReading, IsNoLine, IsReadLine};
+ghost use Rattle.secret_bytes.specs.Texts.{text_lines};
 
 use share_lines::{LineError, MOST_VALUES, SecretShare, line_of, share_in};
 use std::alloc::Global;
@@ -23,7 +26,8 @@ pub struct LineFault {
 /// The bytes up to the first end of a line, and those after it.
 fn first_line(text: &[u8]) -> (&[u8], &[u8])
     requires { 0 < length text.now }
-    ensures { length result.1.now < length text.now }
+    ensures shorter { length result.1.now < length text.now }
+    ensures first { text_lines text.now ≡ result.0.now ∷ text_lines result.1.now }
 {
     let mut i = 0;
     while i < text.len() {
@@ -37,26 +41,35 @@ fn first_line(text: &[u8]) -> (&[u8], &[u8])
     text.split_at(text.len())
 }
 
-/// Whether a byte is a space, a tab or a carriage return.
-fn is_space(byte: u8) -> bool {
-    byte == b' ' || byte == b'\t' || byte == b'\r'
+/// Appends the share that a line is, and the line's number, unless the line is blank.
+fn read_line(
+    alloc: Global,
+    line: &[u8],
+    number: usize,
+    lines: &mut Lines,
+) -> Result<(), LineError>
+    ensures read { OnOk result (IsReadLine line.now number lines.old lines.new) }
+    ensures due { IfErr result (λ why. IsMemory why ⊎ IsNoLine line.now) }
+{
+    let text = line.trim_ascii();
+    if text.is_empty() {
+        return Ok(());
+    }
+    let share = share_in(alloc, text)?;
+    lines.shares.push(share)?;
+    lines.numbers.push(number)?;
+    Ok(())
 }
 
-/// The bytes without the spaces before and after them.
-fn trimmed(line: &[u8]) -> &[u8] {
-    let mut start = 0;
-    while start < line.len() && is_space(line[start]) {
-        start += 1;
-    }
-    let mut end = line.len();
-    while end > start && is_space(line[end - 1]) {
-        end -= 1;
-    }
-    &line[start..end]
-}
-
-/// The shares of the lines that are not empty. Spaces around a share are passed over.
-pub fn read_lines(alloc: Global, text: &[u8]) -> Result<Lines, LineFault> {
+/// The shares of the lines that are not blank, in order, and the numbers of these lines. White
+/// space around a share is passed over.
+///
+/// It refuses with the first line that is neither blank nor that of a share, or with `Memory`.
+pub fn read_lines(alloc: Global, text: &[u8]) -> Result<Lines, LineFault>
+    ensures lines { IfOk result
+        (λ lines. AreReadAs text.now lines.shares.items lines.numbers.items) }
+    ensures due { IfErr result (IsDueReading text.now) }
+{
     let mut lines = Lines {
         shares: Vec::new(alloc),
         numbers: Vec::new(alloc),
@@ -65,27 +78,13 @@ pub fn read_lines(alloc: Global, text: &[u8]) -> Result<Lines, LineFault> {
     let mut number: usize = 1;
     while !rest.is_empty() {
         let (line, after) = first_line(rest);
-        let line = trimmed(line);
-        if !line.is_empty() {
-            let share = match share_in(alloc, line) {
-                Ok(share) => share,
-                Err(why) => return Err(LineFault { number, why }),
-            };
-            if let Err(why) = pushed(&mut lines, share, number) {
-                return Err(LineFault { number, why });
-            }
+        if let Err(why) = read_line(alloc, line, number, &mut lines) {
+            return Err(LineFault { number, why });
         }
         rest = after;
         number = number.saturating_add(1);
     }
     Ok(lines)
-}
-
-/// Appends a share and the number of its line.
-fn pushed(lines: &mut Lines, share: SecretShare, number: usize) -> Result<(), LineError> {
-    lines.shares.push(share)?;
-    lines.numbers.push(number)?;
-    Ok(())
 }
 
 /// The lines of the shares, each with its end.

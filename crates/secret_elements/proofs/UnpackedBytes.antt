@@ -108,7 +108,8 @@ packed-parts elements rest a bytes e h =
     let both : number a ∷ map number rest ≡ packed bytes = ap (map number) (sym e) ∙ h.1 in
     (ap (λ xs. get_or xs 0 0) both, ap (drop 1) both)
 
-length-sevens : (k : ℕ) (bytes : List ℕ) → length (sevens k bytes) ≡ k
+-- so many numbers are so many
+pub length-sevens : (k : ℕ) (bytes : List ℕ) → length (sevens k bytes) ≡ k
 length-sevens zero bytes = refl
 length-sevens (suc k) bytes = ap suc (length-sevens k (drop 7 bytes))
 

@@ -1,9 +1,11 @@
 //! The commands, over what was read.
 
-ghost use Rattle.std.specs.Prelude.{◌≡◌, ◌<◌, ◌≤◌, List, IfOk};
+ghost use Rattle.std.specs.Prelude.{◌≡◌, ◌<◌, ◌≤◌, ℕ, List, IfOk, IfErr};
 ghost use Rattle.share_lines.specs.declared.shares.SecretShare.{SecretShare};
 ghost use Rattle.secret_bytes.specs.Deals.{AreDealtBytes};
 ghost use Rattle.secret_bytes.specs.Lines.{lines_spelling};
+ghost use Rattle.secret_bytes.specs.Texts.{IsDueReading};
+ghost use Rattle.secretshares.specs.Answers.{IsAnswerTo, IsDueFor, IsNamed};
 
 use crate::fault::Fault;
 use rand_core::{CryptoRng, Rng};
@@ -69,7 +71,13 @@ pub fn dealt<G: Rng + CryptoRng>(
 }
 
 /// The secret of the shares that the lines are, and a line for each share that is wrong.
-pub fn combined(alloc: Global, text: &[u8]) -> Result<Told, Fault> {
+///
+/// It refuses the first line that is neither blank nor that of a share, and shares as
+/// `secret_bytes::combine` does, with the line and the index of the share that is meant.
+pub fn combined(alloc: Global, text: &[u8]) -> Result<Told, Fault>
+    ensures answer { IfOk result (λ told. IsAnswerTo text.now told.out.items) }
+    ensures due { IfErr result (IsDueFor text.now) }
+{
     let lines = match read_lines(alloc, text) {
         Ok(lines) => lines,
         Err(fault) => return Err(fault_of(fault)),
@@ -94,7 +102,9 @@ pub fn combined(alloc: Global, text: &[u8]) -> Result<Told, Fault> {
 }
 
 /// The fault of a line.
-fn fault_of(fault: LineFault) -> Fault {
+fn fault_of(fault: LineFault) -> Fault
+    ensures { (text : List ℕ) → IsDueReading text fault → IsDueFor text result }
+{
     match fault.why {
         LineError::Memory(e) => Fault::Memory(e),
         why => Fault::Line(fault.number, why),
@@ -102,7 +112,9 @@ fn fault_of(fault: LineFault) -> Fault {
 }
 
 /// The fault with the line and the index of the share that is meant.
-fn named(numbers: &[usize], indices: &[u32], error: CombineError) -> Fault {
+fn named(numbers: &[usize], indices: &[u32], error: CombineError) -> Fault
+    ensures { IsNamed numbers.now indices.now error result }
+{
     let place = match &error {
         CombineError::Unsound(place)
         | CombineError::AnotherDeal(place)

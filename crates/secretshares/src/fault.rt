@@ -1,5 +1,8 @@
 //! Why there is no answer.
 
+ghost use Rattle.std.specs.Prelude.{◌≡◌, alloc_error};
+ghost use Rattle.secretshares.specs.declared.fault.Fault.TheVariants as fault;
+
 use secret_bytes::{CombineError, DealError};
 use share_lines::LineError;
 use std::alloc::{AllocError, AllocFailed};
@@ -40,12 +43,16 @@ impl Fault {
 }
 
 impl From<AllocError> for Fault {
+    ghost from_gives = { λ x e. e ≡ fault.Memory x };
+
     fn from(e: AllocError) -> Fault {
         Fault::Memory(e)
     }
 }
 
 impl<T: Drop> From<AllocFailed<T>> for Fault {
+    ghost from_gives = { λ _ e. e ≡ fault.Memory alloc_error };
+
     fn from(_e: AllocFailed<T>) -> Fault {
         Fault::Memory(AllocError)
     }

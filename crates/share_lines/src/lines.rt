@@ -1,6 +1,6 @@
 //! The line of a share.
 
-ghost use Rattle.std.specs.Prelude.{◌≡◌, ◌≢◌, ◌<◌, ◌^◌, ◌++◌, ℕ, List, length, true, codes, IfOk, IfSome, IfNone, MatchResult};
+ghost use Rattle.std.specs.Prelude.{◌≡◌, ◌≢◌, ◌<◌, ◌^◌, ◌++◌, ℕ, List, length, true, codes, alloc_error, IfOk, IfSome, IfNone, MatchResult};
 ghost use Rattle.math_codec.specs.Faults as Faults;
 ghost use Rattle.math_base.specs.Elements.{number};
 ghost use Rattle.share_lines.specs.SecretShares.{AdmitsShare, AreSameShares};
@@ -40,6 +40,8 @@ impl From<AllocError> for LineError {
 }
 
 impl<T: Drop> From<AllocFailed<T>> for LineError {
+    ghost from_gives = { λ _ e. e ≡ Memory alloc_error };
+
     fn from(_e: AllocFailed<T>) -> LineError {
         LineError::Memory(AllocError)
     }

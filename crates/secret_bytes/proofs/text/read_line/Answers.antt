@@ -1,0 +1,27 @@
+use Rattle.std.proofs.Common.{◌≡◌, ◌<◌, ◌⊎◌, inr, length, subst, rules, arith}
+use Rattle.std.specs.Str.{IsTrimAscii}
+use Rattle.share_lines.specs.Lines.{line_spelling}
+use Rattle.share_lines.specs.Refusals.{IsMemory}
+use Rattle.secret_bytes.specs.Texts.{IsNoLine}
+use Rattle.secret_bytes.proofs.TextLines.{no-line, refused, trimmed-once}
+use Rattle.secret_bytes.proofs.text.read_line.Goals as goal
+
+pub returns-in_err-share-clause-due : goal.returns-in_err-share-clause-due
+returns-in_err-share-clause-due c =
+    let line = c.args.line.now in
+    let text = c.trim_ascii-text.result.now in
+    let e = c.in_err-share.field-0.0 in
+    let some : 0 < length text = search rules in
+    refused c.from_residual.result e (λ why. IsMemory why ⊎ IsNoLine line) c.from_residual.ensures.1 (no-line e line text c.trim_ascii-text.ensures.value some c.in_err-share.ensures.again)
+
+pub returns-clause-read : goal.returns-clause-read
+returns-clause-read c =
+    let line = c.args.line.now in
+    let text = c.trim_ascii-text.result.now in
+    let s = c.in_ok-share.share in
+    inr (
+      s,
+      (subst (IsTrimAscii line) c.in_ok-share.ensures.taken c.trim_ascii-text.ensures.value, λ u a k. c.in_ok-share.ensures.again u a (trimmed-once line text (line_spelling u) c.trim_ascii-text.ensures.value k)),
+      c.in_ok-push.ensures.items,
+      c.in_ok-push-2.ensures.items,
+    )
