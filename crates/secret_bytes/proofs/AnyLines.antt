@@ -7,7 +7,6 @@ use Rattle.std.proofs.lemmas.List.Elements.{All-contains, All-cons, All-head, Al
 use Rattle.rand_core.specs.Stream.{Stream}
 use Rattle.math_numbers.specs.Goldilocks.{P}
 use Rattle.math_codec.specs.Lists.{AdmitsList}
-use Rattle.math_base.specs.declared.fields.goldilocks.F.{F}
 use Rattle.math_base.specs.Elements.{number}
 use Rattle.share_lines.specs.declared.shares.SecretShare.{SecretShare}
 use Rattle.share_lines.specs.Refusals as line
@@ -17,7 +16,7 @@ use Rattle.secret_elements.proofs.UnpackedBytes.{length-sevens}
 use Rattle.secret_bytes.specs.CombiningLaws.{AnyLinesCombine, CombineToAlone, IsSameAsOne}
 use Rattle.secret_bytes.specs.Deals.{AreDealtBytes, IsOfDeal}
 use Rattle.secret_bytes.specs.Settled.{firsts, firsts_after, has_index}
-use Rattle.secret_bytes.specs.Texts.{AreLinesOf, AreReadAs, IsDueReading, IsFirstNoLine, IsNoLine, FitShares, IsBlank, IsLineOf, text_lines}
+use Rattle.secret_bytes.specs.Texts.{AreReadAs, IsDueReading, IsFirstNoLine, IsBlank, IsLineOf, text_lines}
 use Rattle.secret_bytes.specs.declared.text.LineFault.{LineFault}
 use Rattle.secret_bytes.proofs.AnyShares.{any-shares, number_of-index}
 use Rattle.secret_bytes.proofs.TextLines.{line-fits, read-same}

@@ -1,9 +1,8 @@
 -- Shares of one deal, of each index the first, and why shares are not combined.
-use Rattle.std.proofs.Common.{◌≡◌, ◌≢◌, ◌∙◌, ℕ, ◌<◌, ◌≤◌, ◌^◌, true, false, eqb, inl, inr, List, [], ◌∷◌, ◌++◌, length, get_or, slice_get, Some, Result, Ok, Err, IfErr, refl, sym, subst, arith, append_assoc}
+use Rattle.std.proofs.Common.{◌≡◌, ◌≢◌, ℕ, ◌<◌, ◌≤◌, ◌^◌, true, false, eqb, inl, inr, List, [], ◌∷◌, ◌++◌, length, slice_get, Some, Result, Ok, Err, IfErr, sym, subst, arith}
 use Rattle.std.specs.List.{All, AllPairs}
 use Rattle.std.specs.Result.{IsErrAnd}
-use Rattle.std.proofs.lemmas.Bool.{cases_Bool, eq-eqb, eqb-true}
-use Rattle.std.proofs.lemmas.List.{append-nil, get_or_append_left, get_or_at, length-append}
+use Rattle.std.proofs.lemmas.Bool.{cases_Bool, eq-eqb}
 use Rattle.std.proofs.lemmas.List.Elements.{All-cons, All-head, All-nil, All-push, All-tail}
 use Rattle.std.proofs.lemmas.List.Quantifiers.{all_pairs_push}
 use Rattle.math_base.specs.declared.fields.goldilocks.F.{F}

@@ -1,5 +1,5 @@
 -- The lines of a text one by one, and the shares that are read of them.
-use Rattle.std.proofs.Common.{◌≡◌, ◌≢◌, ◌∙◌, ◌⊎◌, inl, inr, ℕ, suc, ◌+◌, ◌<◌, ◌≤◌, ◌^◌, List, [], ◌∷◌, ◌++◌, true, false, eqb, length, drop, Result, Ok, Err, IfErr, refl, sym, ap, ap₂, subst, arith, append_assoc}
+use Rattle.std.proofs.Common.{◌≡◌, ◌≢◌, ◌∙◌, ◌⊎◌, inl, inr, ℕ, suc, ◌+◌, ◌<◌, ◌≤◌, ◌^◌, List, [], ◌∷◌, ◌++◌, false, eqb, length, drop, Result, Ok, Err, IfErr, refl, sym, ap, ap₂, subst, arith, append_assoc}
 use Rattle.std.specs.Char.{is_ascii_whitespace}
 use Rattle.std.specs.List.{All, AllZip, onto_first, prefix_len}
 use Rattle.std.specs.Result.{IsErrAnd}
@@ -72,8 +72,15 @@ fits-share fits n (first ∷ lines) line s shares numbers f (inl h) =
     rw e (inl (h.0, fits-share fits (n + 1) lines line s shares numbers f h.1))
 fits-share fits n (first ∷ lines) line s shares numbers f (inr h) =
     let e : n + suc (length lines) ≡ (n + 1) + length lines = omega arith in
-    rw e (inr (h.0, h.1 ++ (s ∷ []), h.2 ++ (((n + 1) + length lines) ∷ []), ap (λ xs. xs ++ (s ∷ [])) h.3, ap (λ ns. ns ++ (((n + 1) + length lines) ∷ [])) h.4, h.5,
-    fits-share fits (n + 1) lines line s h.1 h.2 f h.6))
+    rw e (inr (
+      h.0,
+      h.1 ++ (s ∷ []),
+      h.2 ++ (((n + 1) + length lines) ∷ []),
+      ap (λ xs. xs ++ (s ∷ [])) h.3,
+      ap (λ ns. ns ++ (((n + 1) + length lines) ∷ [])) h.4,
+      h.5,
+      fits-share fits (n + 1) lines line s h.1 h.2 f h.6,
+    ))
 
 -- the lines so far are read, this is the number of the next one, and the rest is left
 pub record IsReadTo (text rest : List ℕ) (number : ℕ) (shares : List SecretShare) (numbers : List ℕ) : Type 0 where

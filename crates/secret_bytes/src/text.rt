@@ -42,12 +42,7 @@ fn first_line(text: &[u8]) -> (&[u8], &[u8])
 }
 
 /// Appends the share that a line is, and the line's number, unless the line is blank.
-fn read_line(
-    alloc: Global,
-    line: &[u8],
-    number: usize,
-    lines: &mut Lines,
-) -> Result<(), LineError>
+fn read_line(alloc: Global, line: &[u8], number: usize, lines: &mut Lines) -> Result<(), LineError>
     ensures read { OnOk result (IsReadLine line.now number lines.old lines.new) }
     ensures due { IfErr result (λ why. IsMemory why ⊎ IsNoLine line.now) }
 {

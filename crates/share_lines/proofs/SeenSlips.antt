@@ -1,10 +1,9 @@
 -- One other character, or two neighbours exchanged, change the check.
-use Rattle.std.proofs.Common.{◌≡◌, ◌≢◌, ◌∙◌, ℕ, zero, suc, ◌+◌, ◌-◌, ◌*◌, ◌%◌, ◌<◌, ◌≤◌, List, [], ◌∷◌, ◌++◌, length, drop, get_or, true, inl, inr, refl, sym, ap, ap₂, subst, arith, append_assoc}
+use Rattle.std.proofs.Common.{◌≡◌, ◌∙◌, ℕ, ◌<◌, ◌≤◌, List, [], ◌∷◌, ◌++◌, length, drop, get_or, true, inl, inr, refl, sym, ap, ap₂, subst, arith, append_assoc}
 use Rattle.std.specs.List.{All}
 use Rattle.std.proofs.lemmas.Bool.{cases_lt}
 use Rattle.std.proofs.lemmas.List.{append_cancel_left, length-append}
-use Rattle.std.proofs.lemmas.List.Elements.{All-append, All-cons, All-nil, All-head, All-tail}
-use Rattle.math_numbers.specs.Goldilocks.{P}
+use Rattle.std.proofs.lemmas.List.Elements.{All-append, All-cons, All-head, All-tail}
 use Rattle.math_theory.proofs.classes.RingUpToSame.{combine_same, combine2_same}
 use Rattle.math_theory.proofs.rings.Normal.{◌⊕◌, ◌⊗◌, ◌⊖◌, 𝟙, v0, v1, v2, v3, v4}
 use Rattle.math_base.specs.declared.fields.goldilocks.F.{F}
@@ -16,8 +15,8 @@ use Rattle.share_lines.specs.declared.shares.SecretShare.{SecretShare}
 use Rattle.share_lines.specs.SecretShares.{share_spelling}
 use Rattle.share_lines.specs.Letters.{grouped}
 use Rattle.share_lines.specs.Checks.{check_point, check_from, check_value, check_bytes}
-use Rattle.share_lines.specs.Lines.{body_spelling, with_check, line_spelling, DifferInOne, DifferByExchange, SlipsAreSeen}
-use Rattle.share_lines.proofs.LettersRead.{grouped_once, grouped-small, begins-grouped, length-grouped}
+use Rattle.share_lines.specs.Lines.{body_spelling, with_check, line_spelling, SlipsAreSeen}
+use Rattle.share_lines.proofs.LettersRead.{grouped_once, grouped-small}
 use Rattle.share_lines.proofs.SharesAreBytes.{word-bytes}
 
 -- the point

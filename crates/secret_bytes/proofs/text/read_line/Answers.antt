@@ -1,4 +1,4 @@
-use Rattle.std.proofs.Common.{◌≡◌, ◌<◌, ◌⊎◌, inr, length, subst, rules, arith}
+use Rattle.std.proofs.Common.{◌<◌, ◌⊎◌, inr, length, subst, rules}
 use Rattle.std.specs.Str.{IsTrimAscii}
 use Rattle.share_lines.specs.Lines.{line_spelling}
 use Rattle.share_lines.specs.Refusals.{IsMemory}

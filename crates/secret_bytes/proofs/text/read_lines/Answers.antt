@@ -1,4 +1,4 @@
-use Rattle.std.proofs.Common.{◌≡◌, ◌+◌, rules, arith}
+use Rattle.std.proofs.Common.{◌≡◌, ◌+◌, rules}
 use Rattle.secret_bytes.proofs.TextLines.{read-next}
 use Rattle.secret_bytes.proofs.text.read_lines.Goals as goal
 

@@ -1,4 +1,4 @@
-use Rattle.std.proofs.Common.{◌≡◌, ◌<◌, [], ◌∷◌, ◌++◌, length, arith}
+use Rattle.std.proofs.Common.{◌≡◌, [], ◌∷◌, ◌++◌, arith}
 use Rattle.share_lines.proofs.LettersRead.{empty, read-next, read-no_gap, read-no_byte, read-ended, read-only}
 use Rattle.share_lines.proofs.letters.ungrouped.Goals as goal
 

@@ -1,5 +1,4 @@
 use Rattle.std.proofs.Common.{◌≡◌, length}
-use Rattle.math_base.specs.Elements.{number}
 use Rattle.share_lines.specs.Checks.{check_from, check_value}
 use Rattle.share_lines.proofs.lines.check_value_of.Given as goal
 

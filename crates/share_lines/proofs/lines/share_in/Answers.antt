@@ -1,4 +1,4 @@
-use Rattle.std.proofs.Common.{◌≡◌, ◌∙◌, ◌+◌, ◌++◌, ◌≤◌, length, true, sym, arith}
+use Rattle.std.proofs.Common.{◌≡◌, ◌∙◌, ◌++◌, length, true, sym, arith}
 use Rattle.share_lines.specs.Letters.{grouped}
 use Rattle.share_lines.specs.Checks.{check_bytes}
 use Rattle.share_lines.proofs.LinesRead.{line_taken, line_parts, equal_texts, different_texts}

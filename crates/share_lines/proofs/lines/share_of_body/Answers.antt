@@ -1,4 +1,4 @@
-use Rattle.std.proofs.Common.{◌≡◌, ◌∙◌, ◌++◌, ◌∷◌, sym, ap, drop, true}
+use Rattle.std.proofs.Common.{◌≡◌, ◌∙◌, sym, ap, drop, true}
 use Rattle.share_lines.specs.Letters.{grouped}
 use Rattle.share_lines.specs.SecretShares.{share_spelling}
 use Rattle.share_lines.proofs.SharesAreBytes.{share-bytes}
