@@ -19,6 +19,7 @@ use Rattle.math_ntt.proofs.MatrixPlaces.{columns_are_full, columns_hold_cells}
 use Rattle.math_shards.specs.declared.shards.Shard.{Shard}
 use Rattle.math_shards.specs.Correcting.{CorrectTo, HaveOneCorrection, settled, settled_indices}
 use Rattle.math_shards.specs.Joining.{ArePolynomialsOf, HoldsShards, IsSound}
+use Rattle.math_shards.specs.Strips.{goldilocks}
 use Rattle.math_shards.specs.Shards.{IsShardOf, JoinTo, distinct_indices, has_index, rows_for, value_at, width_for}
 use Rattle.math_shards.proofs.CountedIndices.{indices-outside, lost_outside, outside, outside_not_among, is_outside}
 use Rattle.math_shards.proofs.FilledShards.{count_filled, count_marks, index_found, index_there, indices_below, no_indices}
@@ -27,10 +28,6 @@ use Rattle.math_shards.proofs.RecoveredShards.{cell_of_shard}
 use Rattle.math_shards.proofs.SameCells.{nought}
 use Rattle.math_shards.proofs.SettledShards.{settled_sound}
 use Rattle.math_shards.proofs.ShardRows.{same_values}
-
--- the operations of the elements
-abbrev pub goldilocks : RingOf F
-goldilocks = record { product = product; debug_output = λ a. None; same = same; NEVER_REFUSES = true; zero = residue 0; sum = sum; negative = negative; one = residue 1 }
 
 -- the settled shards but those of wrong indices are shards of the data
 abbrev pub right_of : (words : List ℕ) (shards : List Shard) → CorrectTo words shards → List Shard
