@@ -1,5 +1,5 @@
 -- Data of shards of which some are wrong, and polynomials that are corrected from their rows: the ones exactly where the others.
-use Rattle.std.proofs.Common.{◌≡◌, ℕ, ◌+◌, ◌*◌, ◌<◌, ◌≤◌, ◌^◌, List, [], ◌∷◌, ◌++◌, Bool, true, false, None, length, map, get_or, refl, sym, ◌∙◌, ap, ap₂, subst, arith, length-append}
+use Rattle.std.proofs.Common.{◌≡◌, ℕ, ◌+◌, ◌*◌, ◌<◌, ◌≤◌, ◌^◌, List, [], ◌∷◌, ◌++◌, Bool, true, false, length, map, get_or, refl, sym, ◌∙◌, ap, ap₂, subst, arith, length-append}
 use Rattle.std.specs.Int.{IsNextPowerOfTwo}
 use Rattle.std.specs.List.{All, Contains, range_with_len}
 use Rattle.std.proofs.lemmas.Bool.{and_parts}
@@ -8,8 +8,7 @@ use Rattle.std.proofs.lemmas.List.Elements.{All-contains_itself, All-filter, Con
 use Rattle.std.proofs.lemmas.List.FromFn.{get_or-map-range_with_len, length-map-range_with_len}
 use Rattle.math_theory.specs.Recovery.{count_true}
 use Rattle.math_base.specs.declared.fields.goldilocks.F.{F}
-use Rattle.math_base.specs.Elements.{negative, number, product, residue, root_of, same, sum}
-use Rattle.math_base.specs.Members.{RingOf}
+use Rattle.math_base.specs.Elements.{number, root_of, same}
 use Rattle.math_transforms.specs.Matrices.{IsOfSize, MatrixOf, cell_of, column_of}
 use Rattle.math_transforms.proofs.PresentIndices.{lg-only}
 use Rattle.math_ntt.specs.CorrectedRows.{AreWithinRadius, IsCorrected}

@@ -1,5 +1,5 @@
 -- One of the elements that words pack to, had from the two words in which its bits stand.
-use Rattle.std.proofs.Common.{◌≡◌, ◌∙◌, inl, inr, ℕ, zero, suc, ◌+◌, ◌-◌, ◌*◌, ◌/◌, ◌%◌, ◌^◌, ◌<◌, ◌≤◌, bit_and, List, [], ◌∷◌, ◌++◌, length, map, take, drop, get_or, replicate, refl, sym, ap, subst, arith, lit<, lit≤, length-append, append_assoc, append-nil}
+use Rattle.std.proofs.Common.{◌≡◌, ◌∙◌, inl, inr, ℕ, zero, suc, ◌+◌, ◌-◌, ◌*◌, ◌/◌, ◌%◌, ◌^◌, ◌<◌, ◌≤◌, bit_and, List, [], ◌∷◌, ◌++◌, length, take, drop, get_or, replicate, refl, sym, ap, subst, arith, lit<, lit≤, length-append, append_assoc, append-nil}
 use Rattle.std.proofs.Math.ListN.{get_or-map}
 use Rattle.std.proofs.lemmas.Bool.{cases_lt}
 use Rattle.std.proofs.lemmas.List.{take-append-le, drop-append-le, drop-drop, drop-replicate, drop_all, drop_at, drop_more, get_or_past}
@@ -9,7 +9,6 @@ use Rattle.math_numbers.proofs.BitLists.{bits-of_zero, length-bits}
 use Rattle.math_numbers.proofs.BitPieces.{length-cut, piece_count-enough}
 use Rattle.math_base.specs.Elements.{residue}
 use Rattle.math_base.specs.Packing.{elements_of}
-use Rattle.math_base.specs.declared.fields.goldilocks.F.{F}
 use Rattle.math_base.proofs.BitFronts.{drop-bits, first-number}
 use Rattle.math_shards.specs.Shards.{counted}
 use Rattle.math_shards.specs.Strips.{packed_at, piece_of}

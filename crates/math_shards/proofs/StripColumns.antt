@@ -3,16 +3,14 @@ use Rattle.std.proofs.Common.{◌≡◌, ◌∙◌, inl, inr, ℕ, ◌+◌, ◌-
 use Rattle.std.proofs.lemmas.Bool.{cases_lt}
 use Rattle.std.proofs.lemmas.List.{get_or_past, length-replicate, take_all}
 use Rattle.std.proofs.lemmas.Nat.{mul-le}
-use Rattle.math_theory.specs.Coefficients.{HaveSameCoefficients}
 use Rattle.math_base.specs.declared.fields.goldilocks.F.{F}
 use Rattle.math_base.specs.Elements.{number, root_of, same}
 use Rattle.math_base.proofs.ElementNumbers.{same_number}
 use Rattle.math_base.proofs.PlaceByPlace.{each_place_next}
 use Rattle.math_transforms.specs.DomainValues.{AreValuesAtPowers, matrix_of}
-use Rattle.math_transforms.specs.Matrices.{MatrixOf, cell_of, column_of}
+use Rattle.math_transforms.specs.Matrices.{column_of}
 use Rattle.math_transforms.proofs.MatrixRows.{cell-of_column, each-cell-next}
-use Rattle.math_ntt.specs.MatrixPlaces.{IsFull}
-use Rattle.math_shards.specs.Shards.{elements_for, rows_for, value_at, width_for, with_zeros}
+use Rattle.math_shards.specs.Shards.{elements_for, rows_for, width_for}
 use Rattle.math_shards.specs.Strips.{AddsPacked, HasStripValues, IsStripOf, goldilocks, packed_at}
 use Rattle.math_shards.proofs.SameCells.{nought}
 use Rattle.math_shards.proofs.ShardRows.{rows_are_whole, same_values}

@@ -1,5 +1,5 @@
 -- The sizes of strips and of rows of data: all of them fit a word.
-use Rattle.std.proofs.Common.{◌≡◌, ◌∙◌, ℕ, suc, ◌+◌, ◌-◌, ◌*◌, ◌/◌, ◌<◌, ◌≤◌, ◌^◌, List, length, sym, ap, max, min, pow_mono, arith}
+use Rattle.std.proofs.Common.{◌≡◌, ◌∙◌, ℕ, suc, ◌+◌, ◌*◌, ◌/◌, ◌<◌, ◌≤◌, ◌^◌, List, length, sym, ap, max, min, pow_mono, arith}
 use Rattle.std.specs.Int.{div_ceil}
 use Rattle.std.proofs.lemmas.Nat.{mul-le, shr_le}
 use Rattle.math_numbers.specs.Bits.{piece_count}

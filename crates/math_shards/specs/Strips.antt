@@ -1,5 +1,5 @@
 -- Strips of columns of the rows that data fill, and shards that grow by the values of a strip.
-use Rattle.std.specs.Prelude.{◌≡◌, ℕ, ◌+◌, ◌-◌, ◌*◌, ◌/◌, ◌<◌, ◌≤◌, ◌^◌, List, ◌++◌, Option, None, true, length, take, drop, slice_index_or}
+use Rattle.std.specs.Prelude.{◌≡◌, ℕ, ◌+◌, ◌-◌, ◌*◌, ◌/◌, ◌<◌, ◌≤◌, ◌^◌, List, ◌++◌, None, true, length, take, drop, slice_index_or}
 use Rattle.math_numbers.specs.Bits as Bits
 use Rattle.math_numbers.specs.Bits.{bits}
 use Rattle.math_theory.specs.Coefficients.{HaveSameCoefficients}

@@ -130,13 +130,7 @@ fn push_packed(data: &[u64], first: usize, count: usize, cells: &mut Vec<F>) -> 
 
 /// The strip of `cols` columns from column `from` on, with a row for each point: the rows that the
 /// data fill, and then rows of zeros.
-fn strip_of(
-    alloc: Global,
-    data: &[u64],
-    layout: Layout,
-    from: usize,
-    cols: usize,
-) -> Mem<Vec<F>>
+fn strip_of(alloc: Global, data: &[u64], layout: Layout, from: usize, cols: usize) -> Mem<Vec<F>>
     requires layout { IsLayoutOf «data».now layout }
     requires within { from + cols ≤ layout.width }
     requires size { 2 ^ layout.lg * cols < 2 ^ 64 }

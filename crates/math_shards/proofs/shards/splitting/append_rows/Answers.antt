@@ -1,5 +1,4 @@
-use Rattle.std.proofs.Common.{◌≡◌, ◌∙◌, ◌+◌, ◌-◌, ◌*◌, ◌≤◌, length, refl, arith}
-use Rattle.math_transforms.proofs.WrittenCells.{row-within}
+use Rattle.std.proofs.Common.{◌≡◌, ◌+◌, ◌-◌, ◌*◌, refl, arith}
 use Rattle.math_shards.proofs.BegunShards.{left-more, rows-more}
 use Rattle.math_shards.proofs.shards.splitting.append_rows.Goals as goal
 

@@ -1,6 +1,5 @@
-use Rattle.std.proofs.Common.{◌≡◌, ◌∙◌, ◌*◌, ◌≤◌, ◌^◌, length, ap, arith}
+use Rattle.std.proofs.Common.{◌*◌, ◌≤◌, ◌^◌, length, ap, arith}
 use Rattle.std.proofs.lemmas.Nat.{mul-le}
-use Rattle.math_shards.specs.Strips.{AreExtended}
 use Rattle.math_shards.proofs.BegunShards.{begun_more}
 use Rattle.math_shards.proofs.shards.splitting.append_strip.Goals as goal
 

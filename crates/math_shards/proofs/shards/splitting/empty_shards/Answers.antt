@@ -1,4 +1,4 @@
-use Rattle.std.proofs.Common.{◌≡◌, ◌∙◌, ◌+◌, ◌++◌, [], ◌∷◌, length, refl, ap, arith}
+use Rattle.std.proofs.Common.{◌∙◌, ◌+◌, length, refl, ap, arith}
 use Rattle.std.proofs.lemmas.List.{length_push}
 use Rattle.math_shards.specs.declared.shards.Shard.{Shard}
 use Rattle.math_shards.proofs.BegunShards.{begun-empty, begun-push}

@@ -1,4 +1,4 @@
-use Rattle.std.proofs.Common.{◌≡◌, ◌∙◌, ◌-◌, ◌/◌, ◌%◌, get_or, sym, ap, ap₂, arith}
+use Rattle.std.proofs.Common.{◌∙◌, ◌%◌, get_or, sym, ap, ap₂}
 use Rattle.math_base.specs.Elements.{number}
 use Rattle.math_shards.specs.Shards.{counted}
 use Rattle.math_shards.specs.Strips.{piece_of}

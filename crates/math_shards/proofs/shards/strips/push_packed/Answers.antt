@@ -1,5 +1,3 @@
-use Rattle.std.proofs.Common.{◌≡◌, arith}
-use Rattle.math_shards.specs.Strips.{AddsPacked}
 use Rattle.math_shards.proofs.StripColumns.{packed-none, packed-more}
 use Rattle.math_shards.proofs.shards.strips.push_packed.Goals as goal
 

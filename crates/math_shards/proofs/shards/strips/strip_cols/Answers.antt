@@ -1,4 +1,4 @@
-use Rattle.std.proofs.Common.{◌≤◌, arith}
+use Rattle.std.proofs.Common.{◌≤◌}
 use Rattle.math_shards.proofs.StripSizes.{few_columns, strip_fits}
 use Rattle.math_shards.proofs.shards.strips.strip_cols.Goals as goal
 

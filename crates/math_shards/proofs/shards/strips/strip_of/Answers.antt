@@ -1,4 +1,4 @@
-use Rattle.std.proofs.Common.{◌≡◌, ◌∙◌, ◌+◌, ◌-◌, ◌*◌, ◌≤◌, ◌^◌, ◌++◌, ℕ, length, take, replicate, ap, subst, arith}
+use Rattle.std.proofs.Common.{◌≡◌, ◌∙◌, ◌-◌, ◌*◌, ◌^◌, ◌++◌, ℕ, length, take, replicate, ap, subst, arith}
 use Rattle.math_shards.specs.Shards.{width_for}
 use Rattle.math_shards.proofs.StripColumns.{HoldRows, row-added, strip_filled}
 use Rattle.math_shards.proofs.StripSizes.{place_fits}
