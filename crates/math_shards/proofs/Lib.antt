@@ -20,3 +20,7 @@ pub mod CorrectedShards
 pub mod UnlikeRows
 pub mod JoinedCorrection
 pub mod SplitShards
+pub mod PackedWords
+pub mod StripColumns
+pub mod StripSizes
+pub mod BegunShards

@@ -1,4 +1,5 @@
 pub mod Shards
+pub mod Strips
 pub mod Joining
 pub mod Correcting
 pub mod ShardEncoding

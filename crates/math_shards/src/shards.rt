@@ -19,6 +19,7 @@ mod encoding;
 mod joining;
 mod layout;
 mod splitting;
+mod strips;
 
 pub use correcting::{Joined, join_corrected};
 pub use joining::join;
