@@ -20,3 +20,8 @@ pub mod CorrectedShards
 pub mod UnlikeRows
 pub mod JoinedCorrection
 pub mod SplitShards
+pub mod WeightedColumns
+pub mod UnitShards
+pub mod ShardColumns
+pub mod PutCoefficients
+pub mod PackedElements

@@ -1,4 +1,5 @@
 pub mod Shards
+pub mod Weights
 pub mod Joining
 pub mod Correcting
 pub mod ShardEncoding
