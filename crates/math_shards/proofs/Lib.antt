@@ -24,3 +24,8 @@ pub mod PackedWords
 pub mod StripColumns
 pub mod StripSizes
 pub mod BegunShards
+pub mod WeightedColumns
+pub mod UnitShards
+pub mod ShardColumns
+pub mod PutCoefficients
+pub mod PackedElements

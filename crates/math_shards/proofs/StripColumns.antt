@@ -11,7 +11,8 @@ use Rattle.math_transforms.specs.DomainValues.{AreValuesAtPowers, matrix_of}
 use Rattle.math_transforms.specs.Matrices.{column_of}
 use Rattle.math_transforms.proofs.MatrixRows.{cell-of_column, each-cell-next}
 use Rattle.math_shards.specs.Shards.{elements_for, rows_for, width_for}
-use Rattle.math_shards.specs.Strips.{AddsPacked, HasStripValues, IsStripOf, goldilocks, packed_at}
+use Rattle.math_shards.specs.Strips.{AddsPacked, HasStripValues, IsStripOf, packed_at}
+use Rattle.math_values.specs.Values.{goldilocks}
 use Rattle.math_shards.proofs.SameCells.{nought}
 use Rattle.math_shards.proofs.ShardRows.{rows_are_whole, same_values}
 

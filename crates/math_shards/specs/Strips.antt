@@ -1,20 +1,16 @@
 -- Strips of columns of the rows that data fill, and shards that grow by the values of a strip.
-use Rattle.std.specs.Prelude.{◌≡◌, ℕ, ◌+◌, ◌-◌, ◌*◌, ◌/◌, ◌<◌, ◌≤◌, ◌^◌, List, ◌++◌, None, true, length, take, drop, slice_index_or}
+use Rattle.std.specs.Prelude.{◌≡◌, ℕ, ◌+◌, ◌-◌, ◌*◌, ◌/◌, ◌<◌, ◌≤◌, ◌^◌, List, ◌++◌, length, take, drop, slice_index_or}
 use Rattle.math_numbers.specs.Bits as Bits
 use Rattle.math_numbers.specs.Bits.{bits}
 use Rattle.math_theory.specs.Coefficients.{HaveSameCoefficients}
 use Rattle.math_base.specs.declared.fields.goldilocks.F.{F}
-use Rattle.math_base.specs.Elements.{negative, product, residue, root_of, same, sum}
-use Rattle.math_base.specs.Members.{RingOf}
+use Rattle.math_base.specs.Elements.{residue, root_of, same}
+use Rattle.math_values.specs.Values.{goldilocks}
 use Rattle.math_transforms.specs.DomainValues.{matrix_of, ArePowersByLevel}
 use Rattle.math_transforms.specs.Matrices.{cell_of, column_of}
 use Rattle.math_shards.specs.declared.shards.Shard.{Shard}
 use Rattle.math_shards.specs.declared.shards.strips.Layout.{Layout}
 use Rattle.math_shards.specs.Shards.{elements_for, rows_for, value_at, width_for}
-
--- the operations of the elements
-abbrev pub goldilocks : RingOf F
-goldilocks = record { product = product; debug_output = λ a. None; same = same; NEVER_REFUSES = true; zero = residue 0; sum = sum; negative = negative; one = residue 1 }
 
 -- the table has the powers of the roots of all levels of a domain of 2^lg points
 abbrev pub IsTableOf : ℕ → List F → Type 0

@@ -20,6 +20,8 @@ mod joining;
 mod layout;
 mod splitting;
 mod strips;
+mod unpacking;
+mod weighing;
 
 pub use correcting::{Joined, join_corrected};
 pub use joining::join;
