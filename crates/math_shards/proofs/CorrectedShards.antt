@@ -1,5 +1,5 @@
 -- Data of shards of which some are wrong, and polynomials that are corrected from their rows: the ones exactly where the others.
-use Rattle.std.proofs.Common.{◌≡◌, ℕ, ◌+◌, ◌*◌, ◌<◌, ◌≤◌, ◌^◌, List, [], ◌∷◌, ◌++◌, Bool, true, false, None, length, map, get_or, refl, sym, ◌∙◌, ap, ap₂, subst, arith, length-append}
+use Rattle.std.proofs.Common.{◌≡◌, ℕ, ◌+◌, ◌*◌, ◌<◌, ◌≤◌, ◌^◌, List, [], ◌∷◌, ◌++◌, Bool, true, false, length, map, get_or, refl, sym, ◌∙◌, ap, ap₂, subst, arith, length-append}
 use Rattle.std.specs.Int.{IsNextPowerOfTwo}
 use Rattle.std.specs.List.{All, Contains, range_with_len}
 use Rattle.std.proofs.lemmas.Bool.{and_parts}
@@ -8,8 +8,7 @@ use Rattle.std.proofs.lemmas.List.Elements.{All-contains_itself, All-filter, Con
 use Rattle.std.proofs.lemmas.List.FromFn.{get_or-map-range_with_len, length-map-range_with_len}
 use Rattle.math_theory.specs.Recovery.{count_true}
 use Rattle.math_base.specs.declared.fields.goldilocks.F.{F}
-use Rattle.math_base.specs.Elements.{negative, number, product, residue, root_of, same, sum}
-use Rattle.math_base.specs.Members.{RingOf}
+use Rattle.math_base.specs.Elements.{number, root_of, same}
 use Rattle.math_transforms.specs.Matrices.{IsOfSize, MatrixOf, cell_of, column_of}
 use Rattle.math_transforms.proofs.PresentIndices.{lg-only}
 use Rattle.math_ntt.specs.CorrectedRows.{AreWithinRadius, IsCorrected}
@@ -19,6 +18,7 @@ use Rattle.math_ntt.proofs.MatrixPlaces.{columns_are_full, columns_hold_cells}
 use Rattle.math_shards.specs.declared.shards.Shard.{Shard}
 use Rattle.math_shards.specs.Correcting.{CorrectTo, HaveOneCorrection, settled, settled_indices}
 use Rattle.math_shards.specs.Joining.{ArePolynomialsOf, HoldsShards, IsSound}
+use Rattle.math_values.specs.Values.{goldilocks}
 use Rattle.math_shards.specs.Shards.{IsShardOf, JoinTo, distinct_indices, has_index, rows_for, value_at, width_for}
 use Rattle.math_shards.proofs.CountedIndices.{indices-outside, lost_outside, outside, outside_not_among, is_outside}
 use Rattle.math_shards.proofs.FilledShards.{count_filled, count_marks, index_found, index_there, indices_below, no_indices}
@@ -27,10 +27,6 @@ use Rattle.math_shards.proofs.RecoveredShards.{cell_of_shard}
 use Rattle.math_shards.proofs.SameCells.{nought}
 use Rattle.math_shards.proofs.SettledShards.{settled_sound}
 use Rattle.math_shards.proofs.ShardRows.{same_values}
-
--- the operations of the elements
-abbrev pub goldilocks : RingOf F
-goldilocks = record { product = product; debug_output = λ a. None; same = same; NEVER_REFUSES = true; zero = residue 0; sum = sum; negative = negative; one = residue 1 }
 
 -- the settled shards but those of wrong indices are shards of the data
 abbrev pub right_of : (words : List ℕ) (shards : List Shard) → CorrectTo words shards → List Shard

@@ -46,7 +46,7 @@ same_as_itself [] = tt
 same_as_itself (x ∷ xs) = (refl, same_as_itself xs)
 
 -- the quotient rounded up is how many pieces there are
-rounded_up : (x y : ℕ) → 0 < y → div_ceil x y ≡ piece_count y x
+pub rounded_up : (x y : ℕ) → 0 < y → div_ceil x y ≡ piece_count y x
 rounded_up x y h =
     let whole : y * (x / y) + x % y ≡ x = div-add-mod x y in
     let below : x % y < y = mod-lt x h in

@@ -20,3 +20,12 @@ pub mod CorrectedShards
 pub mod UnlikeRows
 pub mod JoinedCorrection
 pub mod SplitShards
+pub mod PackedWords
+pub mod StripColumns
+pub mod StripSizes
+pub mod BegunShards
+pub mod WeightedColumns
+pub mod UnitShards
+pub mod ShardColumns
+pub mod PutCoefficients
+pub mod PackedElements

@@ -1,8 +1,6 @@
 -- Shards that are made of the values of the polynomials of data.
-use Rattle.std.proofs.Common.{◌≡◌, ℕ, zero, suc, ◌+◌, ◌*◌, ◌<◌, ◌^◌, List, [], ◌∷◌, ◌++◌, length, map, get_or, sym, ◌∙◌, ap, ap₂, arith}
+use Rattle.std.proofs.Common.{◌≡◌, ℕ, ◌*◌, ◌<◌, ◌^◌, List, length, get_or, sym, ◌∙◌, ap, ap₂, arith}
 use Rattle.std.specs.Int.{IsNextPowerOfTwo}
-use Rattle.std.specs.List.{range_with_len}
-use Rattle.std.proofs.lemmas.List.{map-append}
 use Rattle.math_base.specs.declared.fields.goldilocks.F.{F}
 use Rattle.math_base.specs.Elements.{number, same}
 use Rattle.math_transforms.specs.Matrices.{IsOfSize, MatrixOf, cell_of, column_of, row_of}
@@ -36,17 +34,3 @@ shard_of_row words min total p v next wide of_data size values s below least mos
           ∙ values lg rows s.index k (omega (arith, below, next.1)) column
           ∙ same_values _ (column_of nought p k) (column_of nought (rows_for min words) k) (of_data k b);
     }
-
-range_push : (a n : ℕ) → range_with_len a n ++ (a + n) ∷ [] ≡ range_with_len a (n + 1)
-range_push a zero = let e : a + 0 ≡ a = omega arith in ap (λ b. b ∷ []) e
-range_push a (suc n) =
-    let e : a + suc n ≡ a + 1 + n = omega arith in
-    let f : suc n + 1 ≡ suc (n + 1) = omega arith in
-    rw f (ap (λ bs. a ∷ bs) (ap (λ b. range_with_len (a + 1) n ++ b ∷ []) e ∙ range_push (a + 1) n))
-
--- one index more
-pub indices_push : (shards : List Shard) (s : Shard) (n : ℕ) → map (λ (t : Shard). t.index) shards ≡ range_with_len 0 n → s.index ≡ n
-    → map (λ (t : Shard). t.index) (shards ++ s ∷ []) ≡ range_with_len 0 (n + 1)
-indices_push shards s n h e =
-    let f : s.index ≡ 0 + n = omega (arith, e) in
-    map-append (λ (t : Shard). t.index) shards (s ∷ []) ∙ ap₂ (λ is i. is ++ i ∷ []) h f ∙ range_push 0 n

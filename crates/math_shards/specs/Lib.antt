@@ -1,4 +1,6 @@
 pub mod Shards
+pub mod Strips
+pub mod Weights
 pub mod Joining
 pub mod Correcting
 pub mod ShardEncoding

@@ -19,6 +19,9 @@ mod encoding;
 mod joining;
 mod layout;
 mod splitting;
+mod strips;
+mod unpacking;
+mod weighing;
 
 pub use correcting::{Joined, join_corrected};
 pub use joining::join;

@@ -27,7 +27,7 @@ abbrev pub power_of : F → ℕ → F
 power_of x n = power (residue 1) product x n
 
 -- a sum and a product of elements is the residue of that sum and product
-residue-joined : (a t b : ℕ) → sum (residue a) (product (residue t) (residue b)) ≡ residue (a + t * b)
+pub residue-joined : (a t b : ℕ) → sum (residue a) (product (residue t) (residue b)) ≡ residue (a + t * b)
 residue-joined a t b = same_number _ _ (ap (λ y. (a % P + y) % P) (sym (mul-mod t b P)) ∙ mod-add-mod a P (t * b % P) ∙ add-mod-mod a (t * b) P)
 
 -- one coefficient more of a block
@@ -49,13 +49,13 @@ pub record AreBlockSums (powers coefficients : List F) (i low high : ℕ) : Type
   pub value : (x : F) → ArePowersOf x powers → residue (low + 2 ^ 64 * high) ≡ value_of (take i coefficients) x
 
 -- two words have a product of 128 bits
-word-product : (a b : ℕ) → a < 2 ^ 64 → b < 2 ^ 64 → a * b < 2 ^ 128
+pub word-product : (a b : ℕ) → a < 2 ^ 64 → b < 2 ^ 64 → a * b < 2 ^ 128
 word-product a b l m =
     let most : a * b ≤ (2 ^ 64 - 1) * (2 ^ 64 - 1) = mul-le-mul (let h : a ≤ 2 ^ 64 - 1 = omega arith in h) (let h : b ≤ 2 ^ 64 - 1 = omega arith in h) in
     omega (arith, most)
 
 -- both words of a product q are added to their sums
-sums-of-words : (low high q : ℕ) → (low + q % 2 ^ 64) + 2 ^ 64 * (high + q / 2 ^ 64) ≡ (low + 2 ^ 64 * high) + q
+pub sums-of-words : (low high q : ℕ) → (low + q % 2 ^ 64) + 2 ^ 64 * (high + q / 2 ^ 64) ≡ (low + 2 ^ 64 * high) + q
 sums-of-words low high q = omega arith
 
 -- one product more of the sums

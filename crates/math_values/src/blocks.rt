@@ -13,17 +13,17 @@ use math_base::fields::goldilocks::{F, MODULUS};
 const NEXT_WORD: u64 = 0xffff_ffff;
 
 /// 2^64.
-const WORD: u128 = 0x1_0000_0000_0000_0000;
+pub(crate) const WORD: u128 = 0x1_0000_0000_0000_0000;
 
 /// low + 2^64 high.
-fn joined(low: F, high: F) -> F
+pub(crate) fn joined(low: F, high: F) -> F
     ensures { (m n : ℕ) → low ≡ residue m → high ≡ residue n → result ≡ residue (m + 2 ^ 64 * n) }
 {
     low + F::from(NEXT_WORD) * high
 }
 
 /// The remainder of a sum.
-fn reduced(sum: u128) -> F
+pub(crate) fn reduced(sum: u128) -> F
     ensures { result ≡ residue sum }
 {
     let high = (sum / WORD) as u64;

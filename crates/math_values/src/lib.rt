@@ -1,6 +1,8 @@
-//! Values of polynomials over the Goldilocks field at one point, from words or from elements.
+//! Values of polynomials over the Goldilocks field at one point, from words or from elements, and
+//! sums of products of elements.
 #![tactic(auto)]
 
 mod blocks;
+pub mod sums;
 pub mod values;
 mod words;

@@ -9,14 +9,16 @@ ghost use Rattle.math_base.specs.Elements.{same};
 ghost use Rattle.math_base.specs.Packing.{words_of};
 ghost use Rattle.math_ntt.specs.Evaluations.{IsFilledAt};
 ghost use Rattle.math_transforms.specs.Matrices.{IsOfSize};
-ghost use Rattle.math_shards.specs.Shards.{counted, JoinTo};
+ghost use Rattle.math_shards.specs.Shards.{counted, distinct_indices, JoinTo};
 ghost use Rattle.math_shards.specs.Joining.{ArePolynomialsOf, HoldsIfFilled, HoldsOthers};
-ghost use Rattle.math_shards.specs.Joining.{HaveConflict, HoldsShards, IsDue, IsMemory, IsSound};
-ghost use Rattle.math_shards.specs.Joining.{IsUnsound, Matches, RefusesExactly};
+ghost use Rattle.math_shards.specs.Joining.{HaveConflict, HoldsShards, IsDue, IsDueBeside};
+ghost use Rattle.math_shards.specs.Joining.{IsMemory, IsSound, IsUnsound, Matches, RefusesExactly};
 ghost use Rattle.math_shards.specs.declared.shards.Error.TheVariants.{TooFew, Mismatch, Index};
 ghost use Rattle.math_shards.specs.declared.shards.Error.TheVariants.{Conflict, Inconsistent};
 
 use super::layout::{laid_out, polynomials};
+use super::unpacking::{data_of_elements, leading_data};
+use super::weighing::weighed_coefficients;
 use super::{Error, Shard};
 use math_base::algebra::Mem;
 use math_base::fields::goldilocks::F;
@@ -33,9 +35,12 @@ use std::alloc::{AllocError, Global};
 /// that are those of no data with `Inconsistent`. Where more than `min` shards are there, damage to
 /// one is so found, and where just `min` are there it is not.
 ///
-/// Takes memory for a few times N rows of as many cells as a shard has, where N is `total` rounded
-/// up to a power of two: who takes shards from strangers bounds `total` first. Nothing is allocated
-/// by a number that a shard claims of its data before the cells bear it out.
+/// Just `min` shards of distinct indices, at most 256 and no more than a shard has cells, are joined
+/// by weights: beside the data it then takes memory for as many elements as these shards have cells,
+/// and for a few times N rows of `min` cells, where N is `total` rounded up to a power of two. Other
+/// shards are joined by transforms, with memory for a few times N rows of as many cells as a shard
+/// has. Who takes shards from strangers bounds `total` first. Nothing is allocated by a number that
+/// a shard claims of its data before the cells bear it out.
 pub fn join(alloc: Global, shards: &[Shard]) -> Result<Vec<u64>, Error>
     ensures ok { IfOk result (λ words. JoinTo words.items shards.now) }
     ensures found { (words : List ℕ) → JoinTo words shards.now
@@ -58,6 +63,9 @@ fn recovered_data(alloc: Global, shards: &[Shard]) -> Result<Vec<u64>, Error>
         return Err(Error::TooFew);
     };
     check_numbers(shards, first)?;
+    if let Some(words) = weighed_data(alloc, shards, first)? {
+        return Ok(words);
+    }
     let values = gathered(alloc, shards, first)?;
     if values.filled_rows() < first.min as usize {
         return Err(Error::TooFew);
@@ -65,6 +73,25 @@ fn recovered_data(alloc: Global, shards: &[Shard]) -> Result<Vec<u64>, Error>
     let recovered = values.recover(alloc)?;
     match data_of(alloc, &recovered, first)? {
         Some(data) => Ok(data),
+        None => Err(Error::Inconsistent),
+    }
+}
+
+/// The data of the shards by weights, or that there are none; `None` where no weights are taken.
+fn weighed_data(alloc: Global, shards: &[Shard], first: &Shard) -> Result<Option<Vec<u64>>, Error>
+    requires some { 0 < length shards.now }
+    requires sound { All (IsSound first.now) shards.now }
+    ensures ok { IfOk result
+        (λ answer. IfSome answer (λ words. JoinTo words.items shards.now)) }
+    ensures err { IfErr result (IsDueBeside (HaveConflict shards.now)
+        (distinct_indices first.now.total shards.now) (λ words. JoinTo words shards.now)
+        first.now shards.now) }
+{
+    let Some(elements) = weighed_coefficients(alloc, shards, first)? else {
+        return Ok(None);
+    };
+    match data_of_elements(alloc, &elements, first)? {
+        Some(data) => Ok(Some(data)),
         None => Err(Error::Inconsistent),
     }
 }
@@ -194,16 +221,8 @@ fn data_in(alloc: Global, recovered: &PolynomialVector<F>, min: u32) -> Mem<Opti
         → words_of (take (min * recovered.now.cols) recovered.now.cells) ≡ counted words ++ rest
         → IfOk result (λ answer. IsSome answer × IfSome answer (λ found. found.items ≡ words)) }
 {
-    let mut words = words_in(alloc, recovered, min)?;
-    if words.is_empty() {
-        return Ok(None);
-    }
-    let count = words.remove(0);
-    if count > words.len() as u64 {
-        return Ok(None);
-    }
-    words.truncate(count as usize);
-    Ok(Some(words))
+    let words = words_in(alloc, recovered, min)?;
+    Ok(leading_data(words))
 }
 
 /// Whether these polynomials are those of the data.

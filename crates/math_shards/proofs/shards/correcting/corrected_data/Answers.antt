@@ -9,7 +9,8 @@ use Rattle.math_shards.specs.declared.shards.Error.TheVariants.{TooFew, Inconsis
 use Rattle.math_shards.specs.Correcting.{CorrectTo, settled_indices}
 use Rattle.math_shards.specs.Shards.{rows_for}
 use Rattle.math_shards.proofs.SameCells.{nought}
-use Rattle.math_shards.proofs.CorrectedShards.{AreSettledRows, corrected_of_data, count_settled, goldilocks, least_is_positive, least_is_within, rows_are_domain, size_of_corrected, within_radius}
+use Rattle.math_shards.proofs.CorrectedShards.{AreSettledRows, corrected_of_data, count_settled, least_is_positive, least_is_within, rows_are_domain, size_of_corrected, within_radius}
+use Rattle.math_values.specs.Values.{goldilocks}
 use Rattle.math_shards.proofs.DueErrors.{due_beside, unsound_due}
 use Rattle.math_shards.proofs.JoinedShards.{domain_is_small}
 use Rattle.math_shards.proofs.UnlikeRows.{corrected_with_positions}

@@ -1,33 +1,41 @@
-use Rattle.std.proofs.Common.{◌≡◌, refl, ◌∙◌, arith}
-use Rattle.std.proofs.lemmas.List.Elements.{All-push}
-use Rattle.math_base.specs.Elements.{same}
-use Rattle.math_ntt.specs.PolynomialRows.{HaveSamePolynomials}
+use Rattle.std.proofs.Common.{◌≡◌, ◌∙◌, ◌+◌, ◌++◌, List, length, take, drop, sym, ap, subst, arith}
+use Rattle.math_base.proofs.WholeWrites.{take-written}
 use Rattle.math_shards.specs.declared.shards.Shard.{Shard}
-use Rattle.math_shards.specs.Shards.{IsShardOf, rows_for}
-use Rattle.math_shards.proofs.JoinedShards.{domain_is_small}
-use Rattle.math_shards.proofs.SameCells.{nought}
-use Rattle.math_shards.proofs.ShardRows.{columns_of_same}
-use Rattle.math_shards.proofs.SplitShards.{shard_of_row, indices_push}
+use Rattle.math_shards.specs.Shards.{width_for}
+use Rattle.math_shards.specs.Strips.{AreBegun}
+use Rattle.math_shards.proofs.BegunShards.{shards_of_begun}
 use Rattle.math_shards.proofs.shards.splitting.split.Goals as goal
 
-pub evaluate-requires : goal.evaluate-requires
-evaluate-requires c = record { domain = λ lg e. domain_is_small c.args.total lg (omega (arith, c.requires.some, c.requires.within)) c.ranges.total.fits (rw e at c.in_ok-polynomials.ensures.rows) }
-
-pub loop-index-preserved : goal.loop-index-preserved
-loop-index-preserved c =
-    let words = c.args.data.now in
-    let rows = c.in_ok-rows.rows in
-    let p = c.in_ok-polynomials.field-0 in
-    let made = c.in_ok-polynomials.ensures in
-    let m = rows_for c.args.min words in
-    let v = c.in_ok-evaluate.field-0.matrix in
-    let wide : rows.cols ≡ m.cols = c.in_ok-rows.ensures.1 in
-    let of_data : HaveSamePolynomials same nought p m = λ k l i. made.polynomials k (omega (arith, l, wide)) i ∙ columns_of_same rows m c.in_ok-rows.ensures k l i in
-    let s : Shard = record { index = c.loop-index.index; min = c.args.min; total = c.args.total; cells = c.in_ok-cells.cells } in
-    let of : IsShardOf words c.args.min c.args.total s =
-    shard_of_row words c.args.min c.args.total p v made.rows (made.size.1 ∙ wide) of_data c.in_ok-evaluate.ensures.size c.in_ok-evaluate.ensures.values s c.loop-index-test.true refl refl
-    (c.in_ok-cells.ensures ∙ rw c.data-values.ensures at c.row.ensures.row) in
-    rw c.in_ok-push.ensures.items record {
-      indices = indices_push c.loop-index.shards.items s c.loop-index.index c.loop-index.invariant.indices refl;
-      each = All-push (IsShardOf words c.args.min c.args.total) c.loop-index.shards.items s c.loop-index.invariant.each of;
+pub loop-from-init : goal.loop-from-init
+loop-from-init c =
+    let layout = c.layout_of-layout.result in
+    record {
+      within = omega arith;
+      count = c.in_ok-shards.ensures.count;
+      begun = rw c.layout_of-layout.ensures.min (c.in_ok-shards.ensures.empty c.args.data.now layout.lg);
     }
+
+pub loop-from-preserved : goal.loop-from-preserved
+loop-from-preserved c =
+    let layout = c.layout_of-layout.result in
+    let vec = c.loop-from.shards in
+    let new = c.append_strip.new.shards in
+    let kept : length new ≡ length vec.items = c.append_strip.auto.shards ∙ ap length c.deref_mut.ensures.value in
+    let written : take vec.len (new ++ drop (length new) vec.items) ≡ new = take-written vec.len vec.items new vec.ok.0 kept in
+    let to = c.loop-from.from + c.strip_cols-cols.result in
+    let begun : AreBegun c.args.data.now layout.min c.args.total layout.lg to new =
+    c.in_ok-append_strip.ensures c.args.total (rw c.deref_mut.ensures.value c.loop-from.invariant.begun) in
+    record {
+      within = c.strip_cols-cols.ensures.within;
+      count = ap length written ∙ kept ∙ c.loop-from.invariant.count;
+      begun = subst (λ (xs : List Shard). AreBegun c.args.data.now layout.min c.args.total layout.lg to xs) (sym written) begun;
+    }
+
+pub returns : goal.returns
+returns c =
+    let layout = c.layout_of-layout.result in
+    let made = c.layout_of-layout.ensures in
+    let all : c.loop-from.from ≡ width_for c.args.min c.args.data.now =
+    omega (arith, c.loop-from.invariant.within, c.loop-from-test.false) ∙ made.layout.width ∙ ap (λ m. width_for m c.args.data.now) made.min in
+    shards_of_begun c.args.data.now c.args.min c.args.total layout.lg c.loop-from.from c.loop-from.shards.items made.points c.loop-from.invariant.count all
+    (subst (λ m. AreBegun c.args.data.now m c.args.total layout.lg c.loop-from.from c.loop-from.shards.items) made.min c.loop-from.invariant.begun)

@@ -1,12 +1,14 @@
-use Rattle.std.proofs.Common.{◌≡◌, map, All}
-use Rattle.std.specs.List.{range_with_len}
-use Rattle.math_shards.specs.declared.shards.Shard.{Shard}
-use Rattle.math_shards.specs.Shards.{IsShardOf}
+use Rattle.std.proofs.Common.{◌≡◌, ◌-◌, ◌≤◌, length}
+use Rattle.math_shards.specs.Strips.{AreBegun}
 use Rattle.math_shards.proofs.shards.splitting.split.Given as goal
 
--- the shards so far are those of the first indices
-abbrev pub invariant-loop-index : goal.invariant-loop-index
-invariant-loop-index l = record {
-  indices : map (λ (s : Shard). s.index) l.shards.items ≡ range_with_len 0 l.index;
-  each : All (IsShardOf l.data l.min l.total) l.shards.items;
+-- the shards have the cells of the columns so far
+abbrev pub invariant-loop-from : goal.invariant-loop-from
+invariant-loop-from l = record {
+  within : l.from ≤ l.layout.width;
+  count : length l.shards.items ≡ l.total;
+  begun : AreBegun l.data l.layout.min l.total l.layout.lg l.from l.shards.items;
 }
+
+abbrev pub decreases-loop-from : goal.decreases-loop-from
+decreases-loop-from l = l.layout.width - l.from

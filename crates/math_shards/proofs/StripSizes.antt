@@ -1,0 +1,46 @@
+-- The sizes of strips and of rows of data: all of them fit a word.
+use Rattle.std.proofs.Common.{◌≡◌, ◌∙◌, ℕ, suc, ◌+◌, ◌*◌, ◌/◌, ◌<◌, ◌≤◌, ◌^◌, List, length, sym, ap, max, min, pow_mono, arith}
+use Rattle.std.specs.Int.{div_ceil}
+use Rattle.std.proofs.lemmas.Nat.{mul-le, shr_le}
+use Rattle.math_numbers.specs.Bits.{piece_count}
+use Rattle.math_numbers.proofs.BitPieces.{piece_count-least}
+use Rattle.math_base.proofs.Packing.{length-elements_of}
+use Rattle.math_transforms.proofs.WrittenCells.{row-within}
+use Rattle.math_shards.specs.Shards.{counted, elements_for, width_for}
+use Rattle.math_shards.proofs.LaidOutData.{rounded_up}
+
+-- so many elements do so many words pack to
+elements_of_words : (n : ℕ) → piece_count 63 (64 * suc n) ≡ n + 1 + div_ceil (n + 1) 63
+elements_of_words n = omega arith
+
+count_elements : (words : List ℕ) → length (elements_for words) ≡ length words + 1 + div_ceil (length words + 1) 63
+count_elements words = length-elements_of (counted words) ∙ elements_of_words (length words)
+
+-- the width of the rows
+pub width_of_words : (least : ℕ) (words : List ℕ) → 1 ≤ least → div_ceil (length words + 1 + div_ceil (length words + 1) 63) least ≡ width_for least words
+width_of_words least words some = rounded_up (length words + 1 + div_ceil (length words + 1) 63) least some ∙ ap (piece_count least) (sym (count_elements words))
+
+-- their cells
+pub cells_fit : (least : ℕ) (words : List ℕ) → 1 ≤ least → least < 2 ^ 32 → length words < 2 ^ 61 → least * width_for least words < 2 ^ 64
+cells_fit least words some small few = omega (arith, piece_count-least least (length (elements_for words)) some, count_elements words)
+
+-- a row within them, and a part of it
+pub place_fits : (least width i from n : ℕ) → i < least → from + n ≤ width → least * width < 2 ^ 64 → i * width + from + n < 2 ^ 64
+place_fits least width i from n l within fits = omega (arith, row-within i least width l)
+
+-- the columns of a strip
+pub strip_fits : (lg n : ℕ) → lg ≤ 32 → n ≤ 32768 → 2 ^ lg * n < 2 ^ 64
+strip_fits lg n small few =
+    let points : 2 ^ lg ≤ 2 ^ 32 = pow_mono small in
+    let cells : 2 ^ lg * n ≤ 2 ^ 32 * 32768 = mul-le (2 ^ lg) n (2 ^ 32) 32768 points few in
+    omega (arith, cells)
+
+pub few_columns : (lg most left n : ℕ) → most ≡ max (32768 / 2 ^ lg) 8 → n ≡ min most left → n ≤ 32768
+few_columns lg most left n e f = omega (arith, shr_le 32768 lg)
+
+-- the butterflies of a strip
+pub work_fits : (lg n done : ℕ) → lg ≤ 32 → 2 ^ lg * n < 2 ^ 64 → done ≡ 0 → 2 * done + n * 2 ^ lg * lg < 2 ^ 129
+work_fits lg n done small fits none =
+    let turned : n * 2 ^ lg ≡ 2 ^ lg * n = omega arith in
+    let all : n * 2 ^ lg * lg ≤ 2 ^ 64 * 32 = mul-le (n * 2 ^ lg) lg (2 ^ 64) 32 (omega (arith, turned, fits)) small in
+    omega (arith, all, none)

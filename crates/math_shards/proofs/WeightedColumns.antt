@@ -1,0 +1,117 @@
+-- Polynomials whose coefficients are weighted sums of the same items: where the columns of the weights have the values one and zero, the value is one of the items.
+use Rattle.std.proofs.Common.{◌≡◌, ◌≢◌, ℕ, suc, ◌<◌, List, [], ◌∷◌, length, map, get_or, refl, sym, ◌∙◌, ap, ap₂, arith}
+use Rattle.std.specs.List.{range_with_len}
+use Rattle.std.proofs.Math.ListN.{get_or-map}
+use Rattle.std.proofs.lemmas.List as Lists
+use Rattle.std.proofs.lemmas.List.FromFn.{get_or-map-range_with_len, length-map-range_with_len}
+use Rattle.math_theory.specs.Laws.{IsEquality, IsGroup, IsProduct, IsRing}
+use Rattle.math_theory.specs.OverRing as OverRing
+use Rattle.math_theory.specs.Rings.{CommutativeRing}
+use Rattle.math_theory.specs.Sums.{weighted_sum}
+use Rattle.math_theory.specs.Values.{value}
+use Rattle.math_theory.proofs.classes.Classes.{Class, class, class_same, same_class, ring_of_classes}
+use Rattle.math_theory.proofs.classes.ClassesOfLists.{coefficient-class, length-classes, value-class, weighted_sum-class}
+use Rattle.math_theory.proofs.polynomials.Values.{value-cons}
+use Rattle.math_theory.proofs.rings.Normal.{ring, ◌⊕◌, ◌⊗◌, 𝟘, v0, v1, v2, v3, v4, v5}
+use Rattle.math_theory.proofs.rings.WeightedSumLaws.{weighted_sum-all_zero, weighted_sum-one_at}
+
+-- column i of rows; d stands for an item that is not there
+abbrev pub column_at : {A : Type 0} → A → List (List A) → ℕ → List A
+column_at d rows i = map (λ row. get_or row i d) rows
+
+-- each row has n items
+abbrev pub HaveLength : {A : Type 0} → ℕ → List (List A) → Type 0
+HaveLength n rows = (k : ℕ) → k < length rows → length (get_or rows k []) ≡ n
+
+module _ {A : Type 0} (R : CommutativeRing A) where
+  open R use {sum, product}
+
+  -- weights that are place by place the sum of one list and a multiple of another: so is the weighted sum
+  weighted_sum-combined : (x : A) (xs vs us ws : List A) → length vs ≡ length xs → length us ≡ length xs → length ws ≡ length xs
+      → ((i : ℕ) → i < length xs → get_or vs i R.zero ≡ sum (get_or us i R.zero) (product x (get_or ws i R.zero)))
+      → OverRing.weighted_sum R xs vs ≡ sum (OverRing.weighted_sum R xs us) (product x (OverRing.weighted_sum R xs ws))
+  weighted_sum-combined x [] vs us ws l m n h = ring R (x ∷ []) 𝟘 (𝟘 ⊕ (v0 ⊗ 𝟘)) refl
+  weighted_sum-combined x (p ∷ xs) [] us ws l m n h = absurd (omega (arith, l))
+  weighted_sum-combined x (p ∷ xs) (v ∷ vs) [] ws l m n h = absurd (omega (arith, m))
+  weighted_sum-combined x (p ∷ xs) (v ∷ vs) (u ∷ us) [] l m n h = absurd (omega (arith, n))
+  weighted_sum-combined x (p ∷ xs) (v ∷ vs) (u ∷ us) (w ∷ ws) l m n h =
+      ap₂ sum (ap (product p) (h 0 (omega arith)))
+      (weighted_sum-combined x xs vs us ws (omega (arith, l)) (omega (arith, m)) (omega (arith, n)) (λ i b. h (suc i) (omega arith)))
+      ∙ ring R (p ∷ u ∷ w ∷ x ∷ OverRing.weighted_sum R xs us ∷ OverRing.weighted_sum R xs ws ∷ [])
+      ((v0 ⊗ (v1 ⊕ (v3 ⊗ v2))) ⊕ (v4 ⊕ (v3 ⊗ v5))) (((v0 ⊗ v1) ⊕ v4) ⊕ (v3 ⊗ ((v0 ⊗ v2) ⊕ v5))) refl
+
+  -- the value at x of column i of the rows
+  abbrev value_of_column : A → List (List A) → ℕ → A
+  value_of_column x rows i = OverRing.value R x (column_at R.zero rows i)
+
+  -- the values at x of the first n columns
+  abbrev values_of_columns : A → List (List A) → ℕ → List A
+  values_of_columns x rows n = map (value_of_column x rows) (range_with_len 0 n)
+
+  values-at : (x : A) (rows : List (List A)) (n i : ℕ) → i < n → get_or (values_of_columns x rows n) i R.zero ≡ value_of_column x rows i
+  values-at x rows n i l = get_or-map-range_with_len (value_of_column x rows) 0 n i i R.zero l (omega arith)
+
+  values-count : (x : A) (rows : List (List A)) (n : ℕ) → length (values_of_columns x rows n) ≡ n
+  values-count x rows n = length-map-range_with_len (value_of_column x rows) 0 n
+
+  -- the weighted sums by each row, as coefficients, have as value the weighted sum of the values of the columns
+  value-of_sums : (x : A) (xs : List A) (rows : List (List A)) → HaveLength (length xs) rows
+      → OverRing.value R x (map (λ row. OverRing.weighted_sum R xs row) rows) ≡ OverRing.weighted_sum R xs (values_of_columns x rows (length xs))
+  value-of_sums x xs [] h =
+      sym (weighted_sum-all_zero R xs (values_of_columns x [] (length xs)) (λ i l. values-at x [] (length xs) i (omega (arith, l, values-count x [] (length xs)))))
+  value-of_sums x xs (row ∷ rows) h =
+      let n = length xs in
+      value-cons R x (OverRing.weighted_sum R xs row) (map (λ r. OverRing.weighted_sum R xs r) rows)
+      ∙ ap (λ v. sum (OverRing.weighted_sum R xs row) (product x v)) (value-of_sums x xs rows (λ k l. h (suc k) (omega arith)))
+      ∙ sym (weighted_sum-combined x xs (values_of_columns x (row ∷ rows) n) row (values_of_columns x rows n)
+      (values-count x (row ∷ rows) n) (h 0 (omega arith)) (values-count x rows n)
+      (λ i l. values-at x (row ∷ rows) n i l ∙ value-cons R x (get_or row i R.zero) (column_at R.zero rows i)
+      ∙ ap (λ v. sum (get_or row i R.zero) (product x v)) (sym (values-at x rows n i l))))
+
+  -- where the value of column t is one and those of the others are zero, it is item t
+  value-at_place : (x : A) (xs : List A) (rows : List (List A)) (t : ℕ) → HaveLength (length xs) rows → t < length xs → value_of_column x rows t ≡ R.one
+      → ((i : ℕ) → i < length xs → i ≢ t → value_of_column x rows i ≡ R.zero)
+      → OverRing.value R x (map (λ row. OverRing.weighted_sum R xs row) rows) ≡ get_or xs t R.zero
+  value-at_place x xs rows t h l e z =
+      let n = length xs in
+      let count : length (values_of_columns x rows n) ≡ n = values-count x rows n in
+      value-of_sums x xs rows h
+      ∙ weighted_sum-one_at R t xs (values_of_columns x rows n) (omega (arith, l, count)) (values-at x rows n t l ∙ e)
+      (λ i b apart. let inside : i < n = omega (arith, b, count) in values-at x rows n i inside ∙ z i inside apart)
+
+-- the same up to a type's own equality
+module _ {A : Type 0} {same : A → A → Type 0} {zero_of : A} {sum : A → A → A} {negative : A → A} {product : A → A → A} {one : A}
+    (E : IsEquality same) (G : IsGroup same zero_of sum negative) (P : IsProduct same product) (R : IsRing same sum product one) where
+  abbrev C : CommutativeRing (Class E)
+  C = ring_of_classes E G P R
+
+  abbrev classes : List A → List (Class E)
+  classes xs = map (class E) xs
+
+  sums-class : (xs : List A) (rows : List (List A)) → map (λ row. OverRing.weighted_sum C (classes xs) row) (map classes rows) ≡ classes (map (λ row. weighted_sum zero_of sum product xs row) rows)
+  sums-class xs [] = refl
+  sums-class xs (row ∷ rows) = ap₂ (λ v vs. v ∷ vs) (weighted_sum-class E G P R xs row) (sums-class xs rows)
+
+  column-class : (rows : List (List A)) (i : ℕ) → column_at C.zero (map classes rows) i ≡ classes (column_at zero_of rows i)
+  column-class [] i = refl
+  column-class (row ∷ rows) i = ap₂ (λ v vs. v ∷ vs) (coefficient-class E G P R row i) (column-class rows i)
+
+  rows-class : (n : ℕ) (rows : List (List A)) → HaveLength n rows → HaveLength n (map classes rows)
+  rows-class n rows h k l =
+      let inside : k < length rows = omega (arith, l, Lists.length-map rows classes) in
+      ap length (get_or-map classes rows k []) ∙ length-classes E (get_or rows k []) ∙ h k inside
+
+  pub value-at_place-same : (x : A) (xs : List A) (rows : List (List A)) (t : ℕ) → HaveLength (length xs) rows → t < length xs
+      → same (value zero_of sum product one x (column_at zero_of rows t)) one
+      → ((i : ℕ) → i < length xs → i ≢ t → same (value zero_of sum product one x (column_at zero_of rows i)) zero_of)
+      → same (value zero_of sum product one x (map (λ row. weighted_sum zero_of sum product xs row) rows)) (get_or xs t zero_of)
+  value-at_place-same x xs rows t h l e z =
+      let count : length (classes xs) ≡ length xs = length-classes E xs in
+      let column : (i : ℕ) → OverRing.value C (class E x) (column_at C.zero (map classes rows) i) ≡ class E (value zero_of sum product one x (column_at zero_of rows i)) =
+      λ i. ap (OverRing.value C (class E x)) (column-class rows i) ∙ value-class E G P R x (column_at zero_of rows i) in
+      same_class E _ _
+      (sym (value-class E G P R x (map (λ row. weighted_sum zero_of sum product xs row) rows))
+      ∙ ap (OverRing.value C (class E x)) (sym (sums-class xs rows))
+      ∙ value-at_place C (class E x) (classes xs) (map classes rows) t (λ k b. rows-class (length xs) rows h k b ∙ sym count) (omega (arith, l, count))
+      (column t ∙ class_same E _ _ e) (λ i b apart. column i ∙ class_same E _ _ (z i (omega (arith, b, count)) apart))
+      ∙ coefficient-class E G P R xs t)

@@ -1,0 +1,24 @@
+use Rattle.std.proofs.Common.{◌∙◌, length, refl, ap, arith}
+use Rattle.math_theory.specs.Sums.{weighted_sum}
+use Rattle.math_base.specs.Elements.{product, sum}
+use Rattle.math_transforms.specs.Matrices.{row_of}
+use Rattle.math_shards.proofs.PutCoefficients.{column-more}
+use Rattle.math_shards.proofs.SameCells.{nought}
+use Rattle.math_shards.proofs.shards.weighing.put_column.Goals as goal
+
+pub loop-r-init : goal.loop-r-init
+loop-r-init c = record { done = λ i b. absurd (omega arith); others = λ i k a b apart. refl }
+
+pub loop-r-preserved : goal.loop-r-preserved
+loop-r-preserved c =
+    let cells = c.args.cells.now in
+    let weights = c.args.weights.now in
+    column-more (length cells) c.args.width c.args.column c.loop-r.r (λ r. weighted_sum nought sum product cells (row_of weights r)) c.args.coefficients.now c.loop-r.coefficients c.sum_of_products.result
+    (c.loop-r.auto.coefficients ∙ c.requires.size) c.loop-r-test.true c.requires.column
+    (c.sum_of_products.ensures ∙ ap (λ row. weighted_sum nought sum product cells row) c.row.ensures.row) c.loop-r.invariant
+
+pub returns-clause-column : goal.returns-clause-column
+returns-clause-column c = λ r b. c.loop-r.invariant.done r (omega (arith, b, c.loop-r-test.false))
+
+pub returns-clause-others : goal.returns-clause-others
+returns-clause-others c = c.loop-r.invariant.others

@@ -1,0 +1,11 @@
+use Rattle.std.proofs.Common.{length}
+use Rattle.math_theory.specs.Sums.{weighted_sum}
+use Rattle.math_base.specs.Elements.{product, sum}
+use Rattle.math_transforms.specs.Matrices.{row_of}
+use Rattle.math_shards.proofs.PutCoefficients.{IsColumnPut}
+use Rattle.math_shards.proofs.SameCells.{nought}
+use Rattle.math_shards.proofs.shards.weighing.put_column.Given as goal
+
+-- the coefficients so far of the column are written, and no others
+abbrev pub invariant-loop-r : goal.invariant-loop-r
+invariant-loop-r l = IsColumnPut (length l.cells) l.width l.column (λ r. weighted_sum nought sum product l.cells (row_of l.weights r)) l.initial.coefficients l.r l.coefficients

@@ -1,0 +1,76 @@
+-- Strips of columns of the rows that data fill, and shards that grow by the values of a strip.
+use Rattle.std.specs.Prelude.{◌≡◌, ℕ, ◌+◌, ◌-◌, ◌*◌, ◌/◌, ◌<◌, ◌≤◌, ◌^◌, List, ◌++◌, length, take, drop, slice_index_or}
+use Rattle.math_numbers.specs.Bits as Bits
+use Rattle.math_numbers.specs.Bits.{bits}
+use Rattle.math_theory.specs.Coefficients.{HaveSameCoefficients}
+use Rattle.math_base.specs.declared.fields.goldilocks.F.{F}
+use Rattle.math_base.specs.Elements.{residue, root_of, same}
+use Rattle.math_values.specs.Values.{goldilocks}
+use Rattle.math_transforms.specs.DomainValues.{matrix_of, ArePowersByLevel}
+use Rattle.math_transforms.specs.Matrices.{cell_of, column_of}
+use Rattle.math_shards.specs.declared.shards.Shard.{Shard}
+use Rattle.math_shards.specs.declared.shards.strips.Layout.{Layout}
+use Rattle.math_shards.specs.Shards.{elements_for, rows_for, value_at, width_for}
+
+-- the table has the powers of the roots of all levels of a domain of 2^lg points
+abbrev pub IsTableOf : ℕ → List F → Type 0
+IsTableOf lg table = ArePowersByLevel goldilocks root_of lg table
+
+-- the layout of the rows of data: there are some rows, all of them have the width, the places of their cells are numbers of a word, and there are at
+-- least as many points, of a domain that has a root
+pub record IsLayoutOf (words : List ℕ) (layout : Layout) : Type 0 where
+  pub some : 1 ≤ layout.min
+  pub width : layout.width ≡ width_for layout.min words
+  pub fits : layout.min * layout.width < 2 ^ 64
+  pub points : layout.min ≤ 2 ^ layout.lg
+  pub domain : layout.lg ≤ 32
+
+-- the element of 63 bits of which the first ones are the `taken` highest bits of one word, and the others the lowest of the next
+abbrev pub piece_of : ℕ → ℕ → ℕ → F
+piece_of before word taken = residue (Bits.number (take 63 (bits taken (before / 2 ^ (64 - taken)) ++ bits 64 word)))
+
+-- the element in this place of those that the words pack to, and zero past the last one
+abbrev pub packed_at : List ℕ → ℕ → F
+packed_at words place = slice_index_or (elements_for words) place (residue 0)
+
+-- behind the old cells stand n more: the elements that the words pack to, from place `first` on
+pub record AddsPacked (words : List ℕ) (first n : ℕ) (old new : List F) : Type 0 where
+  pub added : List F
+  pub behind : new ≡ old ++ added
+  pub count : length added ≡ n
+  pub packed : (k : ℕ) → k < n → same (slice_index_or added k (residue 0)) (packed_at words (first + k))
+
+-- n rows of c cells: their columns have the coefficients that those of the rows of data have, from column `from` on
+pub record IsStripOf (words : List ℕ) (min n from c : ℕ) (cells : List F) : Type 0 where
+  pub count : length cells ≡ n * c
+  pub columns : (k : ℕ) → k < c → HaveSameCoefficients same (residue 0) (column_of (residue 0) (matrix_of n c cells) k) (column_of (residue 0) (rows_for min words) (from + k))
+
+-- 2^lg rows of c cells: cell k of row i is the value, at power i of the root of order 2^lg, of the polynomial whose coefficients are column from + k of the
+-- rows of data
+pub record HasStripValues (words : List ℕ) (min lg from c : ℕ) (cells : List F) : Type 0 where
+  pub count : length cells ≡ 2 ^ lg * c
+  pub values : (i k : ℕ) → i < 2 ^ lg → k < c
+      → same (cell_of (residue 0) (matrix_of (2 ^ lg) c cells) i k) (value_at lg (column_of (residue 0) (rows_for min words) (from + k)) i)
+
+-- t is the shard s with these cells behind its own
+pub record IsExtendedBy (row : List F) (s t : Shard) : Type 0 where
+  pub index : t.index ≡ s.index
+  pub least : t.min ≡ s.min
+  pub most : t.total ≡ s.total
+  pub behind : t.cells.items ≡ s.cells.items ++ row
+
+-- shard by shard, the new shard is the old one with the row of its place behind its cells; a row has c cells
+abbrev pub AreExtended : ℕ → List F → List Shard → List Shard → Type 0
+AreExtended c cells old new = (i : ℕ) (d : Shard) → i < length old → IsExtendedBy (take c (drop (i * c) cells)) (slice_index_or old i d) (slice_index_or new i d)
+
+-- s is the shard with index i of the data as far as its first n cells, on a domain of 2^lg points
+pub record IsBegun (words : List ℕ) (min total lg n i : ℕ) (s : Shard) : Type 0 where
+  pub index : s.index ≡ i
+  pub least : s.min ≡ min
+  pub most : s.total ≡ total
+  pub count : length s.cells.items ≡ n
+  pub values : (k : ℕ) → k < n → same (slice_index_or s.cells.items k (residue 0)) (value_at lg (column_of (residue 0) (rows_for min words) k) i)
+
+-- each shard is begun so, with its place as its index
+abbrev pub AreBegun : List ℕ → ℕ → ℕ → ℕ → ℕ → List Shard → Type 0
+AreBegun words min total lg n shards = (i : ℕ) (d : Shard) → i < length shards → IsBegun words min total lg n i (slice_index_or shards i d)

@@ -1,0 +1,169 @@
+//! Strips of columns of the rows that data fill, and their values.
+//!
+//! Element e of the packed data has 63 bits, of which the first is bit 63 e of the words. Let b be
+//! the remainder of e by 64, and h the number e less its 64th part, rounded down. Then 63 e is
+//! 64 h - b: the b lowest bits of the element are the highest of word h - 1, and the others are the
+//! lowest of word h. So the cells of any columns are had from the words, and no list of all
+//! elements is made.
+//!
+//! The columns of the rows are transformed one by one. A strip has as many of them as leave it
+//! small enough for a cache near the processor: there all levels of its transform find its cells.
+
+ghost use Rattle.std.specs.Prelude.{
+  ◌≡◌,
+  ◌+◌,
+  ◌*◌,
+  ◌<◌,
+  ◌≤◌,
+  ◌^◌,
+  IfOk,
+  OnOk,
+  slice_index,
+};
+ghost use Rattle.std.specs.Int.{IsNextPowerOfTwo};
+ghost use Rattle.math_base.specs.Elements.{same};
+ghost use Rattle.math_shards.specs.Shards.{counted};
+ghost use Rattle.math_shards.specs.Strips.{AddsPacked, HasStripValues, IsLayoutOf, IsStripOf};
+ghost use Rattle.math_shards.specs.Strips.{IsTableOf, packed_at, piece_of};
+
+use math_base::algebra::Mem;
+use math_base::fields::goldilocks::F;
+use math_transforms::transform::{evaluate_rows, lg_of, size_of};
+use math_transforms::work::Work;
+use std::alloc::Global;
+
+/// How many cells a strip has at most, where eight columns have no more: 256 KiB.
+const STRIP_CELLS: usize = 32768;
+
+/// How many columns a strip has at least, where so many are left: a line of a cache has eight
+/// cells.
+const LEAST_COLS: usize = 8;
+
+/// How the rows that data fill lie, and how many points their columns are evaluated at.
+#[derive(Clone, Copy)]
+pub(super) struct Layout {
+    /// How many rows there are.
+    pub(super) min: usize,
+    /// How many cells a row has.
+    pub(super) width: usize,
+    /// There are 2^lg points.
+    pub(super) lg: u8,
+}
+
+/// The layout of the data for `min` rows and for the least domain of `total` points.
+pub(super) fn layout_of(data: &[u64], min: u32, total: u32) -> Layout
+    requires some { 1 ≤ min }
+    requires within { min ≤ total }
+    ensures layout { IsLayoutOf «data».now result }
+    ensures min { result.min ≡ min }
+    ensures points { IsNextPowerOfTwo total (2 ^ result.lg) }
+{
+    let words = data.len() + 1;
+    let more = words.div_ceil(63);
+    let width = (words + more).div_ceil(min as usize);
+    let points = (total as usize).next_power_of_two();
+    let lg = lg_of(points);
+    Layout {
+        min: min as usize,
+        width,
+        lg,
+    }
+}
+
+/// How many columns the strip from this column on has.
+pub(super) fn strip_cols(layout: Layout, from: usize) -> usize
+    requires domain { layout.lg ≤ 32 }
+    requires left { from < layout.width }
+    ensures some { 1 ≤ result }
+    ensures within { from + result ≤ layout.width }
+    ensures size { 2 ^ layout.lg * result < 2 ^ 64 }
+{
+    let most = (STRIP_CELLS >> layout.lg).max(LEAST_COLS);
+    most.min(layout.width - from)
+}
+
+/// The word in this place of those that are packed, which are the number of the data and then the
+/// data. Past the last one it is zero.
+fn word_at(data: &[u64], place: usize) -> u64
+    ensures { result ≡ slice_index (counted «data».now) place }
+{
+    if place == 0 {
+        return data.len() as u64;
+    }
+    if place > data.len() {
+        return 0;
+    }
+    data[place - 1]
+}
+
+/// The element of 63 bits whose first ones are the `taken` highest bits of a word, and the others
+/// the lowest of the next word.
+fn piece(before: u64, word: u64, taken: u32) -> F
+    requires { taken < 64 }
+    ensures { same result (piece_of before word taken) }
+{
+    let first = (before >> 1) >> (63 - taken);
+    let both = first.wrapping_add(word << taken);
+    F::from(both & 0x7fff_ffff_ffff_ffff)
+}
+
+/// The element in this place of those that the data pack to. Past the last one it is zero.
+fn packed_at(data: &[u64], place: usize) -> F
+    ensures { same result (packed_at «data».now place) }
+{
+    let next = place - place / 64;
+    let before = word_at(data, next.saturating_sub(1));
+    let word = word_at(data, next);
+    piece(before, word, (place % 64) as u32)
+}
+
+/// Adds so many elements to the cells, those that the data pack to, from place `first` on.
+fn push_packed(data: &[u64], first: usize, count: usize, cells: &mut Vec<F>) -> Mem<()>
+    requires { first + count < 2 ^ 64 }
+    ensures { OnOk result (AddsPacked «data».now first count cells.old.items cells.new.items) }
+{
+    for k in 0..count {
+        cells.push(packed_at(data, first + k))?;
+    }
+    Ok(())
+}
+
+/// The strip of `cols` columns from column `from` on, with a row for each point: the rows that the
+/// data fill, and then rows of zeros.
+fn strip_of(alloc: Global, data: &[u64], layout: Layout, from: usize, cols: usize) -> Mem<Vec<F>>
+    requires layout { IsLayoutOf «data».now layout }
+    requires within { from + cols ≤ layout.width }
+    requires size { 2 ^ layout.lg * cols < 2 ^ 64 }
+    ensures { IfOk result
+        (λ strip. IsStripOf «data».now layout.min (2 ^ layout.lg) from cols strip.items) }
+{
+    let count = size_of(layout.lg) * cols;
+    let mut cells = Vec::with_capacity(alloc, count)?;
+    for row in 0..layout.min {
+        push_packed(data, row * layout.width + from, cols, &mut cells)?;
+    }
+    cells.resize(count, F::from(0))?;
+    Ok(cells)
+}
+
+/// The values of `cols` columns from column `from` on, at all points: in row i those at power i of
+/// the root. The table is that of `evaluation_table`. Takes memory for these cells alone.
+pub(super) fn strip_values(
+    alloc: Global,
+    data: &[u64],
+    layout: Layout,
+    from: usize,
+    cols: usize,
+    table: &[F],
+) -> Mem<Vec<F>>
+    requires layout { IsLayoutOf «data».now layout }
+    requires within { from + cols ≤ layout.width }
+    requires size { 2 ^ layout.lg * cols < 2 ^ 64 }
+    requires table { IsTableOf layout.lg table.now }
+    ensures { IfOk result
+        (λ strip. HasStripValues «data».now layout.min layout.lg from cols strip.items) }
+{
+    let mut cells = strip_of(alloc, data, layout, from, cols)?;
+    evaluate_rows(alloc, &mut cells, cols, layout.lg, table, &mut Work::new())?;
+    Ok(cells)
+}
