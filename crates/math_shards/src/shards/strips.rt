@@ -1,13 +1,12 @@
 //! Strips of columns of the rows that data fill, and their values.
 //!
-//! Element e of the packed data has 63 bits, of which the first is bit 63 e of the words. Let b be
-//! the remainder of e by 64, and h the number e less its 64th part, rounded down. Then 63 e is
-//! 64 h - b: the b lowest bits of the element are the highest of word h - 1, and the others are the
-//! lowest of word h. So the cells of any columns are had from the words, and no list of all
-//! elements is made.
+//! Element e of the packed data has 63 bits, of which the first is bit 63 e of the words. Write e
+//! as 64 a + b with b below 64, and let h be 63 a + b, which is e - a. Then 63 e is 64 h - b: the b
+//! lowest bits of the element are the highest of word h - 1, and the others are the lowest of word
+//! h. So the cells of any columns are had from the words, and no list of all elements is made.
 //!
-//! The columns of the rows are transformed one by one. A strip has as many of them as leave it
-//! small enough for a cache near the processor: there all levels of its transform find its cells.
+//! The columns of the rows are transformed one by one. A strip has so few of them that it fits a
+//! cache near the processor, but eight at least: there all levels of its transform find its cells.
 
 ghost use Rattle.std.specs.Prelude.{
   ◌≡◌,
