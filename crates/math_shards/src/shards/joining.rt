@@ -35,12 +35,12 @@ use std::alloc::{AllocError, Global};
 /// that are those of no data with `Inconsistent`. Where more than `min` shards are there, damage to
 /// one is so found, and where just `min` are there it is not.
 ///
-/// Just `min` shards of distinct indices, at most 256 and no more than a shard has cells, are joined
-/// by weights: beside the data it then takes memory for as many elements as these shards have cells,
-/// and for a few times N rows of `min` cells, where N is `total` rounded up to a power of two. Other
-/// shards are joined by transforms, with memory for a few times N rows of as many cells as a shard
-/// has. Who takes shards from strangers bounds `total` first. Nothing is allocated by a number that
-/// a shard claims of its data before the cells bear it out.
+/// Just `min` shards of distinct indices, at most 256 and no more than a shard has cells, are
+/// joined by weights: beside the data it then takes memory for as many elements as these shards
+/// have cells, and for a few times N rows of `min` cells, where N is `total` rounded up to a power
+/// of two. Other shards are joined by transforms, with memory for a few times N rows of as many
+/// cells as a shard has. Who takes shards from strangers bounds `total` first. Nothing is allocated
+/// by a number that a shard claims of its data before the cells bear it out.
 pub fn join(alloc: Global, shards: &[Shard]) -> Result<Vec<u64>, Error>
     ensures ok { IfOk result (λ words. JoinTo words.items shards.now) }
     ensures found { (words : List ℕ) → JoinTo words shards.now

@@ -33,8 +33,8 @@ use std::alloc::{AllocError, Global};
 /// The greatest number of shards whose weights are taken: beyond it transforms are faster.
 const MOST_WEIGHED: u32 = 256;
 
-/// Whether there are just as many shards as give the data back, so few that their weights are taken,
-/// and no more than a shard has cells, so that the weights are fewer than the cells.
+/// Whether there are just as many shards as give the data back, so few that their weights are
+/// taken, and no more than a shard has cells, so that the weights are fewer than the cells.
 fn are_few(shards: &[Shard], first: &Shard) -> bool
     ensures { IsTrue result → length shards.now ≡ first.now.min }
 {
