@@ -138,8 +138,8 @@ static void shards(uint32_t min, uint32_t total) {
   if (cwm_shard_sizes(BLOCK / 8, min, total, &cols) != CWM_DONE || 8 * cols * total > ROOM) exit(2);
   size_t words = rows * cols + 64 * rows;
   peak = 0;
-  count("cwm_split", cwm_split(a, BLOCK / 8, min, total, cells, total * cols), 7, words);
-  count("cwm_split_bytes", cwm_split_bytes(back, BLOCK, min, total, bytes, total * size), 8, words);
+  count("cwm_split", cwm_split(a, BLOCK / 8, min, total, cells, total * cols), 3, words);
+  count("cwm_split_bytes", cwm_split_bytes(back, BLOCK, min, total, bytes, total * size), 4, words);
   for (uint32_t k = min; k <= total; k += total > min ? total - min : 1) {
     count("cwm_join", cwm_join(indices, k, min, total, cells, k * cols, b, CELLS, &written), 9, words);
     count("cwm_join_bytes", cwm_join_bytes(indices, k, min, total, bytes, k * size, back, ROOM, &written), 10, words);
