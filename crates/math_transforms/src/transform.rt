@@ -26,6 +26,8 @@ ghost use Rattle.std.specs.Prelude.{
   ◌^◌,
   ℕ,
   IfOk,
+  IsOk,
+  IsTrue,
   OnOk,
   OnErr,
   length,
@@ -118,6 +120,7 @@ pub fn evaluate_rows<F: FieldNTT>(
     ensures counted { OnOk result
         (2 * work.new.butterflies ≡ 2 * work.old.butterflies + cols * 2 ^ lg * lg) }
     ensures bounded { AddsAtMost (cols * 2 ^ lg * lg) work.old work.new }
+    ensures never { IsTrue F.NEVER_REFUSES → IsOk result }
 {
     reverse_rows(cells, cols, lg);
     transform_halves(alloc, cells, cols, lg, table, work)?;
@@ -177,6 +180,7 @@ pub fn interpolate_multiples<F: FieldNTT>(
     ensures counted { OnOk result
         (2 * work.new.butterflies ≡ 2 * work.old.butterflies + cols * 2 ^ lg * lg) }
     ensures bounded { AddsAtMost (cols * 2 ^ lg * lg) work.old work.new }
+    ensures never { IsTrue F.NEVER_REFUSES → IsOk result }
 {
     untransform_halves(alloc, cells, cols, lg, table, work)?;
     reverse_rows(cells, cols, lg);
@@ -204,6 +208,7 @@ fn transform_halves<F: FieldNTT>(
         (2 * work.new.butterflies ≡ 2 * work.old.butterflies + cols * 2 ^ lg * lg) }
     ensures bounded { AddsAtMost (cols * 2 ^ lg * lg) work.old work.new }
     ensures refused { OnErr result (work.old.butterflies < work.new.butterflies) }
+    ensures never { IsTrue F.NEVER_REFUSES → IsOk result }
 {
     if lg == 0 {
         return Ok(());
@@ -248,6 +253,7 @@ fn untransform_halves<F: FieldNTT>(
         (2 * work.new.butterflies ≡ 2 * work.old.butterflies + cols * 2 ^ lg * lg) }
     ensures bounded { AddsAtMost (cols * 2 ^ lg * lg) work.old work.new }
     ensures refused { OnErr result (work.old.butterflies < work.new.butterflies) }
+    ensures never { IsTrue F.NEVER_REFUSES → IsOk result }
 {
     if lg == 0 {
         return Ok(());

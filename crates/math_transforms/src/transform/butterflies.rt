@@ -12,6 +12,7 @@ ghost use Rattle.std.specs.Prelude.{
   ◌≤◌,
   ◌^◌,
   IsTrue,
+  IsOk,
   OnOk,
   OnErr,
   length,
@@ -30,6 +31,7 @@ use std::alloc::Global;
 fn sum_and_difference<F: Additive>(alloc: Global, low: &mut F, high: &mut F) -> Mem<()>
     ensures sum { OnOk result (F.same low.new (F.sum low.old high.old)) }
     ensures difference { OnOk result (F.same high.new (F.sum low.old (F.negative high.old))) }
+    ensures never { IsTrue F.NEVER_REFUSES → IsOk result }
 {
     let mut difference = low.clone(alloc)?;
     difference.sub_assign(alloc, high)?;
@@ -54,6 +56,7 @@ fn combine<F: FieldNTT, const FORWARD: bool, const AT_ONE: bool>(
         (IsCombined F.Ring FORWARD w.now low.old high.old low.new high.new) }
     ensures counted { work.new.butterflies ≡ work.old.butterflies + 1 }
     ensures root_products { work.new.root_products ≡ work.old.root_products }
+    ensures never { IsTrue F.NEVER_REFUSES → IsOk result }
 {
     work.add_butterfly();
     if AT_ONE {
@@ -86,6 +89,7 @@ fn combine_cells<F: FieldNTT, const FORWARD: bool, const AT_ONE: bool>(
     ensures counted { OnOk result (work.new.butterflies ≡ work.old.butterflies + length low.old) }
     ensures bounded { AddsAtMost (2 * length low.old) work.old work.new }
     ensures refused { OnErr result (work.old.butterflies < work.new.butterflies) }
+    ensures never { IsTrue F.NEVER_REFUSES → IsOk result }
 {
     for p in 0..low.len() {
         combine::<F, FORWARD, AT_ONE>(alloc, &mut low[p], &mut high[p], w, work)?;
@@ -113,6 +117,7 @@ fn combine_row<F: FieldNTT, const FORWARD: bool, const AT_ONE: bool>(
     ensures counted { OnOk result (work.new.butterflies ≡ work.old.butterflies + cols) }
     ensures bounded { AddsAtMost (2 * cols) work.old work.new }
     ensures refused { OnErr result (work.old.butterflies < work.new.butterflies) }
+    ensures never { IsTrue F.NEVER_REFUSES → IsOk result }
 {
     let last = first + cols;
     let (low, high) = (&mut low[first..last], &mut high[first..last]);
@@ -141,6 +146,7 @@ fn combine_rows<F: FieldNTT, const FORWARD: bool>(
         (work.new.butterflies ≡ work.old.butterflies + length powers.now * cols) }
     ensures bounded { AddsAtMost (2 * (length powers.now * cols)) work.old work.new }
     ensures refused { OnErr result (work.old.butterflies < work.new.butterflies) }
+    ensures never { IsTrue F.NEVER_REFUSES → IsOk result }
 {
     combine_row::<F, FORWARD, true>(alloc, low, high, 0, cols, &powers[0], work)?;
     for i in 1..powers.len() {
@@ -169,6 +175,7 @@ fn combine_column<F: FieldNTT, const FORWARD: bool>(
         (work.new.butterflies ≡ work.old.butterflies + length powers.now) }
     ensures bounded { AddsAtMost (2 * length powers.now) work.old work.new }
     ensures refused { OnErr result (work.old.butterflies < work.new.butterflies) }
+    ensures never { IsTrue F.NEVER_REFUSES → IsOk result }
 {
     combine::<F, FORWARD, true>(alloc, &mut low[0], &mut high[0], &powers[0], work)?;
     for p in 1..powers.len() {
@@ -191,6 +198,7 @@ pub(super) fn combine_pair<F: FieldNTT, const FORWARD: bool>(
         (take 1 cells.old) (drop 1 cells.old) (take 1 cells.new) (drop 1 cells.new)) }
     ensures counted { work.new.butterflies ≡ work.old.butterflies + 1 }
     ensures root_products { work.new.root_products ≡ work.old.root_products }
+    ensures never { IsTrue F.NEVER_REFUSES → IsOk result }
 {
     let (low, high) = cells.split_at_mut(1);
     combine::<F, FORWARD, true>(alloc, &mut low[0], &mut high[0], one, work)?;
@@ -216,6 +224,7 @@ pub(super) fn combine_two<F: FieldNTT, const FORWARD: bool>(
     ensures counted { OnOk result (work.new.butterflies ≡ work.old.butterflies + 2) }
     ensures bounded { AddsAtMost 4 work.old work.new }
     ensures refused { OnErr result (work.old.butterflies < work.new.butterflies) }
+    ensures never { IsTrue F.NEVER_REFUSES → IsOk result }
 {
     combine::<F, FORWARD, true>(alloc, &mut low[0], &mut high[0], &powers[0], work)?;
     combine::<F, FORWARD, false>(alloc, &mut low[1], &mut high[1], &powers[1], work)?;
@@ -245,6 +254,7 @@ pub(super) fn combine_halves<F: FieldNTT, const FORWARD: bool>(
         (work.new.butterflies ≡ work.old.butterflies + length powers.now * cols) }
     ensures bounded { AddsAtMost (2 * (length powers.now * cols)) work.old work.new }
     ensures refused { OnErr result (work.old.butterflies < work.new.butterflies) }
+    ensures never { IsTrue F.NEVER_REFUSES → IsOk result }
 {
     let mut counted = Work::new();
     let outcome = if cols == 1 {

@@ -3,7 +3,7 @@
 //! Most levels of one column are of few cells. Of the four butterflies here only one takes a
 //! product, and the cells stay in registers from one level to the next.
 
-ghost use Rattle.std.specs.Prelude.{◌≡◌, ◌+◌, ◌*◌, ◌<◌, ◌≤◌, ◌^◌, OnOk, OnErr, length};
+ghost use Rattle.std.specs.Prelude.{◌≡◌, ◌+◌, ◌*◌, ◌<◌, ◌≤◌, ◌^◌, IsOk, IsTrue, OnOk, OnErr, length};
 ghost use Rattle.math_transforms.specs.CombinedCells.{AreTransformed, AreTransformedBack};
 ghost use Rattle.math_transforms.specs.CountedWork.{AddsAtMost};
 ghost use Rattle.math_transforms.specs.DomainValues.{matrix_of, ArePowersByLevel};
@@ -30,6 +30,7 @@ pub(super) fn transform_four<F: FieldNTT>(
     ensures counted { OnOk result (2 * work.new.butterflies ≡ 2 * work.old.butterflies + 8) }
     ensures bounded { AddsAtMost 8 work.old work.new }
     ensures refused { OnErr result (work.old.butterflies < work.new.butterflies) }
+    ensures never { IsTrue F.NEVER_REFUSES → IsOk result }
 {
     let (low, high) = cells.split_at_mut(2);
     let (below, powers) = table.split_at(2);
@@ -57,6 +58,7 @@ pub(super) fn untransform_four<F: FieldNTT>(
     ensures counted { OnOk result (2 * work.new.butterflies ≡ 2 * work.old.butterflies + 8) }
     ensures bounded { AddsAtMost 8 work.old work.new }
     ensures refused { OnErr result (work.old.butterflies < work.new.butterflies) }
+    ensures never { IsTrue F.NEVER_REFUSES → IsOk result }
 {
     let (low, high) = cells.split_at_mut(2);
     let (below, powers) = table.split_at(2);
