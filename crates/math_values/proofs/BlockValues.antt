@@ -1,16 +1,16 @@
 -- Values of polynomials block by block, and words that are P or more.
-use Rattle.std.proofs.Common.{◌≡◌, ◌∙◌, ℕ, ◌+◌, ◌-◌, ◌*◌, ◌/◌, ◌%◌, ◌<◌, ◌≤◌, ◌^◌, ◌↔◌, Bool, true, false, leb, List, [], ◌∷◌, ◌++◌, All, length, map, take, drop, get_or, refl, subst, sym, ap, ap₂, mul-le-mul, arith}
+use Rattle.std.proofs.Common.{◌≡◌, ◌∙◌, ℕ, ◌+◌, ◌*◌, ◌%◌, ◌<◌, ◌≤◌, ◌↔◌, Bool, true, false, leb, List, [], ◌∷◌, ◌++◌, All, length, map, take, drop, get_or, refl, subst, sym, ap, ap₂, arith}
 use Rattle.std.specs.Int.{from_bool}
 use Rattle.std.proofs.Math.Nat.{mod-add-mod, add-mod-mod}
 use Rattle.std.proofs.lemmas.Bool.{leb-true, leb-false}
-use Rattle.std.proofs.lemmas.List.{length-append, length-take-le, get_or_default, take_all, take_more, take-take, drop-take, drop-map, take-map, take-append-drop}
+use Rattle.std.proofs.lemmas.List.{length-append, length-take-le, take_all, take-take, drop-take, drop-map, take-map, take-append-drop}
 use Rattle.std.proofs.lemmas.List.Elements.{All-append, All-drop, All-get_or, All-more, All-take}
 use Rattle.std.proofs.lemmas.List.Folds.{map_fixed}
 use Rattle.std.proofs.lemmas.Nat.{mul-mod}
 use Rattle.math_numbers.specs.Goldilocks.{P}
 use Rattle.math_theory.specs.Laws.{IsMonoid}
 use Rattle.math_theory.specs.Powers.{power}
-use Rattle.math_theory.proofs.polynomials.BuiltPolynomials.{value-joined, value-pushed}
+use Rattle.math_theory.proofs.polynomials.BuiltPolynomials.{value-joined}
 use Rattle.math_base.specs.declared.fields.goldilocks.F.{F}
 use Rattle.math_base.specs.Elements.{number, residue, same, sum, product}
 use Rattle.math_base.specs.ElementLaws.{equality, group, commutes, ring}
@@ -29,50 +29,6 @@ power_of x n = power (residue 1) product x n
 -- a sum and a product of elements is the residue of that sum and product
 pub residue-joined : (a t b : ℕ) → sum (residue a) (product (residue t) (residue b)) ≡ residue (a + t * b)
 residue-joined a t b = same_number _ _ (ap (λ y. (a % P + y) % P) (sym (mul-mod t b P)) ∙ mod-add-mod a P (t * b % P) ∙ add-mod-mod a (t * b) P)
-
--- one coefficient more of a block
-value-more : (x : F) (coefficients : List F) (i total w : ℕ) (p : F) → i < length coefficients → get_or coefficients i (residue 0) ≡ residue w → p ≡ power_of x i
-    → residue total ≡ value_of (take i coefficients) x → residue (total + number p * w) ≡ value_of (take (i + 1) coefficients) x
-value-more x coefficients i total w p l e hp h =
-    let front = take i coefficients in
-    let long : length front ≡ i = length-take-le i coefficients (omega arith) in
-    sym (residue-joined total (number p) w)
-    ∙ ap₂ (λ v q. sum v (product q (residue w))) h (residue-number p ∙ hp)
-    ∙ ap (λ a. sum (value_of front x) (product (power_of x i) a)) (sym e)
-    ∙ sym (same_number _ _ (value-pushed equality group commutes ring x front (get_or coefficients i (residue 0)) i long))
-    ∙ ap (λ xs. value_of xs x) (sym (take_more coefficients i (residue 0) l))
-
--- the products so far of a block, as the sums of their low and of their high words
-pub record AreBlockSums (powers coefficients : List F) (i low high : ℕ) : Type 0 where
-  pub low_most : low ≤ i * 2 ^ 64
-  pub high_most : high ≤ i * 2 ^ 64
-  pub value : (x : F) → ArePowersOf x powers → residue (low + 2 ^ 64 * high) ≡ value_of (take i coefficients) x
-
--- two words have a product of 128 bits
-pub word-product : (a b : ℕ) → a < 2 ^ 64 → b < 2 ^ 64 → a * b < 2 ^ 128
-word-product a b l m =
-    let most : a * b ≤ (2 ^ 64 - 1) * (2 ^ 64 - 1) = mul-le-mul (let h : a ≤ 2 ^ 64 - 1 = omega arith in h) (let h : b ≤ 2 ^ 64 - 1 = omega arith in h) in
-    omega (arith, most)
-
--- both words of a product q are added to their sums
-pub sums-of-words : (low high q : ℕ) → (low + q % 2 ^ 64) + 2 ^ 64 * (high + q / 2 ^ 64) ≡ (low + 2 ^ 64 * high) + q
-sums-of-words low high q = omega arith
-
--- one product more of the sums
-pub sums-more : (powers coefficients : List F) (i low high w : ℕ) (p : F) → i < length coefficients → length coefficients ≤ length powers
-    → get_or coefficients i (residue 0) ≡ residue w → p ≡ get_or powers i p → w < 2 ^ 64 → AreBlockSums powers coefficients i low high
-    → AreBlockSums powers coefficients (i + 1) (low + w * number p % 2 ^ 64) (high + w * number p / 2 ^ 64)
-sums-more powers coefficients i low high w p l fits e here lw h =
-    let word : number p < 2 ^ 64 = omega (arith, p.below) in
-    let within = word-product w (number p) lw word in
-    record {
-      low_most = omega (arith, h.low_most);
-      high_most = omega (arith, within, h.high_most);
-      value = λ x hx.
-          let commuted : w * number p ≡ number p * w = omega arith in
-          ap residue (sums-of-words low high (w * number p) ∙ ap (λ q. (low + 2 ^ 64 * high) + q) commuted)
-          ∙ value-more x coefficients i (low + 2 ^ 64 * high) w p l e (here ∙ get_or_default powers i p (residue 0) (omega arith) ∙ hx i (omega arith)) (h.value x hx);
-    }
 
 -- a test counts one at most
 pub from_bool-le : (b : Bool) → from_bool b ≤ 1

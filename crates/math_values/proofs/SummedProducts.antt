@@ -1,63 +1,45 @@
--- Sums of products, of which the low and the high words are added up apart.
-use Rattle.std.proofs.Common.{◌≡◌, ◌∙◌, ℕ, ◌+◌, ◌*◌, ◌/◌, ◌%◌, ◌<◌, ◌≤◌, ◌^◌, List, ◌∷◌, length, drop, get_or, sym, ap, ap₂, arith}
+-- Sums of products of words and elements, as whole numbers, and their remainders.
+use Rattle.std.proofs.Common.{◌≡◌, ◌∙◌, ℕ, suc, ◌+◌, ◌*◌, ◌<◌, ◌≤◌, List, [], ◌∷◌, length, map, drop, get_or, refl, sym, ap, ap₂, arith}
 use Rattle.std.proofs.lemmas.List.{drop_more, drop_all}
 use Rattle.math_theory.specs.Sums.{weighted_sum}
+use Rattle.math_theory.specs.Values.{value_from}
 use Rattle.math_base.specs.declared.fields.goldilocks.F.{F}
 use Rattle.math_base.specs.Elements.{number, residue, sum, product}
-use Rattle.math_base.specs.ElementLaws.{group}
-use Rattle.math_base.proofs.ElementNumbers.{same_number, residue-number}
-use Rattle.math_values.proofs.BlockValues.{residue-joined, sums-of-words, word-product}
+use Rattle.math_base.proofs.ElementNumbers.{residue-number}
+use Rattle.math_values.specs.Products.{products}
+use Rattle.math_values.proofs.BlockValues.{power_of, residue-joined}
 
--- the sum of each element times its weight
-abbrev pub weighed : List F → List F → F
-weighed elements weights = weighted_sum (residue 0) sum product elements weights
+-- the products from place i on
+pub products-more : (words : List ℕ) (weights : List F) (i w : ℕ) (p : F) → i < length words → i < length weights → get_or words i 0 ≡ w → p ≡ get_or weights i p
+    → products (drop i words) (drop i weights) ≡ w * number p + products (drop (i + 1) words) (drop (i + 1) weights)
+products-more words weights i w p l m e f =
+    ap₂ products (drop_more words i 0 l ∙ ap (λ b. b ∷ drop (i + 1) words) e) (drop_more weights i p m ∙ ap (λ b. b ∷ drop (i + 1) weights) (sym f))
 
--- the laws of sums, as plain equations
-pub zero-sum : (a : F) → sum (residue 0) a ≡ a
-zero-sum a = same_number (sum (residue 0) a) a (group.identity a)
+-- no products are left
+pub no-products : (words : List ℕ) (weights : List F) (i : ℕ) → length words ≤ i → products (drop i words) (drop i weights) ≡ 0
+no-products words weights i l = ap (λ ws. products ws (drop i weights)) (drop_all i words l)
 
-pub sum-zero : (a : F) → sum a (residue 0) ≡ a
-sum-zero a = same_number (sum a (residue 0)) a (group.commutative a (residue 0) ∙ group.identity a)
+-- the residue of a product and of more behind it
+residue-front : (a b rest : ℕ) → residue (a * b + rest) ≡ sum (product (residue a) (residue b)) (residue rest)
+residue-front a b rest =
+    let front : F = product (residue a) (residue b) in
+    ap residue (omega arith) ∙ sym (residue-joined rest a b) ∙ ap residue (let commuted : number (residue rest) + number front ≡ number front + number (residue rest) = omega arith in commuted)
 
-pub sum-assoc : (a b c : F) → sum (sum a b) c ≡ sum a (sum b c)
-sum-assoc a b c = same_number (sum (sum a b) c) (sum a (sum b c)) (group.associative a b c)
+-- the residue of the products of numbers is the sum of the products of elements
+pub residue-products : (elements weights : List F) → residue (products (map number elements) weights) ≡ weighted_sum (residue 0) sum product elements weights
+residue-products [] weights = refl
+residue-products (a ∷ elements) [] = refl
+residue-products (a ∷ elements) (w ∷ weights) =
+    residue-front (number a) (number w) (products (map number elements) weights)
+    ∙ ap₂ sum (ap₂ product (residue-number a) (residue-number w)) (residue-products elements weights)
 
--- the products so far, as the sums of their low and of their high words, and those that are left are all
-pub record AreProductSums (elements weights : List F) (i low high : ℕ) : Type 0 where
-  pub low_most : low ≤ i * 2 ^ 64
-  pub high_most : high ≤ i * 2 ^ 64
-  pub value : sum (residue (low + 2 ^ 64 * high)) (weighed (drop i elements) (drop i weights)) ≡ weighed elements weights
-
--- one product more
-pub products-more : (elements weights : List F) (i low high : ℕ) (a w : F) → i < length elements → i < length weights → a ≡ get_or elements i a → w ≡ get_or weights i w
-    → AreProductSums elements weights i low high
-    → AreProductSums elements weights (i + 1) (low + number a * number w % 2 ^ 64) (high + number a * number w / 2 ^ 64)
-products-more elements weights i low high a w l m e f h =
-    let first : number a < 2 ^ 64 = omega (arith, a.below) in
-    let second : number w < 2 ^ 64 = omega (arith, w.below) in
-    let within = word-product (number a) (number w) first second in
-    let rest : F = weighed (drop (i + 1) elements) (drop (i + 1) weights) in
-    let front : ℕ = low + 2 ^ 64 * high in
-    let next : weighed (drop i elements) (drop i weights) ≡ sum (product a w) rest =
-    ap₂ weighed (drop_more elements i a l ∙ ap (λ b. b ∷ drop (i + 1) elements) (sym e)) (drop_more weights i w m ∙ ap (λ b. b ∷ drop (i + 1) weights) (sym f)) in
-    let joined : sum (residue front) (product a w) ≡ residue (front + number a * number w) =
-    ap₂ (λ x y. sum (residue front) (product x y)) (sym (residue-number a)) (sym (residue-number w)) ∙ residue-joined front (number a) (number w) in
-    record {
-      low_most = omega (arith, h.low_most);
-      high_most = omega (arith, within, h.high_most);
-      value =
-          ap (λ n. sum (residue n) rest) (sums-of-words low high (number a * number w))
-          ∙ ap (λ x. sum x rest) (sym joined)
-          ∙ sum-assoc (residue front) (product a w) rest
-          ∙ ap (λ x. sum (residue front) x) (sym next)
-          ∙ h.value;
-    }
-
--- no product yet
-pub no-products : (elements weights : List F) → AreProductSums elements weights 0 0 0
-no-products elements weights = record { low_most = omega arith; high_most = omega arith; value = zero-sum (weighed elements weights) }
-
--- all products
-pub all-products : (elements weights : List F) (i low high : ℕ) → length elements ≤ i → AreProductSums elements weights i low high → residue (low + 2 ^ 64 * high) ≡ weighed elements weights
-all-products elements weights i low high l h =
-    sym (sum-zero (residue (low + 2 ^ 64 * high))) ∙ sym (ap (λ xs. sum (residue (low + 2 ^ 64 * high)) (weighed xs (drop i weights))) (drop_all i elements l)) ∙ h.value
+-- the residue of the products of words and of the powers from power i on is the value of these coefficients, from power i on
+pub value-from : (x : F) (i : ℕ) (words : List ℕ) (powers : List F) → length words ≤ length powers → ((j : ℕ) → j < length powers → get_or powers j (residue 0) ≡ power_of x (i + j))
+    → residue (products words powers) ≡ value_from (residue 0) sum product (residue 1) product x i (map residue words)
+value-from x i [] powers l h = refl
+value-from x i (w ∷ words) [] l h = absurd (omega arith)
+value-from x i (w ∷ words) (p ∷ powers) l h =
+    residue-front w (number p) (products words powers)
+    ∙ ap₂ sum
+    (ap (product (residue w)) (residue-number p ∙ h 0 (omega arith) ∙ ap (power_of x) (omega arith)))
+    (value-from x (suc i) words powers (omega arith) (λ j m. h (suc j) (omega arith) ∙ ap (power_of x) (omega arith)))

@@ -3,6 +3,8 @@
 #![tactic(auto)]
 
 mod blocks;
+mod products;
 pub mod sums;
 pub mod values;
+mod wide;
 mod words;

@@ -2,10 +2,10 @@
 //!
 //! A table has the first powers of a point. The coefficients are taken in blocks of as many as
 //! these. A block has the value w_0 p_0 + w_1 p_1 + .., w_i being its words and p_i power i of the
-//! point. Each product is c + 2^64 d with c and d below 2^64, so that the sums of all c and of all
-//! d fit 128 bits, and only these two are reduced modulo P, once a block. The value of each block
-//! is multiplied by the power of the point at which the block begins, and added to those before it:
-//! the words are gone over once, from the first to the last.
+//! point. The products are summed as whole numbers, with the carries past 128 bits counted, so that
+//! only the sum is reduced modulo P, once a block. The value of each block is multiplied by the
+//! power of the point at which the block begins, and added to those before it: the words are gone
+//! over once, from the first to the last.
 
 ghost use Rattle.std.specs.Prelude.{◌≡◌, ◌↔◌, ◌<◌, ◌≤◌, IfOk, IfSome, IsTrue, None, All, length, map};
 ghost use Rattle.math_numbers.specs.Goldilocks.{P};
