@@ -5,7 +5,11 @@ ghost use Rattle.math_base.specs.Elements.{number};
 ghost use Rattle.shard_fingerprints.specs.FourWords.{ArePowersOf, words_before};
 ghost use Rattle.shard_fingerprints.specs.Fingerprints.{fingerprint};
 
+use crate::blocks::{BLOCK, by_blocks};
 use math_base::fields::goldilocks::F;
+
+/// From so many words on the powers of a key for blocks take less time than they save.
+const LONG: usize = 3 * BLOCK;
 
 /// A key, its square, and the square of that.
 #[derive(Clone, Copy)]
@@ -44,12 +48,8 @@ impl Powers {
     }
 }
 
-/// The fingerprint of the words under the key: the sum of word i times the key to the power i, by
-/// Horner's rule, four words at a time.
-///
-/// Two different lists of n words have one fingerprint under at most n - 1 keys, and two that
-/// differ in one word under none but zero: see `laws::changes_are_seen`.
-pub fn fingerprint(words: &[F], key: F) -> F
+/// The fingerprint of the words under the key, by Horner's rule, four words at a time.
+fn by_fours(words: &[F], key: F) -> F
     ensures { number result ≡ number (fingerprint words.now key) }
 {
     let powers = Powers::of(key);
@@ -64,4 +64,19 @@ pub fn fingerprint(words: &[F], key: F) -> F
         value = words[i] + value * key;
     }
     value
+}
+
+/// The fingerprint of the words under the key: the sum of word i times the key to the power i. It
+/// takes no memory.
+///
+/// Two different lists of n words have one fingerprint under at most n - 1 keys, and two that
+/// differ in one word under none but zero: see `laws::changes_are_seen`.
+pub fn fingerprint(words: &[F], key: F) -> F
+    ensures { number result ≡ number (fingerprint words.now key) }
+{
+    if words.len() < LONG {
+        by_fours(words, key)
+    } else {
+        by_blocks(words, key)
+    }
 }

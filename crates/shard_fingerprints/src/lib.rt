@@ -7,6 +7,7 @@
 //! (n - 1)^2 of the (P - 1)^2 pairs of these.
 #![tactic(auto)]
 
+mod blocks;
 mod fingerprints;
 pub mod laws;
 mod pairs;

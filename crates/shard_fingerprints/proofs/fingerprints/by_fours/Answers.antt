@@ -1,7 +1,7 @@
 use Rattle.std.proofs.Common.{sym, arith}
 use Rattle.shard_fingerprints.proofs.FingerprintSteps.{fingerprint-more}
 use Rattle.shard_fingerprints.proofs.FourWords.{four_more}
-use Rattle.shard_fingerprints.proofs.fingerprints.fingerprint.Goals as goal
+use Rattle.shard_fingerprints.proofs.fingerprints.by_fours.Goals as goal
 
 pub loop-i-preserved : goal.loop-i-preserved
 loop-i-preserved c =

@@ -1,7 +1,7 @@
 use Rattle.std.proofs.Common.{◌≡◌, ◌≤◌, length, drop}
 use Rattle.math_base.specs.Elements.{number}
 use Rattle.shard_fingerprints.specs.Fingerprints.{fingerprint}
-use Rattle.shard_fingerprints.proofs.fingerprints.fingerprint.Given as goal
+use Rattle.shard_fingerprints.proofs.fingerprints.by_fours.Given as goal
 
 -- the fingerprint of the words from place i on
 abbrev pub invariant-loop-i : goal.invariant-loop-i
