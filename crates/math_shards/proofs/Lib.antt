@@ -29,3 +29,4 @@ pub mod UnitShards
 pub mod ShardColumns
 pub mod PutCoefficients
 pub mod PackedElements
+pub mod FittedShards

@@ -16,6 +16,7 @@ ghost use Rattle.math_shards.specs.declared.shards.Error.TheVariants.{Memory};
 
 mod correcting;
 mod encoding;
+mod fitting;
 mod joining;
 mod layout;
 mod splitting;

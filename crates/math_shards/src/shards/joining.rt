@@ -16,6 +16,7 @@ ghost use Rattle.math_shards.specs.Joining.{IsMemory, IsSound, IsUnsound, Matche
 ghost use Rattle.math_shards.specs.declared.shards.Error.TheVariants.{TooFew, Mismatch, Index};
 ghost use Rattle.math_shards.specs.declared.shards.Error.TheVariants.{Conflict, Inconsistent};
 
+use super::fitting::fitted_data;
 use super::layout::{laid_out, polynomials};
 use super::unpacking::{data_of_elements, leading_data};
 use super::weighing::weighed_coefficients;
@@ -64,6 +65,9 @@ fn recovered_data(alloc: Global, shards: &[Shard]) -> Result<Vec<u64>, Error>
     };
     check_numbers(shards, first)?;
     if let Some(words) = weighed_data(alloc, shards, first)? {
+        return Ok(words);
+    }
+    if let Some(words) = fitted_data(alloc, shards, first)? {
         return Ok(words);
     }
     let values = gathered(alloc, shards, first)?;

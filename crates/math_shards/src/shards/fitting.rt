@@ -1,0 +1,129 @@
+//! More shards than give the data back.
+//!
+//! The first `min` shards give data by their weights. Every shard is then compared with the values
+//! of these data, which are had strip by strip of columns as a split has them. Where all shards fit
+//! they are shards of the data; where one does not, they may be damaged, and nothing is said here.
+
+ghost use Rattle.std.specs.Prelude.{◌≡◌, ◌+◌, ◌*◌, ◌<◌, ◌≤◌, ◌^◌, All, length, IsTrue, IfOk};
+ghost use Rattle.std.specs.Prelude.{IfSome};
+ghost use Rattle.math_shards.specs.Fitting.{HasFirstValues, HasRow};
+ghost use Rattle.math_shards.specs.Joining.{IsSound};
+ghost use Rattle.math_shards.specs.Shards.{IsShardOf, JoinTo, width_for};
+ghost use Rattle.math_shards.specs.Strips.{IsLayoutOf, IsTableOf};
+
+use super::Shard;
+use super::joining::are_equal;
+use super::strips::{Layout, layout_of, strip_cols, strip_values};
+use super::unpacking::data_of_elements;
+use super::weighing::weighed_coefficients;
+use math_base::algebra::Mem;
+use math_base::fields::goldilocks::F;
+use math_transforms::transform::evaluation_table;
+use std::alloc::Global;
+
+/// Whether the shard's cells from place `from` on are those of the row of its index, where a row
+/// has `cols` cells.
+fn has_row(values: &[F], cols: usize, from: usize, shard: &Shard) -> bool
+    requires row { (shard.now.index + 1) * cols ≤ length values.now }
+    requires cells { from + cols ≤ length shard.now.cells.items }
+    ensures { IsTrue result → HasRow values.now cols from shard.now }
+{
+    let start = shard.index as usize * cols;
+    are_equal(&values[start..start + cols], &shard.cells[from..from + cols])
+}
+
+/// Whether each shard's cells from place `from` on are those of the row of its index.
+fn have_rows(values: &[F], cols: usize, from: usize, shards: &[Shard]) -> bool
+    requires rows { All (λ s. (s.index + 1) * cols ≤ length values.now) shards.now }
+    requires cells { All (λ s. from + cols ≤ length s.cells.items) shards.now }
+    ensures { IsTrue result → All (HasRow values.now cols from) shards.now }
+{
+    for shard in shards {
+        if !has_row(values, cols, from, shard) {
+            return false;
+        }
+    }
+    true
+}
+
+/// Whether the shards have the values of the data in `cols` columns from column `from` on.
+fn fit_strip(
+    alloc: Global,
+    data: &[u64],
+    layout: Layout,
+    from: usize,
+    cols: usize,
+    table: &[F],
+    shards: &[Shard],
+) -> Mem<bool>
+    requires layout { IsLayoutOf «data».now layout }
+    requires within { from + cols ≤ layout.width }
+    requires size { 2 ^ layout.lg * cols < 2 ^ 64 }
+    requires table { IsTableOf layout.lg table.now }
+    requires indices { All (λ s. s.index < 2 ^ layout.lg) shards.now }
+    requires cells { All (λ s. length s.cells.items ≡ layout.width) shards.now }
+    ensures { IfOk result (λ answer. IsTrue answer
+        → All (HasFirstValues «data».now layout.min layout.lg from) shards.now
+        → All (HasFirstValues «data».now layout.min layout.lg (from + cols)) shards.now) }
+{
+    let values = strip_values(alloc, data, layout, from, cols, table)?;
+    Ok(have_rows(&values, cols, from, shards))
+}
+
+/// Whether each of the shards, which have as many cells as those of the data, is the one of its
+/// index for the data. Takes memory as `split` does, but for no shards.
+fn are_shards_of(alloc: Global, data: &[u64], shards: &[Shard], first: &Shard) -> Mem<bool>
+    requires some { 1 ≤ first.now.min }
+    requires within { first.now.min ≤ first.now.total }
+    requires sound { All (IsSound first.now) shards.now }
+    requires width { length first.now.cells.items ≡ width_for first.now.min «data».now }
+    ensures { IfOk result (λ answer. IsTrue answer
+        → All (IsShardOf «data».now first.now.min first.now.total) shards.now) }
+{
+    let layout = layout_of(data, first.min, first.total);
+    let table = evaluation_table::<F>(alloc, layout.lg)?;
+    let mut from = 0;
+    while from < layout.width {
+        let cols = strip_cols(layout, from);
+        if !fit_strip(alloc, data, layout, from, cols, &table, shards)? {
+            return Ok(false);
+        }
+        from += cols;
+    }
+    Ok(true)
+}
+
+/// The data that shards give by weights, where these are taken and there are such data.
+fn data_by_weights(alloc: Global, shards: &[Shard], first: &Shard) -> Mem<Option<Vec<u64>>>
+    requires some { 0 < length shards.now }
+    requires sound { All (IsSound first.now) shards.now }
+    ensures { IfOk result (λ answer. IfSome answer (λ words. JoinTo words.items shards.now)) }
+{
+    let Some(elements) = weighed_coefficients(alloc, shards, first)? else {
+        return Ok(None);
+    };
+    let Some(data) = data_of_elements(alloc, &elements, first)? else {
+        return Ok(None);
+    };
+    Ok(Some(data))
+}
+
+/// The data of more than `min` shards, where the first `min` give them by weights and all shards
+/// fit them; `None` elsewhere.
+pub(super) fn fitted_data(alloc: Global, shards: &[Shard], first: &Shard) -> Mem<Option<Vec<u64>>>
+    requires some { 0 < length shards.now }
+    requires sound { All (IsSound first.now) shards.now }
+    ensures { IfOk result (λ answer. IfSome answer (λ words. JoinTo words.items shards.now)) }
+{
+    let min = first.min as usize;
+    if shards.len() <= min {
+        return Ok(None);
+    }
+    let Some(data) = data_by_weights(alloc, &shards[..min], first)? else {
+        return Ok(None);
+    };
+    if !are_shards_of(alloc, &data, shards, first)? {
+        return Ok(None);
+    }
+    Ok(Some(data))
+}
