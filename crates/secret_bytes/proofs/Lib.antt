@@ -9,5 +9,8 @@ pub mod RefusedRecoveries
 pub mod CombinedShares
 pub mod AnyShares
 pub mod ExplainedSecrets
+pub mod PackedAlone
+pub mod ExplainedBytes
+pub mod DealtHeads
 pub mod TextLines
 pub mod AnyLines
