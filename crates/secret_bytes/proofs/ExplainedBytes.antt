@@ -1,8 +1,9 @@
 -- Every secret of bytes explains the values of t - 1 shares with every key, in exactly one way.
-use Rattle.std.proofs.Common.{◌≡◌, ◌≢◌, ◌∙◌, ℕ, ◌+◌, ◌<◌, List, [], length, get_or, map, sym, ap, ap₂, subst}
+use Rattle.std.proofs.Common.{◌≡◌, ◌≢◌, ◌∙◌, ℕ, ◌+◌, ◌<◌, List, [], length, get_or, map, refl, sym, ap, ap₂, subst}
 use Rattle.std.specs.List.{AllZip, Contains}
 use Rattle.std.proofs.lemmas.List.{ext_get_or, length-map}
 use Rattle.std.proofs.lemmas.List.Elements.{All-map, same_from_all_zip}
+use Rattle.math_numbers.specs.Goldilocks.{P}
 use Rattle.math_base.specs.declared.fields.goldilocks.F.{F}
 use Rattle.math_base.specs.Elements.{number, same}
 use Rattle.math_base.proofs.ElementNumbers.{same_number}
@@ -10,6 +11,7 @@ use Rattle.share_lines.specs.declared.shares.SecretShare.{SecretShare}
 use Rattle.shared_secret.proofs.ListsOfElements.{contains-map, pairs-map}
 use Rattle.secret_bytes.specs.Explanations.{AreExplained, EachSecretOfBytesExplains, EachSecretOfBytesExplainsEquallyOften, IsDealing, IsExplainedOnce}
 use Rattle.secret_bytes.specs.Keyed.{AreKeyedBy}
+use Rattle.secret_bytes.proofs.AllElements.{all-elements}
 use Rattle.secret_bytes.proofs.ExplainedSecrets.{each-explains}
 use Rattle.secret_bytes.proofs.KeyedBytes.{keyed-parts}
 use Rattle.secret_bytes.proofs.PackedAlone.{keyed-alone, keyed-length, keyed-of, keyed_elements}
@@ -58,7 +60,10 @@ module _ (shares : List SecretShare) (bytes : List ℕ) (once : (key : F) → Is
       sym (ap₂ (λ es ps. (es, ps)) all polynomials)
 
 pub each-of-bytes-explains-equally-often : EachSecretOfBytesExplainsEquallyOften
-each-of-bytes-explains-equally-often elements shares bytes es apart some small h =
+each-of-bytes-explains-equally-often shares bytes apart some small h =
+    let all = all-elements P refl in
+    let elements = all.0 in
+    let es = all.1 in
     let once : (key : F) → IsExplainedOnce shares bytes key = λ key. each-of-bytes-explains shares bytes key apart some small h in
     let f = dealing shares bytes once in (
       map f elements,
@@ -71,5 +76,5 @@ each-of-bytes-explains-equally-often elements shares bytes es apart some small h
             let key : h.0.key ≡ found.0 = same_number h.0.key found.0 found.2 in
             subst (Contains (map f elements)) (of-key shares bytes once found.0 d (h.0, key) h.1) (contains-map f elements found.0 found.1);
       },
-      length-map elements f,
+      length-map elements f ∙ all.2,
     )

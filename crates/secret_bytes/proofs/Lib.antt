@@ -10,6 +10,7 @@ pub mod CombinedShares
 pub mod AnyShares
 pub mod ExplainedSecrets
 pub mod PackedAlone
+pub mod AllElements
 pub mod ExplainedBytes
 pub mod DealtHeads
 pub mod TextLines

@@ -1,11 +1,12 @@
 -- The dealings that explain the values of some shares by the elements of a secret.
 use Rattle.std.specs.List.{AllZip, Contains}
 use Rattle.std.specs.Prelude.{◌≡◌, ◌≢◌, ◌+◌, ◌<◌, ◌^◌, ℕ, List, [], length, slice_index_or, All, AllPairs}
+use Rattle.math_numbers.specs.Goldilocks.{P}
 use Rattle.math_base.specs.declared.fields.goldilocks.F.{F}
 use Rattle.math_base.specs.Elements.{residue, same}
 use Rattle.secret_elements.specs.Packings.{AreBytes, number_count}
 use Rattle.share_lines.specs.declared.shares.SecretShare.{SecretShare}
-use Rattle.shared_secret.specs.Explanations.{AreAllElements, Explains}
+use Rattle.shared_secret.specs.Explanations.{Explains}
 use Rattle.secret_bytes.specs.Columns.{column, goldilocks}
 use Rattle.secret_bytes.specs.Keyed.{AreKeyed, AreKeyedBy}
 
@@ -46,8 +47,7 @@ pub record AreAllDealings (shares : List SecretShare) (bytes : List ℕ) (dealin
   pub apart : AllPairs (λ d e. d ≢ e) dealings
   pub every : (d : List F × List (List F)) → IsDealing shares bytes d → Contains dealings d
 
--- so every secret of bytes explains them in exactly as many ways as there are elements, whatever the bytes are
+-- so every secret of bytes explains them in exactly P ways, whatever the bytes are
 abbrev pub EachSecretOfBytesExplainsEquallyOften : Type 0
-EachSecretOfBytesExplainsEquallyOften = (elements : List F) (shares : List SecretShare) (bytes : List ℕ) → AreAllElements goldilocks elements
-    → AllPairs (λ s u. s.index ≢ u.index) shares → All (λ s. 0 < s.index) shares → All (λ s. s.index < 2 ^ 32) shares → AreBytes bytes
-    → (dealings : List (List F × List (List F))) × AreAllDealings shares bytes dealings × (length dealings ≡ length elements)
+EachSecretOfBytesExplainsEquallyOften = (shares : List SecretShare) (bytes : List ℕ) → AllPairs (λ s u. s.index ≢ u.index) shares → All (λ s. 0 < s.index) shares
+    → All (λ s. s.index < 2 ^ 32) shares → AreBytes bytes → (dealings : List (List F × List (List F))) × AreAllDealings shares bytes dealings × (length dealings ≡ P)

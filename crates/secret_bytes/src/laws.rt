@@ -34,7 +34,7 @@ pub fn each_secret_explains()
 /// the check are one list of elements, three more than hold the bytes, and these have exactly one
 /// list of polynomials of t coefficients.
 ///
-/// So each secret explains them in exactly as many ways as there are keys, whatever it is
+/// So each secret explains them in exactly P ways, one for each key, whatever the secret is
 /// (`equally`).
 pub fn each_secret_of_bytes_explains()
     ensures once { EachSecretOfBytesExplains }
