@@ -9,5 +9,9 @@ pub mod RefusedRecoveries
 pub mod CombinedShares
 pub mod AnyShares
 pub mod ExplainedSecrets
+pub mod PackedAlone
+pub mod AllElements
+pub mod ExplainedBytes
+pub mod DealtHeads
 pub mod TextLines
 pub mod AnyLines

@@ -13,3 +13,7 @@ pub record AreKeyed (bytes : List ℕ) (all : List F) : Type 0 where
   pub packed : ArePacked elements bytes
   pub fits : same check (check_at elements key)
   pub parts : all ≡ elements ++ (key ∷ check ∷ [])
+
+-- the elements of the bytes, this key, and the check of these elements under it
+abbrev pub AreKeyedBy : F → List ℕ → List F → Type 0
+AreKeyedBy key bytes all = (k : AreKeyed bytes all) × (k.key ≡ key)

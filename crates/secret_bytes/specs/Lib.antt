@@ -1,6 +1,7 @@
 pub mod Columns
 pub mod Combined
 pub mod CombiningLaws
+pub mod DealingLaws
 pub mod Deals
 pub mod Explanations
 pub mod Keyed

@@ -2,7 +2,7 @@
 
 ghost use Rattle.std.specs.Prelude.{◌≡◌, ◌<◌, ◌^◌, ℕ, List, length, Some, IfOk, IfSome, IfNone};
 ghost use Rattle.math_base.specs.Elements.{sample_of};
-ghost use Rattle.secret_bytes.specs.Keyed.{AreKeyed};
+ghost use Rattle.secret_bytes.specs.Keyed.{AreKeyed, AreKeyedBy};
 
 use crate::error::DealError;
 use math_base::algebra::{Mem, Random, RandomError};
@@ -25,7 +25,7 @@ pub(crate) fn drawn<G: Rng + CryptoRng>(alloc: Global, rng: &mut G) -> Result<F,
 /// The elements of the bytes, of which there are fewer than 2^32, a key, and their check under it.
 pub(crate) fn keyed(alloc: Global, bytes: &[u8], key: F) -> Mem<Vec<F>>
     requires { length bytes.now < 2 ^ 32 }
-    ensures { IfOk result (λ all. (k : AreKeyed bytes.now all.items) × (k.key ≡ key)) }
+    ensures { IfOk result (λ all. AreKeyedBy key bytes.now all.items) }
 {
     let mut all = elements_of(alloc, bytes)?;
     let check = key_check(&all, key);

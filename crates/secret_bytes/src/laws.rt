@@ -1,7 +1,9 @@
 //! Laws of shares of bytes, each the contract of a function that does nothing.
 
 ghost use Rattle.secret_bytes.specs.CombiningLaws.{AnyLinesCombine, AnySharesCombine};
-ghost use Rattle.secret_bytes.specs.Explanations.{EachSecretExplains};
+ghost use Rattle.secret_bytes.specs.DealingLaws.{SharesDifferInValuesAlone};
+ghost use Rattle.secret_bytes.specs.Explanations.{EachSecretExplains, EachSecretOfBytesExplains};
+ghost use Rattle.secret_bytes.specs.Explanations.{EachSecretOfBytesExplainsEquallyOften};
 
 /// Any shares of a deal, or copies of them, in any order and some of them more than once, combine to
 /// exactly the bytes that were dealt, where at least t of them have distinct indices: what `combine`
@@ -25,4 +27,26 @@ pub fn any_lines_combine()
 /// nothing but how many there are.
 pub fn each_secret_explains()
     ensures { EachSecretExplains }
+{}
+
+/// Whatever values t - 1 shares have, of distinct indices other than zero, every secret of fewer than
+/// 2^32 bytes explains them with every key, and in exactly one way (`once`): the bytes, the key and
+/// the check are one list of elements, three more than hold the bytes, and these have exactly one
+/// list of polynomials of t coefficients.
+///
+/// So each secret explains them in exactly P ways, one for each key, whatever the secret is
+/// (`equally`).
+pub fn each_secret_of_bytes_explains()
+    ensures once { EachSecretOfBytesExplains }
+    ensures equally { EachSecretOfBytesExplainsEquallyOften }
+{}
+
+/// The shares of two secrets of as many bytes, dealt from the same samples of a source, are the same
+/// but for their values: each has the threshold, the index, the deal and the number of values of its
+/// counterpart.
+///
+/// So of a share's line nothing but the values and their check depends on the secret, its length
+/// aside.
+pub fn shares_differ_in_values_alone()
+    ensures { SharesDifferInValuesAlone }
 {}
