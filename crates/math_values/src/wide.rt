@@ -6,14 +6,14 @@ ghost use Rattle.math_values.specs.Products.{total};
 
 use math_base::fields::goldilocks::F;
 
+/// 2^32.
+const HALF_WORD: u64 = 0x1_0000_0000;
+
 /// 2^64.
 const WORD: u128 = 0x1_0000_0000_0000_0000;
 
 /// The remainder of 2^64 by P: 2^32 - 1.
 const REMAINDER_OF_2_64: u64 = 0xffff_ffff;
-
-/// The remainder of 2^128 by P: P - 2^32.
-const REMAINDER_OF_2_128: u64 = 0xffff_fffe_0000_0001;
 
 /// A sum of products of two words: sum + 2^128 carries.
 #[derive(Clone, Copy)]
@@ -67,12 +67,20 @@ impl WideSum {
     }
 
     /// The remainder by P.
+    ///
+    /// Write the sum as a + 2^64 b + 2^96 c with a below 2^64 and b below 2^32. Modulo P this is
+    /// a - c + (2^32 - 1) b, and 2^128 is -2^32.
     pub(crate) fn remainder(self) -> F
         ensures { result ≡ residue (total self) }
     {
-        let low = F::from((self.sum % WORD) as u64);
-        let high = F::from((self.sum / WORD) as u64);
-        let words = low + F::from(REMAINDER_OF_2_64) * high;
-        words + F::from(REMAINDER_OF_2_128) * F::from(self.carries)
+        let low = (self.sum % WORD) as u64;
+        let high = (self.sum / WORD) as u64;
+        let middle = F::from(high % HALF_WORD * REMAINDER_OF_2_64);
+        let highest = high / HALF_WORD + self.carries % HALF_WORD * HALF_WORD;
+        let most = F::from(low) - F::from(highest) + middle;
+        if self.carries < HALF_WORD {
+            return most;
+        }
+        most - F::from(REMAINDER_OF_2_64) * F::from(self.carries / HALF_WORD)
     }
 }
