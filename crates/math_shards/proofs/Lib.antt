@@ -24,6 +24,7 @@ pub mod PackedWords
 pub mod StripColumns
 pub mod StripSizes
 pub mod BegunShards
+pub mod WrittenColumns
 pub mod WeightedColumns
 pub mod UnitShards
 pub mod ShardColumns

@@ -1,5 +1,5 @@
 -- One of the elements that words pack to, had from the two words in which its bits stand.
-use Rattle.std.proofs.Common.{◌≡◌, ◌∙◌, inl, inr, ℕ, zero, suc, ◌+◌, ◌-◌, ◌*◌, ◌/◌, ◌%◌, ◌^◌, ◌<◌, ◌≤◌, bit_and, List, [], ◌∷◌, ◌++◌, length, take, drop, get_or, replicate, refl, sym, ap, subst, arith, lit<, lit≤, length-append, append_assoc, append-nil}
+use Rattle.std.proofs.Common.{◌≡◌, ◌∙◌, inl, inr, ℕ, zero, suc, ◌+◌, ◌-◌, ◌*◌, ◌/◌, ◌%◌, ◌^◌, ◌<◌, ◌≤◌, bit_and, List, [], ◌∷◌, ◌++◌, length, take, drop, get_or, replicate, refl, sym, ap, ap₂, subst, arith, lit<, lit≤, length-append, append_assoc, append-nil}
 use Rattle.std.proofs.Math.ListN.{get_or-map}
 use Rattle.std.proofs.lemmas.Bool.{cases_lt}
 use Rattle.std.proofs.lemmas.List.{take-append-le, drop-append-le, drop-drop, drop-replicate, drop_all, drop_at, drop_more, get_or_past}
@@ -10,6 +10,7 @@ use Rattle.math_numbers.proofs.BitPieces.{length-cut, piece_count-enough}
 use Rattle.math_base.specs.Elements.{residue}
 use Rattle.math_base.specs.Packing.{elements_of}
 use Rattle.math_base.proofs.BitFronts.{drop-bits, first-number}
+use Rattle.math_transforms.proofs.WrittenRows.{part-read}
 use Rattle.math_shards.specs.Shards.{counted}
 use Rattle.math_shards.specs.Strips.{packed_at, piece_of}
 use Rattle.math_shards.proofs.SameCells.{nought}
@@ -159,6 +160,23 @@ packed_from_words words e = element_bits_at (counted words) e ∙ ap residue (bi
 pub counted-behind : (words : List ℕ) (place : ℕ) → 0 < place → get_or (counted words) place 0 ≡ get_or words (place - 1) 0
 counted-behind words zero some = absurd (omega arith)
 counted-behind words (suc place) some = ap (λ n. get_or words n 0) (let e : place ≡ suc place - 1 = omega arith in e)
+
+-- an element of a run of 64 is the piece of two of the words that lie one after the other, from the one on in which the run begins
+pub run_packed : (words : List ℕ) (first m k : ℕ) → 2 ≤ first - first / 64 → first % 64 + k < 64 → k + 1 < m
+    → piece_of (get_or (take m (drop (first - first / 64 - 2) words)) k 0) (get_or (take m (drop (first - first / 64 - 2) words)) (k + 1) 0) (first % 64 + k) ≡ packed_at words (first + k)
+run_packed words first m k some run few =
+    let from = first - first / 64 - 2 in
+    let e = first + k in
+    let taken : first % 64 + k ≡ e % 64 = omega (arith, run) in
+    let at : from + k ≡ e - e / 64 - 1 - 1 = omega (arith, some, run) in
+    let after : from + (k + 1) ≡ e - e / 64 - 1 = omega (arith, some, run) in
+    let before : get_or (take m (drop from words)) k 0 ≡ get_or (counted words) (e - e / 64 - 1) 0 =
+    part-read 0 words from m k (omega (arith, few)) ∙ ap (λ p. get_or words p 0) at ∙ sym (counted-behind words (e - e / 64 - 1) (omega (arith, some, run))) in
+    let word : get_or (take m (drop from words)) (k + 1) 0 ≡ get_or (counted words) (e - e / 64) 0 =
+    part-read 0 words from m (k + 1) few ∙ ap (λ p. get_or words p 0) after ∙ sym (counted-behind words (e - e / 64) (omega (arith, some, run))) in
+    ap₂ (λ x y. piece_of x y (first % 64 + k)) before word
+    ∙ ap (λ t. piece_of (get_or (counted words) (e - e / 64 - 1) 0) (get_or (counted words) (e - e / 64) 0) t) taken
+    ∙ sym (packed_from_words words e)
 
 -- the bits of two words, shifted and put together
 pub both-number : (before word taken : ℕ) → before < 2 ^ 64 → word < 2 ^ 64 → taken < 64

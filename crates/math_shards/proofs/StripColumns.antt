@@ -1,56 +1,30 @@
 -- Strips of columns of the rows that data fill: how they are filled, and the values of their columns.
-use Rattle.std.proofs.Common.{◌≡◌, ◌∙◌, inl, inr, ℕ, ◌+◌, ◌-◌, ◌*◌, ◌<◌, ◌≤◌, ◌^◌, List, [], ◌∷◌, ◌++◌, length, take, get_or, replicate, zero, suc, refl, sym, ap, ap₂, arith, length-append, append_assoc, append-nil}
+use Rattle.std.proofs.Common.{◌≡◌, ◌∙◌, inl, inr, ℕ, ◌+◌, ◌-◌, ◌*◌, ◌<◌, ◌≤◌, ◌^◌, List, [], ◌∷◌, ◌++◌, length, take, drop, get_or, replicate, zero, suc, refl, sym, ap, ap₂, arith, length-append, append-nil}
 use Rattle.std.proofs.lemmas.Bool.{cases_lt}
-use Rattle.std.proofs.lemmas.List.{get_or_past, length-replicate, take_all}
-use Rattle.std.proofs.lemmas.Nat.{mul-le}
+use Rattle.std.proofs.lemmas.List.{drop-drop, drop_all, get_or_past, get_or-take, length-replicate, length-take-le}
+use Rattle.std.proofs.lemmas.Nat.{mul-add-lt, mul-le}
 use Rattle.math_base.specs.declared.fields.goldilocks.F.{F}
 use Rattle.math_base.specs.Elements.{number, root_of, same}
 use Rattle.math_base.proofs.ElementNumbers.{same_number}
-use Rattle.math_base.proofs.PlaceByPlace.{each_place_next}
 use Rattle.math_transforms.specs.DomainValues.{AreValuesAtPowers, matrix_of}
 use Rattle.math_transforms.specs.Matrices.{column_of}
-use Rattle.math_transforms.proofs.MatrixRows.{cell-of_column, each-cell-next}
+use Rattle.math_transforms.proofs.MatrixRows.{cell-of_column}
+use Rattle.math_transforms.proofs.WrittenRows.{row-done}
 use Rattle.math_shards.specs.Shards.{elements_for, rows_for, width_for}
-use Rattle.math_shards.specs.Strips.{AddsPacked, HasStripValues, IsStripOf, packed_at}
+use Rattle.math_shards.specs.Strips.{ArePacked, HasStripValues, IsStripOf, packed_at}
 use Rattle.math_values.specs.Values.{goldilocks}
 use Rattle.math_shards.proofs.SameCells.{nought}
 use Rattle.math_shards.proofs.ShardRows.{rows_are_whole, same_values}
-
--- no cells are added
-pub packed-none : (words : List ℕ) (first : ℕ) (cells : List F) → AddsPacked words first 0 cells cells
-packed-none words first cells = record {
-  added = [];
-  behind = sym (append-nil cells);
-  count = refl;
-  packed = λ k l. absurd (omega arith);
-}
-
--- and one more
-pub packed-more : (words : List ℕ) (first n : ℕ) (old cells new : List F) (cell : F) → AddsPacked words first n old cells → new ≡ cells ++ cell ∷ [] → same cell (packed_at words (first + n))
-    → AddsPacked words first (n + 1) old new
-packed-more words first n old cells new cell h e is = record {
-  added = h.added ++ cell ∷ [];
-  behind = e ∙ ap (λ xs. xs ++ cell ∷ []) h.behind ∙ append_assoc old h.added (cell ∷ []);
-  count = omega (arith, length-append h.added (cell ∷ []), h.count);
-  packed = each_place_next nought (λ k x. same x (packed_at words (first + k))) h.added n cell h.count h.packed is;
-}
 
 -- the first rows of c cells are those of data from column `from` on
 abbrev pub HoldRows : List ℕ → ℕ → ℕ → ℕ → ℕ → List F → Type 0
 HoldRows words width from c n cells = (r k : ℕ) → r < n → k < c → same (get_or cells (r * c + k) nought) (packed_at words (r * width + from + k))
 
--- with one row more
-pub row-added : (words : List ℕ) (width from c i : ℕ) (cells new : List F) → length cells ≡ i * c → HoldRows words width from c i cells → AddsPacked words (i * width + from) c cells new
-    → (length new ≡ (i + 1) * c) × HoldRows words width from c (i + 1) new
-row-added words width from c i cells new count hold h =
-    let up : (i + 1) * c ≡ i * c + c = add-one-row i c in
-    let long : length new ≡ (i + 1) * c = ap length h.behind ∙ length-append cells h.added ∙ ap₂ (λ x y. x + y) count h.count ∙ sym up in (
-      long,
-      λ r k a b. rw h.behind (each-cell-next nought (λ j l x. same x (packed_at words (j * width + from + l))) c i cells h.added count h.count hold h.packed r k a b),
-    )
-  where
-    add-one-row : (i c : ℕ) → (i + 1) * c ≡ i * c + c
-    add-one-row i c = omega arith
+-- with one row more, written over the cells
+pub row-written : (words : List ℕ) (width from c i n : ℕ) (cells row : List F) → n ≡ c → i * c + c ≤ length cells → length row ≡ n → HoldRows words width from c i cells
+    → ArePacked words (i * width + from) row → HoldRows words width from c (i + 1) (take (i * c) cells ++ (row ++ drop n (drop (i * c) cells)))
+row-written words width from c i n cells row e within long hold h =
+    row-done nought (λ j l x. same x (packed_at words (j * width + from + l))) cells cells row i c n e within long hold (λ k b. h k (omega (arith, b, long, e)))
 
 zeros-at : (n p : ℕ) → get_or (replicate n nought) p nought ≡ nought
 zeros-at zero p = refl
@@ -81,13 +55,12 @@ packed_past words min r k some past =
 
 -- the rows of data and zeros behind them are a strip
 pub strip_filled : (words : List ℕ) (min n from c m : ℕ) (rows cells : List F) (z : F) → 1 ≤ min → min ≤ n → from + c ≤ width_for min words
-    → length rows ≡ min * c → HoldRows words (width_for min words) from c min rows → m ≡ n * c - min * c → same z nought → cells ≡ take (n * c) rows ++ replicate m z
+    → length rows ≡ min * c → HoldRows words (width_for min words) from c min rows → m ≡ n * c - min * c → same z nought → cells ≡ rows ++ replicate m z
     → IsStripOf words min n from c cells
 strip_filled words min n from c m rows cells z some tall within count hold left zeros made =
     let width = width_for min words in
     let up : min * c ≤ n * c = mul-le min c n c tall (omega arith) in
-    let all : take (n * c) rows ≡ rows = take_all (n * c) rows (omega (arith, count, up)) in
-    let is : cells ≡ rows ++ replicate m nought = made ∙ ap₂ (λ xs x. xs ++ replicate m x) all (same_number z nought zeros) in
+    let is : cells ≡ rows ++ replicate m nought = made ∙ ap (λ x. rows ++ replicate m x) (same_number z nought zeros) in
     let long : length cells ≡ n * c = ap length is ∙ length-append rows (replicate m nought) ∙ ap₂ (λ x y. x + y) count (length-replicate m nought ∙ left) ∙ (omega (arith, up)) in
     record {
       count = long;
@@ -105,6 +78,21 @@ strip_filled words min n from c m rows cells z some tall within count hold left 
                 ap number (cell ∙ none) ∙ sym (ap number (of_data ∙ packed_past words min j (from + k) some past))
           ];
     }
+
+-- rows of data in the first rows, and zeros over the others
+pub strip_written : (words : List ℕ) (min n from c m k : ℕ) (cells zeros : List F) (z : F) → 1 ≤ min → min ≤ n → from + c ≤ width_for min words → length cells ≡ n * c
+    → HoldRows words (width_for min words) from c min cells → m ≡ length cells - min * c → k ≡ m → same z nought → zeros ≡ replicate k z
+    → IsStripOf words min n from c (take (min * c) cells ++ (zeros ++ drop m (drop (min * c) cells)))
+strip_written words min n from c m k cells zeros z some tall within count hold left all is made =
+    let up : min * c ≤ n * c = mul-le min c n c tall (omega arith) in
+    let rows = take (min * c) cells in
+    let none : drop m (drop (min * c) cells) ≡ [] = drop-drop m (min * c) cells ∙ drop_all (min * c + m) cells (omega (arith, left)) in
+    let whole : take (min * c) cells ++ (zeros ++ drop m (drop (min * c) cells)) ≡ rows ++ replicate m z =
+    ap (λ xs. rows ++ (zeros ++ xs)) none ∙ ap (λ xs. rows ++ xs) (append-nil zeros ∙ made ∙ ap (λ i. replicate i z) all) in
+    strip_filled words min n from c m rows (take (min * c) cells ++ (zeros ++ drop m (drop (min * c) cells))) z some tall within
+    (length-take-le (min * c) cells (omega (arith, count, up)))
+    (λ r j a b. ap number (get_or-take (min * c) cells (r * c + j) nought (let l : r * c + j < c * min = mul-add-lt r c j min a b in omega (arith, l))) ∙ hold r j a b)
+    (omega (arith, left, count)) is whole
 
 -- the values of the columns of a strip are those of the columns of the rows of data
 pub strip_valued : (words : List ℕ) (min lg from c : ℕ) (cells new : List F) → IsStripOf words min (2 ^ lg) from c cells → length new ≡ length cells

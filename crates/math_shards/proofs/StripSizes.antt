@@ -1,11 +1,11 @@
 -- The sizes of strips and of rows of data: all of them fit a word.
-use Rattle.std.proofs.Common.{◌≡◌, ◌∙◌, ℕ, suc, ◌+◌, ◌*◌, ◌/◌, ◌<◌, ◌≤◌, ◌^◌, List, length, sym, ap, max, min, pow_mono, arith}
+use Rattle.std.proofs.Common.{◌≡◌, ◌∙◌, inl, inr, ℕ, suc, ◌+◌, ◌-◌, ◌*◌, ◌/◌, ◌<◌, ◌≤◌, ◌^◌, List, length, sym, ap, max, min, pow_mono, arith}
 use Rattle.std.specs.Int.{div_ceil}
+use Rattle.std.proofs.lemmas.Bool.{cases_lt}
 use Rattle.std.proofs.lemmas.Nat.{mul-le, shr_le}
 use Rattle.math_numbers.specs.Bits.{piece_count}
-use Rattle.math_numbers.proofs.BitPieces.{piece_count-least}
+use Rattle.math_numbers.proofs.BitPieces.{piece_count-enough, piece_count-least}
 use Rattle.math_base.proofs.Packing.{length-elements_of}
-use Rattle.math_transforms.proofs.WrittenCells.{row-within}
 use Rattle.math_shards.specs.Shards.{counted, elements_for, width_for}
 use Rattle.math_shards.proofs.LaidOutData.{rounded_up}
 
@@ -24,9 +24,29 @@ width_of_words least words some = rounded_up (length words + 1 + div_ceil (lengt
 pub cells_fit : (least : ℕ) (words : List ℕ) → 1 ≤ least → least < 2 ^ 32 → length words < 2 ^ 61 → least * width_for least words < 2 ^ 64
 cells_fit least words some small few = omega (arith, piece_count-least least (length (elements_for words)) some, count_elements words)
 
--- a row within them, and a part of it
-pub place_fits : (least width i from n : ℕ) → i < least → from + n ≤ width → least * width < 2 ^ 64 → i * width + from + n < 2 ^ 64
-place_fits least width i from n l within fits = omega (arith, row-within i least width l)
+-- there is a cell in a row, and a row is shorter than 2^63
+pub wide_rows : (least : ℕ) (words : List ℕ) → 1 ≤ least → 1 ≤ width_for least words
+wide_rows least words some =
+    let enough : length (elements_for words) ≤ least * width_for least words = piece_count-enough least (length (elements_for words)) some in
+    elim (cases_lt 0 (width_for least words)) [
+      | inl wide ↦ omega (arith, wide)
+      | inr o ↦
+          let none : width_for least words ≡ 0 = omega (arith, o) in
+          let all : least * width_for least words ≡ 0 = ap (λ n. least * n) none ∙ (let e : least * 0 ≡ 0 = omega arith in e) in
+          absurd (omega (arith, all, enough, count_elements words))
+    ]
+
+pub short_rows : (least : ℕ) (words : List ℕ) → 1 ≤ least → length words < 2 ^ 61 → width_for least words < 2 ^ 63
+short_rows least words some few =
+    let w = width_for least words in
+    let one : least * w < length (elements_for words) + least = piece_count-least least (length (elements_for words)) some in
+    let wide : 1 ≤ w = wide_rows least words some in
+    let next : least * w ≡ least * (w - 1) + least = ap (λ n. least * n) (let e : w ≡ w - 1 + 1 = omega (arith, wide) in e) ∙ (let e : least * (w - 1 + 1) ≡ least * (w - 1) + least = omega arith in e) in
+    let all : 1 * (w - 1) ≤ least * (w - 1) = mul-le 1 (w - 1) least (w - 1) some (omega arith) in
+    short w (least * w) (least * (w - 1)) least (length (elements_for words)) (length words) one next all (count_elements words) few
+  where
+    short : (w a b least n m : ℕ) → a < n + least → a ≡ b + least → 1 * (w - 1) ≤ b → n ≡ m + 1 + div_ceil (m + 1) 63 → m < 2 ^ 61 → w < 2 ^ 63
+    short w a b least n m h e l c f = omega (arith, h, e, l, c, f)
 
 -- the columns of a strip
 pub strip_fits : (lg n : ℕ) → lg ≤ 32 → n ≤ 32768 → 2 ^ lg * n < 2 ^ 64

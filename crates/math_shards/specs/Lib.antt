@@ -1,5 +1,6 @@
 pub mod Shards
 pub mod Strips
+pub mod ShardRows
 pub mod Weights
 pub mod Fitting
 pub mod Joining

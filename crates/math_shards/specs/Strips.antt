@@ -1,5 +1,5 @@
 -- Strips of columns of the rows that data fill, and shards that grow by the values of a strip.
-use Rattle.std.specs.Prelude.{◌≡◌, ℕ, ◌+◌, ◌-◌, ◌*◌, ◌/◌, ◌<◌, ◌≤◌, ◌^◌, List, ◌++◌, length, take, drop, slice_index_or}
+use Rattle.std.specs.Prelude.{◌≡◌, ℕ, ◌+◌, ◌-◌, ◌*◌, ◌/◌, ◌<◌, ◌≤◌, ◌^◌, List, ◌++◌, length, take, drop, slice_index, slice_index_or}
 use Rattle.math_numbers.specs.Bits as Bits
 use Rattle.math_numbers.specs.Bits.{bits}
 use Rattle.math_theory.specs.Coefficients.{HaveSameCoefficients}
@@ -33,12 +33,13 @@ piece_of before word taken = residue (Bits.number (take 63 (bits taken (before /
 abbrev pub packed_at : List ℕ → ℕ → F
 packed_at words place = slice_index_or (elements_for words) place (residue 0)
 
--- behind the old cells stand n more: the elements that the words pack to, from place `first` on
-pub record AddsPacked (words : List ℕ) (first n : ℕ) (old new : List F) : Type 0 where
-  pub added : List F
-  pub behind : new ≡ old ++ added
-  pub count : length added ≡ n
-  pub packed : (k : ℕ) → k < n → same (slice_index_or added k (residue 0)) (packed_at words (first + k))
+-- the cells are the elements whose first bits are the highest ones of a word, and the others the lowest of the next: of cell k the `taken` + k highest
+abbrev pub ArePieces : List ℕ → ℕ → List F → Type 0
+ArePieces words taken cells = (k : ℕ) → k < length cells → same (slice_index_or cells k (residue 0)) (piece_of (slice_index words k) (slice_index words (k + 1)) (taken + k))
+
+-- the cells are the elements that the words pack to, from place `first` on
+abbrev pub ArePacked : List ℕ → ℕ → List F → Type 0
+ArePacked words first cells = (k : ℕ) → k < length cells → same (slice_index_or cells k (residue 0)) (packed_at words (first + k))
 
 -- n rows of c cells: their columns have the coefficients that those of the rows of data have, from column `from` on
 pub record IsStripOf (words : List ℕ) (min n from c : ℕ) (cells : List F) : Type 0 where

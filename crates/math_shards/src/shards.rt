@@ -27,7 +27,7 @@ mod weighing;
 pub use correcting::{Joined, join_corrected};
 pub use joining::join;
 use math_base::fields::goldilocks::F;
-pub use splitting::split;
+pub use splitting::{split, split_rows};
 use std::alloc::{AllocError, AllocFailed};
 use thiserror::Error;
 

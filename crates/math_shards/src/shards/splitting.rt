@@ -1,18 +1,33 @@
 //! Data to shards.
 //!
 //! Row i of the values of a strip is the next part of shard i. So the shards are filled strip by
-//! strip, and beside them there is but one strip.
+//! strip, each in the same room, and beside them there is but one strip.
 
-ghost use Rattle.std.specs.Prelude.{◌≡◌, ◌+◌, ◌*◌, ◌<◌, ◌≤◌, ◌^◌, ℕ, IfOk, List, OnOk, length};
-ghost use Rattle.math_shards.specs.Shards.{AreShardsOf};
+ghost use Rattle.std.specs.Prelude.{
+  ◌≡◌,
+  ◌+◌,
+  ◌*◌,
+  ◌<◌,
+  ◌≤◌,
+  ◌^◌,
+  ℕ,
+  IfOk,
+  List,
+  OnErr,
+  OnOk,
+  length,
+};
+ghost use Rattle.math_shards.specs.Shards.{AreShardsOf, width_for};
+ghost use Rattle.math_shards.specs.ShardRows.{AreColumnsWritten, AreNumbers};
+ghost use Rattle.math_shards.specs.ShardRows.{AreRowsOfShards, HaveColumns};
 ghost use Rattle.math_shards.specs.Strips.{AreBegun, AreExtended, IsExtendedBy, IsLayoutOf};
 ghost use Rattle.math_shards.specs.Strips.{IsTableOf};
 
 use super::Shard;
-use super::strips::{Layout, layout_of, strip_cols, strip_values};
+use super::strips::{Layout, layout_of, most_cols, strip_room, write_values};
 use math_base::algebra::Mem;
 use math_base::fields::goldilocks::F;
-use math_transforms::transform::evaluation_table;
+use math_transforms::transform::{evaluation_table, size_of};
 use std::alloc::Global;
 
 /// The shards of the data, one for each index below `total`, in the order of the indices. Any `min`
@@ -31,13 +46,105 @@ pub fn split(alloc: Global, data: &[u64], min: u32, total: u32) -> Mem<Vec<Shard
     let layout = layout_of(data, min, total);
     let table = evaluation_table::<F>(alloc, layout.lg)?;
     let mut shards = empty_shards(alloc, min, total, layout.width)?;
+    let most = most_cols(layout);
+    let mut room = strip_room(alloc, layout, most)?;
+    append_strips(alloc, data, layout, &table, most, &mut room, &mut shards)?;
+    Ok(shards)
+}
+
+/// Writes the shards of the data over the cells: shard i is row i of `total` rows, and each of its
+/// cells is the number of an element.
+///
+/// The conditions are those of `split`. A row has as many words as a shard of `split` has cells.
+/// Beside the cells it takes memory for a table of N elements and for N rows of some columns, where
+/// N is `total` rounded up to a power of two: eight columns, or as many as make up 2^15 cells where
+/// these are more, or those of a shard where these are fewer. Where that is refused nothing is
+/// written.
+pub fn split_rows(alloc: Global, data: &[u64], min: u32, total: u32, cells: &mut [u64]) -> Mem<()>
+    requires some { 1 ≤ min }
+    requires within { min ≤ total }
+    requires size { length cells.old ≡ total * width_for min «data».now }
+    ensures ok { OnOk result (AreRowsOfShards «data».now min total cells.new) }
+    ensures err { OnErr result (cells.new ≡ cells.old) }
+{
+    let layout = layout_of(data, min, total);
+    let table = evaluation_table::<F>(alloc, layout.lg)?;
+    let most = most_cols(layout);
+    let mut room = strip_room(alloc, layout, most)?;
+    write_rows(
+        alloc,
+        data,
+        layout,
+        total as usize,
+        &table,
+        most,
+        &mut room,
+        cells,
+    );
+    Ok(())
+}
+
+/// Writes the values of all columns into the rows of their shards, strip by strip of at most so
+/// many columns, each in the same room.
+fn write_rows(
+    alloc: Global,
+    data: &[u64],
+    layout: Layout,
+    total: usize,
+    table: &[F],
+    most: usize,
+    room: &mut [F],
+    cells: &mut [u64],
+)
+    requires layout { IsLayoutOf «data».now layout }
+    requires points { total ≤ 2 ^ layout.lg }
+    requires table { IsTableOf layout.lg table.now }
+    requires some { 1 ≤ most }
+    requires room { length room.old ≡ 2 ^ layout.lg * most }
+    requires size { length cells.old ≡ total * layout.width }
+    ensures { HaveColumns «data».now layout.min layout.lg layout.width
+        total layout.width cells.new }
+{
     let mut from = 0;
     while from < layout.width {
-        let cols = strip_cols(layout, from);
-        append_strip(alloc, data, layout, from, cols, &table, &mut shards)?;
+        let cols = most.min(layout.width - from);
+        let strip = &mut room[..size_of(layout.lg) * cols];
+        write_values(alloc, data, layout, from, cols, table, strip);
+        write_columns(strip, cols, total, layout.width, from, cells);
         from += cols;
     }
-    Ok(shards)
+}
+
+/// Writes row i of the strip into row i of the cells, from column `from` on, for each i below
+/// `total`.
+fn write_columns(
+    strip: &[F],
+    cols: usize,
+    total: usize,
+    width: usize,
+    from: usize,
+    cells: &mut [u64],
+)
+    requires strip { total * cols ≤ length strip.now }
+    requires within { from + cols ≤ width }
+    requires size { length cells.old ≡ total * width }
+    ensures { AreColumnsWritten width from cols total strip.now cells.old cells.new }
+{
+    for i in 0..total {
+        let at = i * width + from;
+        write_numbers(&mut cells[at..at + cols], &strip[i * cols..(i + 1) * cols]);
+    }
+}
+
+/// Writes the numbers of the elements over the words, of which there are as many.
+fn write_numbers(words: &mut [u64], items: &[F])
+    requires { length words.old ≡ length items.now }
+    ensures { AreNumbers items.now words.new }
+{
+    let source = &items[..words.len()];
+    for k in 0..words.len() {
+        words[k] = u64::from_le_bytes(source[k].to_le_bytes());
+    }
 }
 
 /// A shard without cells for each index below `total`, each with room for so many cells.
@@ -59,28 +166,34 @@ fn empty_shards(alloc: Global, min: u32, total: u32, width: usize) -> Mem<Vec<Sh
     Ok(shards)
 }
 
-/// Adds the values of `cols` columns from column `from` on to the shards, whose cells are those of
-/// the columns before.
-fn append_strip(
+/// Adds the values of all columns to the shards, strip by strip of at most so many columns, each in
+/// the same room.
+fn append_strips(
     alloc: Global,
     data: &[u64],
     layout: Layout,
-    from: usize,
-    cols: usize,
     table: &[F],
+    most: usize,
+    room: &mut [F],
     shards: &mut [Shard],
 ) -> Mem<()>
     requires layout { IsLayoutOf «data».now layout }
-    requires within { from + cols ≤ layout.width }
-    requires size { 2 ^ layout.lg * cols < 2 ^ 64 }
-    requires table { IsTableOf layout.lg table.now }
     requires points { length shards.old ≤ 2 ^ layout.lg }
+    requires table { IsTableOf layout.lg table.now }
+    requires some { 1 ≤ most }
+    requires room { length room.old ≡ 2 ^ layout.lg * most }
     ensures { OnOk result ((total : ℕ)
-        → AreBegun «data».now layout.min total layout.lg from shards.old
-        → AreBegun «data».now layout.min total layout.lg (from + cols) shards.new) }
+        → AreBegun «data».now layout.min total layout.lg 0 shards.old
+        → AreBegun «data».now layout.min total layout.lg layout.width shards.new) }
 {
-    let values = strip_values(alloc, data, layout, from, cols, table)?;
-    append_rows(&values, cols, shards)?;
+    let mut from = 0;
+    while from < layout.width {
+        let cols = most.min(layout.width - from);
+        let strip = &mut room[..size_of(layout.lg) * cols];
+        write_values(alloc, data, layout, from, cols, table, strip);
+        append_rows(strip, cols, shards)?;
+        from += cols;
+    }
     Ok(())
 }
 

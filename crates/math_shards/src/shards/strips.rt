@@ -12,17 +12,19 @@ ghost use Rattle.std.specs.Prelude.{
   ◌≡◌,
   ◌+◌,
   ◌*◌,
+  ◌%◌,
   ◌<◌,
   ◌≤◌,
   ◌^◌,
   IfOk,
-  OnOk,
+  length,
   slice_index,
 };
 ghost use Rattle.std.specs.Int.{IsNextPowerOfTwo};
 ghost use Rattle.math_base.specs.Elements.{same};
 ghost use Rattle.math_shards.specs.Shards.{counted};
-ghost use Rattle.math_shards.specs.Strips.{AddsPacked, HasStripValues, IsLayoutOf, IsStripOf};
+ghost use Rattle.math_shards.specs.Strips.{ArePacked, ArePieces, HasStripValues, IsLayoutOf};
+ghost use Rattle.math_shards.specs.Strips.{IsStripOf};
 ghost use Rattle.math_shards.specs.Strips.{IsTableOf, packed_at, piece_of};
 
 use math_base::algebra::Mem;
@@ -69,16 +71,15 @@ pub(super) fn layout_of(data: &[u64], min: u32, total: u32) -> Layout
     }
 }
 
-/// How many columns the strip from this column on has.
-pub(super) fn strip_cols(layout: Layout, from: usize) -> usize
+/// How many columns a strip has at most.
+pub(super) fn most_cols(layout: Layout) -> usize
     requires domain { layout.lg ≤ 32 }
-    requires left { from < layout.width }
+    requires wide { 1 ≤ layout.width }
     ensures some { 1 ≤ result }
-    ensures within { from + result ≤ layout.width }
+    ensures within { result ≤ layout.width }
     ensures size { 2 ^ layout.lg * result < 2 ^ 64 }
 {
-    let most = (STRIP_CELLS >> layout.lg).max(LEAST_COLS);
-    most.min(layout.width - from)
+    (STRIP_CELLS >> layout.lg).max(LEAST_COLS).min(layout.width)
 }
 
 /// The word in this place of those that are packed, which are the number of the data and then the
@@ -116,53 +117,100 @@ fn packed_at(data: &[u64], place: usize) -> F
     piece(before, word, (place % 64) as u32)
 }
 
-/// Adds so many elements to the cells, those that the data pack to, from place `first` on.
-fn push_packed(data: &[u64], first: usize, count: usize, cells: &mut Vec<F>) -> Mem<()>
-    requires { first + count < 2 ^ 64 }
-    ensures { OnOk result (AddsPacked «data».now first count cells.old.items cells.new.items) }
+/// Writes over the cells the elements whose first bits are the highest ones of a word, and the
+/// others the lowest of the next word: of the first element the `taken` highest bits, and of each
+/// further one a bit more.
+fn write_pieces(words: &[u64], taken: u32, cells: &mut [F])
+    requires words { length words.now ≡ length cells.old + 1 }
+    requires taken { taken + length cells.old ≤ 64 }
+    ensures { ArePieces words.now taken cells.new }
 {
-    for k in 0..count {
-        cells.push(packed_at(data, first + k))?;
+    let next = &words[1..];
+    let before = &words[..next.len()];
+    let cells = &mut cells[..next.len()];
+    for k in 0..next.len() {
+        cells[k] = piece(before[k], next[k], taken + k as u32);
     }
-    Ok(())
 }
 
-/// The strip of `cols` columns from column `from` on, with a row for each point: the rows that the
-/// data fill, and then rows of zeros.
-fn strip_of(alloc: Global, data: &[u64], layout: Layout, from: usize, cols: usize) -> Mem<Vec<F>>
+/// Writes over the cells the elements that the data pack to, from place `first` on, where these
+/// are in one run of 64.
+fn write_run(data: &[u64], first: usize, cells: &mut [F])
+    requires fits { first + length cells.old < 2 ^ 64 }
+    requires run { first % 64 + length cells.old ≤ 64 }
+    ensures { ArePacked «data».now first cells.new }
+{
+    let next = first - first / 64;
+    let last = next + cells.len();
+    if next >= 2 && last - 1 <= data.len() {
+        write_pieces(&data[next - 2..last - 1], (first % 64) as u32, cells);
+    } else {
+        for k in 0..cells.len() {
+            cells[k] = packed_at(data, first + k);
+        }
+    }
+}
+
+/// Writes over the cells the elements that the data pack to, from place `first` on.
+fn write_packed(data: &[u64], first: usize, cells: &mut [F])
+    requires { first + length cells.old < 2 ^ 64 }
+    ensures { ArePacked «data».now first cells.new }
+{
+    let mut done = 0;
+    while done < cells.len() {
+        let at = first + done;
+        let count = (64 - at % 64).min(cells.len() - done);
+        write_run(data, at, &mut cells[done..done + count]);
+        done += count;
+    }
+}
+
+/// Writes over the cells the strip of `cols` columns from column `from` on, with a row for each
+/// point: the rows that the data fill, and then rows of zeros.
+fn write_strip(data: &[u64], layout: Layout, from: usize, cols: usize, cells: &mut [F])
     requires layout { IsLayoutOf «data».now layout }
     requires within { from + cols ≤ layout.width }
-    requires size { 2 ^ layout.lg * cols < 2 ^ 64 }
-    ensures { IfOk result
-        (λ strip. IsStripOf «data».now layout.min (2 ^ layout.lg) from cols strip.items) }
+    requires size { length cells.old ≡ 2 ^ layout.lg * cols }
+    ensures { IsStripOf «data».now layout.min (2 ^ layout.lg) from cols cells.new }
 {
-    let count = size_of(layout.lg) * cols;
-    let mut cells = Vec::with_capacity(alloc, count)?;
     for row in 0..layout.min {
-        push_packed(data, row * layout.width + from, cols, &mut cells)?;
+        let at = row * cols;
+        write_packed(data, row * layout.width + from, &mut cells[at..at + cols]);
     }
-    cells.resize(count, F::from(0))?;
-    Ok(cells)
+    cells[layout.min * cols..].fill(F::from(0));
 }
 
-/// The values of `cols` columns from column `from` on, at all points: in row i those at power i of
-/// the root. The table is that of `evaluation_table`. Takes memory for these cells alone.
-pub(super) fn strip_values(
+/// Writes over the cells the values of `cols` columns from column `from` on, at all points: in row
+/// i those at power i of the root. The table is that of `evaluation_table`. Takes no memory.
+pub(super) fn write_values(
     alloc: Global,
     data: &[u64],
     layout: Layout,
     from: usize,
     cols: usize,
     table: &[F],
-) -> Mem<Vec<F>>
+    cells: &mut [F],
+)
     requires layout { IsLayoutOf «data».now layout }
     requires within { from + cols ≤ layout.width }
-    requires size { 2 ^ layout.lg * cols < 2 ^ 64 }
+    requires size { length cells.old ≡ 2 ^ layout.lg * cols }
     requires table { IsTableOf layout.lg table.now }
-    ensures { IfOk result
-        (λ strip. HasStripValues «data».now layout.min layout.lg from cols strip.items) }
+    ensures { HasStripValues «data».now layout.min layout.lg from cols cells.new }
 {
-    let mut cells = strip_of(alloc, data, layout, from, cols)?;
-    evaluate_rows(alloc, &mut cells, cols, layout.lg, table, &mut Work::new())?;
-    Ok(cells)
+    write_strip(data, layout, from, cols, cells);
+    let Ok(()) = evaluate_rows(alloc, cells, cols, layout.lg, table, &mut Work::new()) else {
+        unreachable!()
+    };
+}
+
+/// Room for a strip of so many columns: zeros.
+pub(super) fn strip_room(alloc: Global, layout: Layout, cols: usize) -> Mem<Vec<F>>
+    requires small { layout.lg ≤ 32 }
+    requires size { 2 ^ layout.lg * cols < 2 ^ 64 }
+    ensures { IfOk result (λ room. length room.items ≡ 2 ^ layout.lg * cols) }
+{
+    let count = size_of(layout.lg) * cols;
+    let mut room = Vec::with_capacity(alloc, count)?;
+    room.resize(count, F::from(0))?;
+    Ok(room)
 }

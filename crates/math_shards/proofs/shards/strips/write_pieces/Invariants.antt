@@ -1,0 +1,9 @@
+use Rattle.std.proofs.Common.{ℕ, ◌+◌, ◌<◌, get_or}
+use Rattle.math_base.specs.Elements.{same}
+use Rattle.math_shards.specs.Strips.{piece_of}
+use Rattle.math_shards.proofs.SameCells.{nought}
+use Rattle.math_shards.proofs.shards.strips.write_pieces.Given as goal
+
+-- the pieces so far
+abbrev pub invariant-loop-k : goal.invariant-loop-k
+invariant-loop-k l = (j : ℕ) → j < l.k → same (get_or l.cells j nought) (piece_of (get_or l.before j 0) (get_or l.next j 0) (l.taken + j))
