@@ -1,25 +1,28 @@
 -- Shards that have the values of data at their indices are those of the data.
-use Rattle.std.proofs.Common.{◌≡◌, ◌∙◌, inl, inr, ℕ, ◌+◌, ◌-◌, ◌*◌, ◌<◌, ◌≤◌, ◌^◌, List, true, length, take, drop, get_or, sym, ap, subst, arith}
+use Rattle.std.proofs.Common.{◌≡◌, ◌∙◌, inl, inr, ℕ, ◌+◌, ◌-◌, ◌*◌, ◌<◌, ◌≤◌, ◌^◌, List, [], ◌∷◌, true, length, take, drop, get_or, refl, sym, ap, subst, arith}
 use Rattle.std.specs.Int.{IsNextPowerOfTwo}
-use Rattle.std.specs.List.{All}
+use Rattle.std.specs.List.{All, AllZip}
 use Rattle.std.proofs.lemmas.Bool.{cases_lt}
-use Rattle.std.proofs.lemmas.List.{get_or-drop, get_or-take, length-take-le}
-use Rattle.std.proofs.lemmas.List.Elements.{AllZip-get_or}
+use Rattle.std.proofs.lemmas.List.{get_or_default, get_or-drop, get_or-take, length-take-le}
+use Rattle.std.proofs.lemmas.List.Elements.{All-weaker, AllZip-get_or, length_all_zip}
 use Rattle.math_base.specs.declared.fields.goldilocks.F.{F}
 use Rattle.math_base.specs.Elements.{number, same}
 use Rattle.math_ntt.proofs.MatrixPlaces.{rows_are_full, rows_hold_cells}
 use Rattle.math_transforms.proofs.PresentIndices.{lg-only}
 use Rattle.math_transforms.proofs.WrittenCells.{row-within}
 use Rattle.math_transforms.specs.DomainValues.{matrix_of}
-use Rattle.math_transforms.specs.Matrices.{column_of}
+use Rattle.math_transforms.specs.Matrices.{MatrixOf, column_of}
 use Rattle.math_shards.specs.declared.shards.Shard.{Shard}
-use Rattle.math_shards.specs.Fitting.{HasFirstValues, HasRow}
+use Rattle.math_shards.specs.Fitting.{DoChosenJoinTo, HasFirstValues, HasRow}
 use Rattle.math_shards.specs.Joining.{IsSound}
-use Rattle.math_shards.specs.Shards.{IsShardOf, JoinTo, has_index, rows_for, value_at, width_for}
+use Rattle.math_shards.specs.ShardEncoding.{AreSameShards}
+use Rattle.math_shards.specs.Shards.{IsSameAsOne, IsShardOf, JoinTo, has_index, rows_for, value_at, width_for}
 use Rattle.math_shards.specs.Strips.{HasStripValues}
+use Rattle.math_shards.specs.Weights.{HasColumnsOf}
 use Rattle.math_shards.proofs.CountedIndices.{none_lost}
-use Rattle.math_shards.proofs.FilledShards.{index_found, index_there}
-use Rattle.math_shards.proofs.SameCells.{nought}
+use Rattle.math_shards.proofs.FilledShards.{index_found, index_there, no_indices}
+use Rattle.math_shards.proofs.JoinedShards.{joined_some}
+use Rattle.math_shards.proofs.SameCells.{nought, same_by_items}
 
 -- the row of an index below the number of rows is within the cells
 pub row_fits : (n c i k : ℕ) → k ≡ n * c → i < n → (i + 1) * c ≤ k
@@ -66,23 +69,63 @@ shards_with_values words lg n first shards next width all sound have = λ i d l.
           h k (omega (arith, b, all)) ∙ ap (λ p. number (value_at p (column_of nought (rows_for first.min words) k) (get_or shards i d).index)) once;
     }
 
--- the indices of the first n shards are indices of all
-index_of_first : (n : ℕ) (shards : List Shard) → n ≤ length shards → (i : ℕ) → has_index (take n shards) i ≡ true → has_index shards i ≡ true
-index_of_first n shards many i h =
-    let found = index_found (take n shards) i h in
-    let early : found.0 < n × found.0 < length shards = omega (arith, found.2, many, length-take-le n shards many) in
-    let at : get_or shards found.0 found.1 ≡ found.1 = sym (get_or-take n shards found.0 found.1 early.0) ∙ found.3 in
-    subst (λ j. has_index shards j ≡ true) (ap (λ (s : Shard). s.index) at ∙ found.4) (index_there shards found.0 found.1 early.1)
+-- a shard that is the same as a sound one is sound
+sound_of_same : (first s t : Shard) → AreSameShards s t → IsSound first s → IsSound first t
+sound_of_same first s t h sound =
+    let long : length t.cells.items ≡ length s.cells.items = sym (length_all_zip same s.cells.items t.cells.items h.cells) in (
+      record {
+        least = sym h.least ∙ sound.0.least;
+        most = sym h.most ∙ sound.0.most;
+        count = long ∙ sound.0.count;
+        some = omega (arith, h.least, sound.0.some);
+        within = omega (arith, h.least, h.most, sound.0.within);
+      },
+      omega (arith, h.index, h.most, sound.1),
+    )
 
--- where the first n shards join to data, and all shards are those of the data, all join to them
-pub join_of_first : (words : List ℕ) (n : ℕ) (first : Shard) (shards : List Shard) → 0 < n → n ≤ length shards → JoinTo words (take n shards)
-    → All (IsShardOf words first.min first.total) shards → JoinTo words shards
-join_of_first words n first shards some many j each =
-    let head = each 0 first (omega (arith, some, many)) in
-    let there : 0 < length (take n shards) = omega (arith, some, length-take-le n shards many) in
-    let of : IsShardOf words j.min j.total (get_or shards 0 first) = subst (IsShardOf words j.min j.total) (get_or-take n shards 0 first some) (j.each 0 first there) in
-    let least : first.min ≡ j.min = sym head.least ∙ of.least in
-    let most : first.total ≡ j.total = sym head.most ∙ of.most in
+pub chosen_sound : (first : Shard) (shards chosen : List Shard) → All (IsSameAsOne shards) chosen → All (IsSound first) shards → All (IsSound first) chosen
+chosen_sound first shards chosen same_as sound =
+    All-weaker (IsSameAsOne shards) (IsSound first) (λ s one. sound_of_same first one.1 s one.4 (subst (IsSound first) one.3 (sound one.0 one.1 one.2))) chosen same_as
+
+-- equal cells are the same
+pub same_of_equal : (xs ys : List F) → xs ≡ ys → AllZip same xs ys
+same_of_equal xs ys e = subst (AllZip same xs) e (same_by_items (length xs) xs xs refl refl (λ _ _. refl))
+
+-- a shard is the same as itself
+same_as_itself : (s : Shard) → AreSameShards s s
+same_as_itself s = record { index = refl; least = refl; most = refl; cells = same_of_equal s.cells.items s.cells.items refl }
+
+-- each of the first n shards is one of them
+pub first_are_some : (n : ℕ) (shards : List Shard) → n ≤ length shards → All (IsSameAsOne shards) (take n shards)
+first_are_some n shards many = λ k d l.
+    let early : k < n × k < length shards = omega (arith, l, many, length-take-le n shards many) in
+    let s : Shard = get_or shards k d in
+    (k, s, early.1, get_or_default shards k s d early.1, subst (AreSameShards s) (sym (get_or-take n shards k d early.0)) (same_as_itself s))
+
+-- shards that have polynomials are not none
+pub some_of_columns : (first : Shard) (shards : List Shard) (m : MatrixOf F) → 1 ≤ first.min → HasColumnsOf first shards m → 0 < length shards
+some_of_columns first [] m some c = absurd (omega (arith, some, c.enough, no_indices first.total))
+some_of_columns first (s ∷ shards) m some c = omega arith
+
+-- the indices of chosen shards are indices of all
+index_of_chosen : (shards chosen : List Shard) → All (IsSameAsOne shards) chosen → (i : ℕ) → has_index chosen i ≡ true → has_index shards i ≡ true
+index_of_chosen shards chosen same_as i h =
+    let found = index_found chosen i h in
+    let one = same_as found.0 found.1 found.2 in
+    let at : (get_or shards one.0 one.1).index ≡ i =
+    ap (λ (s : Shard). s.index) one.3 ∙ one.4.index ∙ ap (λ (s : Shard). s.index) found.3 ∙ found.4 in
+    subst (λ j. has_index shards j ≡ true) at (index_there shards one.0 one.1 one.2)
+
+-- where chosen shards join to data, and all shards are those of the data, all join to them
+pub join_of_chosen : (words : List ℕ) (first : Shard) (shards : List Shard) → DoChosenJoinTo words shards → All (IsShardOf words first.min first.total) shards → JoinTo words shards
+join_of_chosen words first shards chosen each =
+    let j = chosen.2 in
+    let there : 0 < length chosen.0 = joined_some words chosen.0 j in
+    let of = j.each 0 first there in
+    let one = chosen.1 0 first there in
+    let also : IsShardOf words first.min first.total one.1 = subst (IsShardOf words first.min first.total) one.3 (each one.0 one.1 one.2) in
+    let least : first.min ≡ j.min = sym also.least ∙ one.4.least ∙ of.least in
+    let most : first.total ≡ j.total = sym also.most ∙ one.4.most ∙ of.most in
     record {
       min = j.min;
       total = j.total;
@@ -91,6 +134,15 @@ join_of_first words n first shards some many j each =
       short = j.short;
       each_word = j.each_word;
       few = j.few;
-      enough = omega (arith, j.enough, none_lost j.total (take n shards) shards (index_of_first n shards many));
+      enough = omega (arith, j.enough, none_lost j.total chosen.0 shards (index_of_chosen shards chosen.0 chosen.1));
       each = subst (λ m. All (IsShardOf words m j.total) shards) least (subst (λ t. All (IsShardOf words first.min t) shards) most each);
     }
+
+-- the width of the data that chosen shards join to is the number of cells
+pub width_of_chosen : (words : List ℕ) (first : Shard) (shards : List Shard) → All (IsSound first) shards → DoChosenJoinTo words shards → length first.cells.items ≡ width_for first.min words
+width_of_chosen words first shards sound chosen =
+    let j = chosen.2 in
+    let there : 0 < length chosen.0 = joined_some words chosen.0 j in
+    let of = j.each 0 first there in
+    let s = chosen_sound first shards chosen.0 chosen.1 sound 0 first there in
+    sym s.0.count ∙ of.count ∙ ap (λ m. width_for m words) (sym of.least ∙ s.0.least)

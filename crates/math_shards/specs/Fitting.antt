@@ -1,11 +1,19 @@
--- Shards beside the values of data at all points, strip by strip of columns.
-use Rattle.std.specs.Prelude.{ℕ, ◌*◌, ◌<◌, List, take, drop, slice_index_or}
+-- Shards that are chosen by their indices, and shards beside the values of data at all points, strip by strip of columns.
+use Rattle.std.specs.Prelude.{◌≡◌, ℕ, ◌*◌, ◌<◌, false, List, length, take, drop, slice_index_or, All}
 use Rattle.std.specs.List.{AllZip}
 use Rattle.math_base.specs.declared.fields.goldilocks.F.{F}
 use Rattle.math_base.specs.Elements.{residue, same}
 use Rattle.math_transforms.specs.Matrices.{column_of}
 use Rattle.math_shards.specs.declared.shards.Shard.{Shard}
-use Rattle.math_shards.specs.Shards.{rows_for, value_at}
+use Rattle.math_shards.specs.Shards.{IsSameAsOne, JoinTo, has_index, rows_for, value_at}
+
+-- no shard before it has a shard's index
+abbrev pub HaveOwnIndices : List Shard → Type 0
+HaveOwnIndices shards = (i : ℕ) (s : Shard) → i < length shards → has_index (take i shards) (slice_index_or shards i s).index ≡ false
+
+-- shards each of which is the same as one of these join to the words
+abbrev pub DoChosenJoinTo : List ℕ → List Shard → Type 0
+DoChosenJoinTo words shards = (chosen : List Shard) × All (IsSameAsOne shards) chosen × JoinTo words chosen
 
 -- the shard's cells from place `from` on are those of the row of its index, where a row has c cells
 abbrev pub HasRow : List F → ℕ → ℕ → Shard → Type 0

@@ -1,21 +1,22 @@
 //! More shards than give the data back.
 //!
-//! The first `min` shards give data by their weights. Every shard is then compared with the values
+//! The first `min` shards of distinct indices give data by their weights. Every shard is then compared with the values
 //! of these data, which are had strip by strip of columns as a split has them. Where all shards fit
 //! they are shards of the data; where one does not, they may be damaged, and nothing is said here.
 
 ghost use Rattle.std.specs.Prelude.{◌≡◌, ◌+◌, ◌*◌, ◌<◌, ◌≤◌, ◌^◌, All, length, IsTrue, IfOk};
 ghost use Rattle.std.specs.Prelude.{IfSome};
-ghost use Rattle.math_shards.specs.Fitting.{HasFirstValues, HasRow};
+ghost use Rattle.math_shards.specs.Fitting.{DoChosenJoinTo, HasFirstValues, HasRow};
 ghost use Rattle.math_shards.specs.Joining.{IsSound};
 ghost use Rattle.math_shards.specs.Shards.{IsShardOf, JoinTo, width_for};
 ghost use Rattle.math_shards.specs.Strips.{IsLayoutOf, IsTableOf};
 
 use super::Shard;
+use super::choosing::{are_distinct, distinct_copies};
 use super::joining::are_equal;
 use super::strips::{Layout, layout_of, strip_cols, strip_values};
 use super::unpacking::data_of_elements;
-use super::weighing::weighed_coefficients;
+use super::weighing::{are_weights_taken, weighed_coefficients};
 use math_base::algebra::Mem;
 use math_base::fields::goldilocks::F;
 use math_transforms::transform::evaluation_table;
@@ -95,7 +96,7 @@ fn are_shards_of(alloc: Global, data: &[u64], shards: &[Shard], first: &Shard) -
 
 /// The data that shards give by weights, where these are taken and there are such data.
 fn data_by_weights(alloc: Global, shards: &[Shard], first: &Shard) -> Mem<Option<Vec<u64>>>
-    requires some { 0 < length shards.now }
+    requires some { 1 ≤ first.now.min }
     requires sound { All (IsSound first.now) shards.now }
     ensures { IfOk result (λ answer. IfSome answer (λ words. JoinTo words.items shards.now)) }
 {
@@ -108,18 +109,35 @@ fn data_by_weights(alloc: Global, shards: &[Shard], first: &Shard) -> Mem<Option
     Ok(Some(data))
 }
 
-/// The data of more than `min` shards, where the first `min` give them by weights and all shards
-/// fit them; `None` elsewhere.
+/// The data that the first `min` shards of distinct indices give by weights, where these are taken
+/// and there are such data. These shards are copied where they are not the first ones of all.
+fn data_of_chosen(alloc: Global, shards: &[Shard], first: &Shard) -> Mem<Option<Vec<u64>>>
+    requires some { 1 ≤ first.now.min }
+    requires many { first.now.min ≤ length shards.now }
+    requires sound { All (IsSound first.now) shards.now }
+    ensures { IfOk result (λ answer. IfSome answer (λ words. DoChosenJoinTo words.items shards.now)) }
+{
+    let leading = &shards[..first.min as usize];
+    if are_distinct(leading) {
+        let found = data_by_weights(alloc, leading, first)?;
+        return Ok(found);
+    }
+    let copies = distinct_copies(alloc, shards, first.min as usize)?;
+    let found = data_by_weights(alloc, &copies, first)?;
+    Ok(found)
+}
+
+/// The data of more than `min` shards, where the first `min` of distinct indices give them by
+/// weights and all shards fit them; `None` elsewhere.
 pub(super) fn fitted_data(alloc: Global, shards: &[Shard], first: &Shard) -> Mem<Option<Vec<u64>>>
     requires some { 0 < length shards.now }
     requires sound { All (IsSound first.now) shards.now }
     ensures { IfOk result (λ answer. IfSome answer (λ words. JoinTo words.items shards.now)) }
 {
-    let min = first.min as usize;
-    if shards.len() <= min {
+    if !are_weights_taken(first) || shards.len() <= first.min as usize {
         return Ok(None);
     }
-    let Some(data) = data_by_weights(alloc, &shards[..min], first)? else {
+    let Some(data) = data_of_chosen(alloc, shards, first)? else {
         return Ok(None);
     };
     if !are_shards_of(alloc, &data, shards, first)? {

@@ -9,7 +9,8 @@
 //! rows of k cells, in which the row of shard i has one in place i and zero in every other. The
 //! cells are then read once, and each coefficient takes k products and one reduction.
 
-ghost use Rattle.std.specs.Prelude.{◌≡◌, ◌+◌, ◌*◌, ◌<◌, ◌≤◌, ◌^◌, ℕ, All, length, IsTrue, IfOk};
+ghost use Rattle.std.specs.Prelude.{◌≡◌, ◌↔◌, ◌+◌, ◌*◌, ◌<◌, ◌≤◌, ◌^◌, ℕ, All, length, IsTrue};
+ghost use Rattle.std.specs.Prelude.{IfOk};
 ghost use Rattle.std.specs.Prelude.{IfSome, OnOk, slice_index_or};
 ghost use Rattle.std.specs.Int.{IsNextPowerOfTwo};
 ghost use Rattle.math_theory.specs.Recovery.{count_true};
@@ -33,15 +34,20 @@ use std::alloc::{AllocError, Global};
 /// The greatest number of shards whose weights are taken: beyond it transforms are faster.
 const MOST_WEIGHED: u32 = 256;
 
-/// Whether there are just as many shards as give the data back, so few that their weights are
-/// taken, and no more than a shard has cells, so that the weights are fewer than the cells.
+/// Whether so few shards give the data back that their weights are taken: at most 256, and no more
+/// than a shard has cells, so that the weights are fewer than the cells.
+pub(super) fn are_weights_taken(first: &Shard) -> bool
+    ensures { IsTrue result
+        ↔ (first.now.min ≤ 256) × (first.now.min ≤ length first.now.cells.items) }
+{
+    first.min <= MOST_WEIGHED && first.min as usize <= first.cells.len()
+}
+
+/// Whether there are just as many shards as give the data back, and their weights are taken.
 fn are_few(shards: &[Shard], first: &Shard) -> bool
     ensures { IsTrue result → length shards.now ≡ first.now.min }
 {
-    if first.min > MOST_WEIGHED || shards.len() > first.cells.len() {
-        return false;
-    }
-    shards.len() == first.min as usize
+    are_weights_taken(first) && shards.len() == first.min as usize
 }
 
 /// A shard with the numbers of this one and `count` cells: one in place i, and zero in every other.
@@ -183,7 +189,7 @@ pub(super) fn weighed_coefficients(
     shards: &[Shard],
     first: &Shard,
 ) -> Mem<Option<Vec<F>>>
-    requires some { 0 < length shards.now }
+    requires some { 1 ≤ first.now.min }
     requires sound { All (IsSound first.now) shards.now }
     ensures { IfOk result (λ answer. IfSome answer
         (λ v. HasColumnsOf first.now shards.now (rows_with first.now v.items))) }

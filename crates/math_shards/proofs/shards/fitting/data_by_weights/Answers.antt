@@ -1,12 +1,10 @@
-use Rattle.std.proofs.Common.{◌∙◌, ◌<◌, ◌^◌, List, length, ap, subst, arith, rules}
+use Rattle.std.proofs.Common.{◌∙◌, ◌<◌, ◌^◌, List, length, ap, subst, rules}
 use Rattle.math_base.specs.declared.fields.goldilocks.F.{F}
 use Rattle.math_shards.specs.Joining.{ArePolynomialsOf}
 use Rattle.math_shards.specs.Weights.{rows_with}
+use Rattle.math_shards.proofs.FittedShards.{some_of_columns}
 use Rattle.math_shards.proofs.ShardColumns.{join_of_columns}
 use Rattle.math_shards.proofs.shards.fitting.data_by_weights.Goals as goal
-
-pub data_of_elements-requires-clause-some : goal.data_of_elements-requires-clause-some
-data_of_elements-requires-clause-some c = let s = c.requires.sound 0 c.args.first.now c.requires.some in omega (arith, s.0.least, s.0.some)
 
 pub data_of_elements-requires-clause-size : goal.data_of_elements-requires-clause-size
 data_of_elements-requires-clause-size c =
@@ -20,5 +18,5 @@ returns c =
     let h = rw c.in-Some.is at c.in_ok-elements.ensures in
     let words = c.in-Some-2.data.items in
     let few : length words < 2 ^ 64 = search (rules, c.in-Some-2.data.small) in
-    join_of_columns first c.args.shards.now (rows_with first elements) c.requires.some c.requires.sound h words (rw c.in-Some-2.is at c.in_ok-data.ensures.each_word) few
+    join_of_columns first c.args.shards.now (rows_with first elements) (some_of_columns first c.args.shards.now (rows_with first elements) c.requires.some h) c.requires.sound h words (rw c.in-Some-2.is at c.in_ok-data.ensures.each_word) few
     (subst (λ (xs : List F). ArePolynomialsOf words first.min (rows_with first xs)) c.deref.ensures.value (rw c.in-Some-2.is at c.in_ok-data.ensures.some))
