@@ -5,17 +5,17 @@ ghost use Rattle.secret_bytes.specs.DealingLaws.{SharesDifferInValuesAlone};
 ghost use Rattle.secret_bytes.specs.Explanations.{EachSecretExplains, EachSecretOfBytesExplains};
 ghost use Rattle.secret_bytes.specs.Explanations.{EachSecretOfBytesExplainsEquallyOften};
 
-/// Any shares of a deal, or copies of them, in any order and some of them more than once, combine to
-/// exactly the bytes that were dealt, where at least t of them have distinct indices: what `combine`
-/// may refuse them for is want of memory alone, and what it may answer is these bytes alone, with no
-/// share wrong.
+/// Any shares of a deal, or copies of them, in any order and some of them more than once, combine
+/// to exactly the bytes that were dealt, where at least t of them have distinct indices: what
+/// `combine` may refuse them for is want of memory alone, and what it may answer is these bytes
+/// alone, with no share wrong.
 pub fn any_shares_combine()
     ensures { AnySharesCombine }
 {}
 
 /// Any text whose lines are those of such shares, with white space around them and blank lines
-/// between them or none, gives the bytes back: what `read_lines` may refuse it for is want of memory
-/// alone, and the shares that it may answer `combine` as above.
+/// between them or none, gives the bytes back: what `read_lines` may refuse it for is want of
+/// memory alone, and the shares that it may answer `combine` as above.
 pub fn any_lines_combine()
     ensures { AnyLinesCombine }
 {}
@@ -29,10 +29,10 @@ pub fn each_secret_explains()
     ensures { EachSecretExplains }
 {}
 
-/// Whatever values t - 1 shares have, of distinct indices other than zero, every secret of fewer than
-/// 2^32 bytes explains them with every key, and in exactly one way (`once`): the bytes, the key and
-/// the check are one list of elements, three more than hold the bytes, and these have exactly one
-/// list of polynomials of t coefficients.
+/// Whatever values t - 1 shares have, of distinct indices other than zero, every secret of fewer
+/// than 2^32 bytes explains them with every key, and in exactly one way (`once`): the bytes, the
+/// key and the check are one list of elements, three more than hold the bytes, and these have
+/// exactly one list of polynomials of t coefficients.
 ///
 /// So each secret explains them in exactly P ways, one for each key, whatever the secret is
 /// (`equally`).
@@ -41,9 +41,9 @@ pub fn each_secret_of_bytes_explains()
     ensures equally { EachSecretOfBytesExplainsEquallyOften }
 {}
 
-/// The shares of two secrets of as many bytes, dealt from the same samples of a source, are the same
-/// but for their values: each has the threshold, the index, the deal and the number of values of its
-/// counterpart.
+/// The shares of two secrets of as many bytes, dealt from the same samples of a source, are the
+/// same but for their values: each has the threshold, the index, the deal and the number of values
+/// of its counterpart.
 ///
 /// So of a share's line nothing but the values and their check depends on the secret, its length
 /// aside.
