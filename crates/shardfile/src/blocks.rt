@@ -10,8 +10,13 @@ use math_codec::codec::{self, decode};
 use shard_blocks::{Error, JoinedBlock, Shard, cells_for, join_block, join_block_corrected};
 use shard_fingerprints::Fingerprints;
 use shard_format::header::Header;
-use shard_format::records::{FINGERPRINTS_SIZE, fits, is_shard_of, record_place, record_size};
+use shard_format::records::{
+    FINGERPRINTS_SIZE, fits, is_record_of, is_shard_of, record_place, record_size,
+};
 use std::alloc::{AllocError, Global};
+
+/// What is wrong with a shard whose record a file does not have whole.
+const NOT_READ: &str = "it ends before, or cannot be read";
 
 /// A block of the file.
 #[derive(Clone, Copy)]
@@ -22,13 +27,21 @@ pub struct Block {
     pub bytes: u32,
 }
 
-/// How far the shards of a block are looked at, where enough of them fit their fingerprints.
-#[derive(Clone, Copy)]
-pub struct Reach {
-    /// Whether all are read.
-    pub reads_all: bool,
-    /// Whether all that fit their fingerprints are compared with each other.
-    pub compares_all: bool,
+/// Room for one record, and for its elements.
+#[derive(Drop)]
+pub struct RecordRoom {
+    pub bytes: Vec<u8>,
+    pub elements: Vec<F>,
+}
+
+impl RecordRoom {
+    /// Room that grows with the first record.
+    pub fn new(alloc: Global) -> RecordRoom {
+        RecordRoom {
+            bytes: Vec::new(alloc),
+            elements: Vec::new(alloc),
+        }
+    }
 }
 
 /// The shards of a block that were found so far.
@@ -83,6 +96,37 @@ fn shard_of_record(
     Ok(Ok(shard))
 }
 
+/// How many cells each shard of a block has.
+fn cells_of(split: &Header, block: Block) -> Result<u32, Fault>
+    requires { 1 ≤ split.now.min }
+{
+    match u32::try_from(cells_for(block.bytes as usize, split.min)) {
+        Ok(cells) => Ok(cells),
+        Err(_) => Err(Fault::Memory(AllocError)),
+    }
+}
+
+/// Whether the file has the record of a block, with so many cells, which then is in the buffer.
+fn is_record_read(
+    rt: &HostRuntime,
+    name: &str,
+    source: &Source,
+    header: &Header,
+    block: Block,
+    cells: u32,
+    buffer: &mut Vec<u8>,
+) -> Result<bool, Fault>
+    requires { 1 ≤ header.now.min }
+{
+    let whole = cells_for(header.block as usize, header.min);
+    let at = record_place(header, whole, block.number);
+    let Ok(size) = usize::try_from(record_size(header, cells as usize)) else {
+        return Err(Fault::Memory(AllocError));
+    };
+    buffer.resize(size, 0)?;
+    is_read(rt, name, source, at, buffer)
+}
+
 /// The shard of a block, as the file has it, or what is wrong.
 fn shard_in(
     rt: &HostRuntime,
@@ -99,20 +143,40 @@ fn shard_in(
         index: source.header.index,
         ..*split
     };
-    let whole = cells_for(header.block as usize, header.min);
-    let cells = cells_for(block.bytes as usize, header.min);
-    let at = record_place(header, whole, block.number);
-    let (Ok(count), Ok(size)) = (
-        u32::try_from(cells),
-        usize::try_from(record_size(header, cells)),
-    ) else {
-        return Err(Fault::Memory(AllocError));
-    };
-    buffer.resize(size, 0)?;
-    if !is_read(rt, name, source, at, buffer)? {
-        return Ok(Err("it ends before, or cannot be read"));
+    let cells = cells_of(header, block)?;
+    if !is_record_read(rt, name, source, header, block, cells, buffer)? {
+        return Ok(Err(NOT_READ));
     }
-    shard_of_record(rt.alloc(), header, block.number, count, buffer)
+    shard_of_record(rt.alloc(), header, block.number, cells, buffer)
+}
+
+/// What is wrong with the shard of a block in the file, where anything is.
+fn fault_of_shard(
+    rt: &HostRuntime,
+    name: &str,
+    source: &Source,
+    split: &Header,
+    block: Block,
+    room: &mut RecordRoom,
+) -> Result<Option<&'static str>, Fault>
+    requires { 1 ≤ split.now.min }
+{
+    let header = &Header {
+        index: source.header.index,
+        ..*split
+    };
+    let cells = cells_of(header, block)?;
+    let RecordRoom { bytes, elements } = room;
+    if !is_record_read(rt, name, source, header, block, cells, bytes)? {
+        return Ok(Some(NOT_READ));
+    }
+    if is_record_of(rt.alloc(), header, block.number, cells, bytes, elements)? {
+        return Ok(None);
+    }
+    match shard_of_record(rt.alloc(), header, block.number, cells, bytes)? {
+        Ok(_) => Ok(None),
+        Err(why) => Ok(Some(why)),
+    }
 }
 
 /// The shard of a block that the file has, where it is a file of the split and has one. What is
@@ -175,7 +239,7 @@ fn is_there(shards: &[Shard], index: u32) -> bool {
 }
 
 /// The bytes of a block that these shards of a split give, where they give so many.
-fn joined(
+fn bytes_given(
     alloc: Global,
     _split: &Header,
     shards: &[Shard],
@@ -237,7 +301,7 @@ pub fn block_in(
     files: &mut [ShardFile],
     split: &Header,
     block: Block,
-    reach: Reach,
+    compares_all: bool,
     buffer: &mut Vec<u8>,
 ) -> Result<Vec<u8>, Fault>
     requires { 1 ≤ split.now.min }
@@ -248,25 +312,61 @@ pub fn block_in(
         places: Vec::new(rt.alloc()),
         looked_at: 0,
     };
-    find_shards(
-        rt,
-        files,
-        split,
-        block,
-        split.min as usize,
-        buffer,
-        &mut found,
-    )?;
-    let first = if reach.compares_all {
-        None
-    } else {
-        joined(rt.alloc(), split, &found.shards, block.bytes)?
+    if !compares_all {
+        let wanted = split.min as usize;
+        find_shards(rt, files, split, block, wanted, buffer, &mut found)?;
+        if let Some(bytes) = bytes_given(rt.alloc(), split, &found.shards, block.bytes)? {
+            return Ok(bytes);
+        }
+    }
+    find_shards(rt, files, split, block, usize::MAX, buffer, &mut found)?;
+    corrected(rt.alloc(), files, split, block, &found)
+}
+
+/// Whether the file is one of the split, and its shard of a block fits its fingerprints. What is
+/// wrong with that is noted.
+fn is_shard_sound(
+    rt: &HostRuntime,
+    file: &mut ShardFile,
+    split: &Header,
+    block: Block,
+    room: &mut RecordRoom,
+) -> Result<bool, Fault>
+    requires { 1 ≤ split.now.min }
+{
+    let Some(source) = &file.source else {
+        return Ok(false);
     };
-    if first.is_none() || reach.reads_all {
-        find_shards(rt, files, split, block, usize::MAX, buffer, &mut found)?;
+    match fault_of_shard(rt, file.name.as_str(), source, split, block, room)? {
+        None => Ok(true),
+        Some(why) => {
+            file.add_lost_block(block.number, why);
+            Ok(false)
+        }
     }
-    match first {
-        Some(bytes) => Ok(bytes),
-        None => corrected(rt.alloc(), files, split, block, &found),
+}
+
+/// Looks at all shards of a block, and notes what is wrong with each. It refuses where those that
+/// fit their fingerprints, each index counted once, are fewer than give the block; none is joined.
+pub fn check_block(
+    rt: &HostRuntime,
+    files: &mut [ShardFile],
+    split: &Header,
+    block: Block,
+    room: &mut RecordRoom,
+) -> Result<(), Fault>
+    requires { 1 ≤ split.now.min }
+{
+    let mut count = 0u32;
+    let mut last = None;
+    for file in files.iter_mut() {
+        if is_shard_sound(rt, file, split, block, room)? && file.number != last {
+            count = count.saturating_add(1);
+            last = file.number;
+        }
     }
+    if count < split.min {
+        return Err(Fault::Block(block.number, Error::TooFew));
+    }
+    Ok(())
 }
