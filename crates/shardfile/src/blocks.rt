@@ -8,15 +8,12 @@ use crate::sources::{ShardFile, Source, is_read};
 use math_base::fields::goldilocks::F;
 use math_codec::codec::{self, decode};
 use shard_blocks::{Error, JoinedBlock, Shard, cells_for, join_block, join_block_corrected};
-use shard_fingerprints::Fingerprints;
 use shard_format::header::Header;
 use shard_format::records::{
-    FINGERPRINTS_SIZE, fits, is_record_of, is_shard_of, record_place, record_size,
+    FINGERPRINTS_SIZE, is_record_of, is_shard_of, record_place, record_size,
 };
 use std::alloc::{AllocError, Global};
-
-/// What is wrong with a shard whose record a file does not have whole.
-const NOT_READ: &str = "it ends before, or cannot be read";
+use std::mem;
 
 /// A block of the file.
 #[derive(Clone, Copy)]
@@ -30,8 +27,8 @@ pub struct Block {
 /// Room for one record, and for its elements.
 #[derive(Drop)]
 pub struct RecordRoom {
-    pub bytes: Vec<u8>,
-    pub elements: Vec<F>,
+    bytes: Vec<u8>,
+    elements: Vec<F>,
 }
 
 impl RecordRoom {
@@ -55,45 +52,27 @@ struct FoundShards {
     looked_at: usize,
 }
 
-/// The two fingerprints that the bytes are, where they are two elements.
-fn fingerprints_in(alloc: Global, bytes: &[u8]) -> Option<Fingerprints> {
-    let (first, second) = bytes.split_at_checked(8)?;
-    let first = decode::<F>(alloc, first, &()).ok()?;
-    let second = decode::<F>(alloc, second, &()).ok()?;
-    Some(Fingerprints { first, second })
-}
-
-/// The shard of a block that the bytes of a record are, or what is wrong with them.
-fn shard_of_record(
+/// Why the bytes are not the record of a block that has to stand there.
+fn fault_of_record(
     alloc: Global,
     header: &Header,
-    number: u64,
     cells: u32,
     record: &[u8],
-) -> Result<Result<Shard, &'static str>, Fault>
-    ensures { IfOk result (λ answer. IfOk answer (IsOfSplit header.now)) }
-{
-    let Some((encoded, last)) = record.split_at_checked(
-        record.len().saturating_sub(FINGERPRINTS_SIZE),
-    ) else {
-        return Ok(Err("no shard stands there"));
+) -> Result<&'static str, Fault> {
+    let Some((encoded, _)) = record.split_at_checked(record.len().saturating_sub(FINGERPRINTS_SIZE))
+    else {
+        return Ok("no shard stands there");
     };
     let shard = match decode::<Shard>(alloc, encoded, &cells) {
         Ok(shard) => shard,
         Err(codec::Error::Memory(error)) => return Err(Fault::Memory(error)),
-        Err(_) => return Ok(Err("no shard stands there")),
+        Err(_) => return Ok("no shard stands there"),
     };
     let (index, min, total) = (shard.index, shard.min, shard.total);
     if !is_shard_of(header, index, min, total, shard.cells.len(), cells as usize) {
-        return Ok(Err("its numbers are not those of the header"));
+        return Ok("its numbers are not those of the header");
     }
-    let Some(stored) = fingerprints_in(alloc, last) else {
-        return Ok(Err("it does not fit its fingerprint"));
-    };
-    if !fits(header, number, &shard.cells, &stored) {
-        return Ok(Err("it does not fit its fingerprint"));
-    }
-    Ok(Ok(shard))
+    Ok("it does not fit its fingerprint")
 }
 
 /// How many cells each shard of a block has.
@@ -127,6 +106,30 @@ fn is_record_read(
     is_read(rt, name, source, at, buffer)
 }
 
+/// Reads the record of a block in the file, with so many cells, or says what is wrong with it. Where
+/// nothing is, the room has its elements: the cells, and their two fingerprints.
+fn read_record(
+    rt: &HostRuntime,
+    name: &str,
+    source: &Source,
+    header: &Header,
+    block: Block,
+    cells: u32,
+    room: &mut RecordRoom,
+) -> Result<Option<&'static str>, Fault>
+    requires { 1 ≤ header.now.min }
+{
+    let RecordRoom { bytes, elements } = room;
+    if !is_record_read(rt, name, source, header, block, cells, bytes)? {
+        return Ok(Some("it ends before, or cannot be read"));
+    }
+    if is_record_of(rt.alloc(), header, block.number, cells, bytes, elements)? {
+        return Ok(None);
+    }
+    let why = fault_of_record(rt.alloc(), header, cells, bytes)?;
+    Ok(Some(why))
+}
+
 /// The shard of a block, as the file has it, or what is wrong.
 fn shard_in(
     rt: &HostRuntime,
@@ -134,7 +137,7 @@ fn shard_in(
     source: &Source,
     split: &Header,
     block: Block,
-    buffer: &mut Vec<u8>,
+    room: &mut RecordRoom,
 ) -> Result<Result<Shard, &'static str>, Fault>
     requires { 1 ≤ split.now.min }
     ensures { IfOk result (λ answer. IfOk answer (IsOfSplit split.now)) }
@@ -143,40 +146,18 @@ fn shard_in(
         index: source.header.index,
         ..*split
     };
-    let cells = cells_of(header, block)?;
-    if !is_record_read(rt, name, source, header, block, cells, buffer)? {
-        return Ok(Err(NOT_READ));
+    let count = cells_of(header, block)?;
+    if let Some(why) = read_record(rt, name, source, header, block, count, room)? {
+        return Ok(Err(why));
     }
-    shard_of_record(rt.alloc(), header, block.number, cells, buffer)
-}
-
-/// What is wrong with the shard of a block in the file, where anything is.
-fn fault_of_shard(
-    rt: &HostRuntime,
-    name: &str,
-    source: &Source,
-    split: &Header,
-    block: Block,
-    room: &mut RecordRoom,
-) -> Result<Option<&'static str>, Fault>
-    requires { 1 ≤ split.now.min }
-{
-    let header = &Header {
-        index: source.header.index,
-        ..*split
-    };
-    let cells = cells_of(header, block)?;
-    let RecordRoom { bytes, elements } = room;
-    if !is_record_read(rt, name, source, header, block, cells, bytes)? {
-        return Ok(Some(NOT_READ));
-    }
-    if is_record_of(rt.alloc(), header, block.number, cells, bytes, elements)? {
-        return Ok(None);
-    }
-    match shard_of_record(rt.alloc(), header, block.number, cells, bytes)? {
-        Ok(_) => Ok(None),
-        Err(why) => Ok(Some(why)),
-    }
+    let mut cells = mem::replace(&mut room.elements, Vec::new(rt.alloc()));
+    cells.truncate(count as usize);
+    Ok(Ok(Shard {
+        index: header.index,
+        min: header.min,
+        total: header.total,
+        cells,
+    }))
 }
 
 /// The shard of a block that the file has, where it is a file of the split and has one. What is
@@ -186,7 +167,7 @@ fn shard_from(
     file: &mut ShardFile,
     split: &Header,
     block: Block,
-    buffer: &mut Vec<u8>,
+    room: &mut RecordRoom,
 ) -> Result<Option<Shard>, Fault>
     requires { 1 ≤ split.now.min }
     ensures { IfOk result (λ answer. IfSome answer (IsOfSplit split.now)) }
@@ -194,7 +175,7 @@ fn shard_from(
     let Some(source) = &file.source else {
         return Ok(None);
     };
-    match shard_in(rt, file.name.as_str(), source, split, block, buffer)? {
+    match shard_in(rt, file.name.as_str(), source, split, block, room)? {
         Ok(shard) => Ok(Some(shard)),
         Err(why) => {
             file.add_lost_block(block.number, why);
@@ -211,7 +192,7 @@ fn find_shards(
     split: &Header,
     block: Block,
     wanted: usize,
-    buffer: &mut Vec<u8>,
+    room: &mut RecordRoom,
     found: &mut FoundShards,
 ) -> Result<(), Fault>
     requires some { 1 ≤ split.now.min }
@@ -223,7 +204,7 @@ fn find_shards(
             return Ok(());
         }
         found.looked_at = place + 1;
-        if let Some(shard) = shard_from(rt, &mut files[place], split, block, buffer)? {
+        if let Some(shard) = shard_from(rt, &mut files[place], split, block, room)? {
             if !is_there(&found.shards, shard.index) {
                 found.shards.push(shard)?;
                 found.places.push(place)?;
@@ -302,7 +283,7 @@ pub fn block_in(
     split: &Header,
     block: Block,
     compares_all: bool,
-    buffer: &mut Vec<u8>,
+    room: &mut RecordRoom,
 ) -> Result<Vec<u8>, Fault>
     requires { 1 ≤ split.now.min }
     ensures { IfOk result (λ bytes. length bytes.items ≡ block.bytes) }
@@ -314,12 +295,12 @@ pub fn block_in(
     };
     if !compares_all {
         let wanted = split.min as usize;
-        find_shards(rt, files, split, block, wanted, buffer, &mut found)?;
+        find_shards(rt, files, split, block, wanted, room, &mut found)?;
         if let Some(bytes) = bytes_given(rt.alloc(), split, &found.shards, block.bytes)? {
             return Ok(bytes);
         }
     }
-    find_shards(rt, files, split, block, usize::MAX, buffer, &mut found)?;
+    find_shards(rt, files, split, block, usize::MAX, room, &mut found)?;
     corrected(rt.alloc(), files, split, block, &found)
 }
 
@@ -337,7 +318,12 @@ fn is_shard_sound(
     let Some(source) = &file.source else {
         return Ok(false);
     };
-    match fault_of_shard(rt, file.name.as_str(), source, split, block, room)? {
+    let header = &Header {
+        index: source.header.index,
+        ..*split
+    };
+    let cells = cells_of(header, block)?;
+    match read_record(rt, file.name.as_str(), source, header, block, cells, room)? {
         None => Ok(true),
         Some(why) => {
             file.add_lost_block(block.number, why);

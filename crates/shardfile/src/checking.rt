@@ -89,7 +89,7 @@ fn try_block(
     requires { 1 ≤ split.now.min }
 {
     if compares_all {
-        block_in(rt, files, split, block, true, &mut room.bytes)?;
+        block_in(rt, files, split, block, true, room)?;
         return Ok(());
     }
     check_block(rt, files, split, block, room)

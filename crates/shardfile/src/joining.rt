@@ -2,7 +2,7 @@
 
 ghost use Rattle.std.specs.Prelude.{◌≡◌, ◌≤◌, OnOk};
 
-use crate::blocks::{Block, block_in};
+use crate::blocks::{Block, RecordRoom, block_in};
 use crate::fault::Fault;
 use crate::listing::line_of;
 use crate::names::{Wanted, number_in};
@@ -122,14 +122,14 @@ fn fill(
     ensures { OnOk result (restored.new.left ≡ 0) }
 {
     let mut progress = Progress::new(rt, split.length);
-    let mut buffer = Vec::new(rt.alloc());
+    let mut room = RecordRoom::new(rt.alloc());
     let mut number = 0u64;
     while restored.left > 0 {
         let block = Block {
             number,
             bytes: restored.left.min(u64::from(split.block)) as u32,
         };
-        let bytes = block_in(rt, files, split, block, compares_all, &mut buffer)?;
+        let bytes = block_in(rt, files, split, block, compares_all, &mut room)?;
         restored.write(rt, &bytes)?;
         progress.print_percentage(rt, restored.left);
         number = number.saturating_add(1);
