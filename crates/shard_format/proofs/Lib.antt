@@ -1,3 +1,6 @@
 mod AppendedWords
+pub mod CellsThatFit
 pub mod CountedSplits
 pub mod RecordPlaces
+pub mod SpelledElements
+pub mod SpelledRecords

@@ -1,10 +1,12 @@
 -- The blocks of a file, and the records of a shard file: sizes and places.
-use Rattle.std.specs.Prelude.{◌≡◌, ℕ, zero, suc, ◌+◌, ◌-◌, ◌*◌, ◌/◌, ◌<◌, ◌≤◌, ◌^◌, List, length, min}
+use Rattle.std.specs.Prelude.{◌≡◌, ℕ, zero, suc, ◌+◌, ◌-◌, ◌*◌, ◌/◌, ◌<◌, ◌≤◌, ◌^◌, List, [], ◌∷◌, ◌++◌, length, min}
+use Rattle.std.specs.Int.{to_be_bytes, w64}
+use Rattle.std.specs.List.{flat_map}
 use Rattle.math_codec.specs.Lengths.{length_spelling}
 use Rattle.math_base.specs.declared.fields.goldilocks.F.{F}
 use Rattle.shard_fingerprints.specs.declared.pairs.Fingerprints.{Fingerprints}
 use Rattle.shard_fingerprints.specs.Fingerprints.{cell_words, fingerprint}
-use Rattle.math_base.specs.Elements.{same}
+use Rattle.math_base.specs.Elements.{number, same}
 use Rattle.shard_format.specs.Headers.{header_spelling}
 use Rattle.shard_format.specs.declared.header.Header.{Header}
 
@@ -49,6 +51,32 @@ pub record IsShardOf (h : Header) (i m n size wanted : ℕ) : Type 0 where
 pub record HaveFingerprints (h : Header) (block : ℕ) (cells : List F) (stored : Fingerprints) : Type 0 where
   pub first : same stored.first (fingerprint (cell_words block h.index cells) h.keys.first)
   pub second : same stored.second (fingerprint (cell_words block h.index cells) h.keys.second)
+
+-- an element is spelled by its number as a word
+abbrev pub element_spelling : F → List ℕ
+element_spelling a = to_be_bytes w64 (number a)
+
+-- the bytes of elements, a word each
+abbrev pub elements_spelling : List F → List ℕ
+elements_spelling elements = flat_map element_spelling elements
+
+-- what a record begins with: the index, `min`, `total` and the number of cells, each as a length
+abbrev pub numbers_spelling : Header → ℕ → List ℕ
+numbers_spelling h cells = length_spelling h.index ++ (length_spelling h.min ++ (length_spelling h.total ++ length_spelling cells))
+
+-- the elements are so many cells, whatever they are, and then their two fingerprints as those of the shard of this block in the file with this header
+pub record AreCellsThatFit (h : Header) (block count : ℕ) (elements : List F) : Type 0 where
+  pub cells : List F
+  pub stored : Fingerprints
+  pub counted : length cells ≡ count
+  pub fits : HaveFingerprints h block cells stored
+  pub listed : elements ≡ cells ++ (stored.first ∷ stored.second ∷ [])
+
+-- these are the bytes of a record of this block in the file with this header: its numbers, and then the cells and the two fingerprints that fit them
+pub record IsRecordOf (h : Header) (block count : ℕ) (bytes : List ℕ) : Type 0 where
+  pub elements : List F
+  pub fits : AreCellsThatFit h block count elements
+  pub spelled : bytes ≡ numbers_spelling h count ++ elements_spelling elements
 
 -- the first record begins behind the header, and each further one where the one before it ends
 pub record RecordsFollow (h : Header) (cells : ℕ) : Type 0 where

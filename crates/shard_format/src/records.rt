@@ -4,13 +4,16 @@
 //! A record is the shard of a block and its two fingerprints. How many cells the shard of a block
 //! has is handed in, where it is asked for: `shard_blocks` says it.
 
-ghost use Rattle.std.specs.Prelude.{◌≡◌, ◌↔◌, ◌<◌, ◌≤◌, ◌^◌, IsTrue};
-ghost use Rattle.shard_format.specs.Records.{HaveFingerprints, IsShardOf, block_count, block_size, capped, file_size, record_place, record_size};
+ghost use Rattle.std.specs.Prelude.{◌≡◌, ◌≢◌, ◌↔◌, ◌<◌, ◌≤◌, ◌^◌, List, IsTrue, IsFalse, IfOk, IfSome, IsNone};
+ghost use Rattle.math_base.specs.declared.fields.goldilocks.F.{F};
+ghost use Rattle.shard_format.specs.Records.{AreCellsThatFit, HaveFingerprints, IsRecordOf, IsShardOf, block_count, block_size, capped, element_spelling, elements_spelling, file_size, numbers_spelling, record_place, record_size};
 
 use crate::header::{HEADER_SIZE, Header};
-use math_base::fields::goldilocks::F;
-use math_codec::codec::len_size;
+use math_base::algebra::Mem;
+use math_base::fields::goldilocks::{F, MODULUS};
+use math_codec::codec::{len_size, write_len};
 use shard_fingerprints::{Fingerprints, cells_fingerprints};
+use std::alloc::Global;
 
 /// The number of bytes of the fingerprints of a record: two words.
 pub const FINGERPRINTS_SIZE: usize = 16;
@@ -91,4 +94,92 @@ pub fn fits(header: &Header, block: u64, cells: &[F], stored: &Fingerprints) -> 
     ensures { IsTrue result ↔ HaveFingerprints header.now block cells.now stored.now }
 {
     stored.is_same(&cells_fingerprints(&header.keys, block, header.index, cells))
+}
+
+/// What the record of a block begins with whose shard has so many cells.
+fn record_numbers(alloc: Global, header: &Header, cells: u32) -> Mem<Vec<u8>>
+    ensures { IfOk result (λ bytes. bytes.items ≡ numbers_spelling header.now cells) }
+{
+    let mut bytes = Vec::new(alloc);
+    write_len(alloc, header.index, &mut bytes)?;
+    write_len(alloc, header.min, &mut bytes)?;
+    write_len(alloc, header.total, &mut bytes)?;
+    write_len(alloc, cells, &mut bytes)?;
+    Ok(bytes)
+}
+
+/// The element that eight bytes are the word of, where there is one.
+fn element_of(word: &[u8; 8]) -> Option<F>
+    ensures some { IfSome result (λ a. word.now ≡ element_spelling a) }
+    ensures none { IsNone result → (a : F) → word.now ≢ element_spelling a }
+{
+    let number = u64::from_be_bytes(*word);
+    if number >= MODULUS {
+        return None;
+    }
+    Some(F::from(number))
+}
+
+/// Whether the bytes are those of elements, a word each, which then are in `elements`.
+fn are_elements(bytes: &[u8], elements: &mut Vec<F>) -> Mem<bool>
+    ensures spelled { IfOk result
+        (λ are. IsTrue are → bytes.now ≡ elements_spelling elements.new.items) }
+    ensures none { IfOk result
+        (λ are. IsFalse are → (others : List F) → bytes.now ≢ elements_spelling others) }
+{
+    let (words, rest) = bytes.as_chunks::<8>();
+    elements.clear();
+    if !rest.is_empty() {
+        return Ok(false);
+    }
+    elements.reserve(words.len())?;
+    for word in words {
+        let Some(element) = element_of(word) else {
+            return Ok(false);
+        };
+        elements.push(element)?;
+    }
+    Ok(true)
+}
+
+/// Whether the elements are so many cells, and then their two fingerprints as those of the shard of
+/// this block in the file with this header.
+fn are_cells_that_fit(header: &Header, block: u64, count: usize, elements: &[F]) -> bool
+    ensures { IsTrue result ↔ AreCellsThatFit header.now block count elements.now }
+{
+    let Some((cells, stored)) = elements.split_at_checked(count) else {
+        return false;
+    };
+    let [first, second] = stored else {
+        return false;
+    };
+    let stored = Fingerprints {
+        first: *first,
+        second: *second,
+    };
+    fits(header, block, cells, &stored)
+}
+
+/// Whether the bytes are a record of this block in the file with this header, with so many cells,
+/// and fingerprints that are theirs.
+///
+/// `room` is for its elements: who looks at one record after the other hands in the same.
+pub fn is_record_of(
+    alloc: Global,
+    header: &Header,
+    block: u64,
+    count: u32,
+    bytes: &[u8],
+    room: &mut Vec<F>,
+) -> Mem<bool>
+    ensures { IfOk result (λ is. IsTrue is ↔ IsRecordOf header.now block count bytes.now) }
+{
+    let numbers = record_numbers(alloc, header, count)?;
+    let Some(words) = bytes.strip_prefix(&numbers) else {
+        return Ok(false);
+    };
+    if !are_elements(words, room)? {
+        return Ok(false);
+    }
+    Ok(are_cells_that_fit(header, block, count as usize, room))
 }

@@ -8,10 +8,12 @@ use crate::sources::{ShardFile, Source, is_read};
 use math_base::fields::goldilocks::F;
 use math_codec::codec::{self, decode};
 use shard_blocks::{Error, JoinedBlock, Shard, cells_for, join_block, join_block_corrected};
-use shard_fingerprints::Fingerprints;
 use shard_format::header::Header;
-use shard_format::records::{FINGERPRINTS_SIZE, fits, is_shard_of, record_place, record_size};
+use shard_format::records::{
+    FINGERPRINTS_SIZE, is_record_of, is_shard_of, record_place, record_size,
+};
 use std::alloc::{AllocError, Global};
+use std::mem;
 
 /// A block of the file.
 #[derive(Clone, Copy)]
@@ -22,13 +24,21 @@ pub struct Block {
     pub bytes: u32,
 }
 
-/// How far the shards of a block are looked at, where enough of them fit their fingerprints.
-#[derive(Clone, Copy)]
-pub struct Reach {
-    /// Whether all are read.
-    pub reads_all: bool,
-    /// Whether all that fit their fingerprints are compared with each other.
-    pub compares_all: bool,
+/// Room for one record, and for its elements.
+#[derive(Drop)]
+pub struct RecordRoom {
+    bytes: Vec<u8>,
+    elements: Vec<F>,
+}
+
+impl RecordRoom {
+    /// Room that grows with the first record.
+    pub fn new(alloc: Global) -> RecordRoom {
+        RecordRoom {
+            bytes: Vec::new(alloc),
+            elements: Vec::new(alloc),
+        }
+    }
 }
 
 /// The shards of a block that were found so far.
@@ -42,45 +52,82 @@ struct FoundShards {
     looked_at: usize,
 }
 
-/// The two fingerprints that the bytes are, where they are two elements.
-fn fingerprints_in(alloc: Global, bytes: &[u8]) -> Option<Fingerprints> {
-    let (first, second) = bytes.split_at_checked(8)?;
-    let first = decode::<F>(alloc, first, &()).ok()?;
-    let second = decode::<F>(alloc, second, &()).ok()?;
-    Some(Fingerprints { first, second })
-}
-
-/// The shard of a block that the bytes of a record are, or what is wrong with them.
-fn shard_of_record(
+/// Why the bytes are not the record of a block that has to stand there.
+fn fault_of_record(
     alloc: Global,
     header: &Header,
-    number: u64,
     cells: u32,
     record: &[u8],
-) -> Result<Result<Shard, &'static str>, Fault>
-    ensures { IfOk result (λ answer. IfOk answer (IsOfSplit header.now)) }
-{
-    let Some((encoded, last)) = record.split_at_checked(
-        record.len().saturating_sub(FINGERPRINTS_SIZE),
-    ) else {
-        return Ok(Err("no shard stands there"));
+) -> Result<&'static str, Fault> {
+    let Some((encoded, _)) = record.split_at_checked(record.len().saturating_sub(FINGERPRINTS_SIZE))
+    else {
+        return Ok("no shard stands there");
     };
     let shard = match decode::<Shard>(alloc, encoded, &cells) {
         Ok(shard) => shard,
         Err(codec::Error::Memory(error)) => return Err(Fault::Memory(error)),
-        Err(_) => return Ok(Err("no shard stands there")),
+        Err(_) => return Ok("no shard stands there"),
     };
     let (index, min, total) = (shard.index, shard.min, shard.total);
     if !is_shard_of(header, index, min, total, shard.cells.len(), cells as usize) {
-        return Ok(Err("its numbers are not those of the header"));
+        return Ok("its numbers are not those of the header");
     }
-    let Some(stored) = fingerprints_in(alloc, last) else {
-        return Ok(Err("it does not fit its fingerprint"));
+    Ok("it does not fit its fingerprint")
+}
+
+/// How many cells each shard of a block has.
+fn cells_of(split: &Header, block: Block) -> Result<u32, Fault>
+    requires { 1 ≤ split.now.min }
+{
+    match u32::try_from(cells_for(block.bytes as usize, split.min)) {
+        Ok(cells) => Ok(cells),
+        Err(_) => Err(Fault::Memory(AllocError)),
+    }
+}
+
+/// Whether the file has the record of a block, with so many cells, which then is in the buffer.
+fn is_record_read(
+    rt: &HostRuntime,
+    name: &str,
+    source: &Source,
+    header: &Header,
+    block: Block,
+    cells: u32,
+    buffer: &mut Vec<u8>,
+) -> Result<bool, Fault>
+    requires { 1 ≤ header.now.min }
+{
+    let whole = cells_for(header.block as usize, header.min);
+    let at = record_place(header, whole, block.number);
+    let Ok(size) = usize::try_from(record_size(header, cells as usize)) else {
+        return Err(Fault::Memory(AllocError));
     };
-    if !fits(header, number, &shard.cells, &stored) {
-        return Ok(Err("it does not fit its fingerprint"));
+    buffer.resize(size, 0)?;
+    is_read(rt, name, source, at, buffer)
+}
+
+/// Reads the record of a block in the file, with so many cells, or says what is wrong with it. Where
+/// nothing is, the room has its elements: the cells, and their two fingerprints.
+fn read_record(
+    rt: &HostRuntime,
+    name: &str,
+    source: &Source,
+    header: &Header,
+    block: Block,
+    cells: u32,
+    room: &mut RecordRoom,
+) -> Result<Option<&'static str>, Fault>
+    requires { 1 ≤ header.now.min }
+{
+    let RecordRoom { bytes, elements } = room;
+    if !is_record_read(rt, name, source, header, block, cells, bytes)? {
+        return Ok(Some("it ends before, or cannot be read"));
     }
-    Ok(Ok(shard))
+    if is_record_of(rt.alloc(), header, block.number, cells, bytes, elements)? {
+        return Ok(None);
+    }
+    let why = fault_of_record(rt.alloc(), header, cells, bytes)?;
+    Ok(Some(why))
 }
 
 /// The shard of a block, as the file has it, or what is wrong.
@@ -90,7 +137,7 @@ fn shard_in(
     source: &Source,
     split: &Header,
     block: Block,
-    buffer: &mut Vec<u8>,
+    room: &mut RecordRoom,
 ) -> Result<Result<Shard, &'static str>, Fault>
     requires { 1 ≤ split.now.min }
     ensures { IfOk result (λ answer. IfOk answer (IsOfSplit split.now)) }
@@ -99,20 +146,18 @@ fn shard_in(
         index: source.header.index,
         ..*split
     };
-    let whole = cells_for(header.block as usize, header.min);
-    let cells = cells_for(block.bytes as usize, header.min);
-    let at = record_place(header, whole, block.number);
-    let (Ok(count), Ok(size)) = (
-        u32::try_from(cells),
-        usize::try_from(record_size(header, cells)),
-    ) else {
-        return Err(Fault::Memory(AllocError));
-    };
-    buffer.resize(size, 0)?;
-    if !is_read(rt, name, source, at, buffer)? {
-        return Ok(Err("it ends before, or cannot be read"));
+    let count = cells_of(header, block)?;
+    if let Some(why) = read_record(rt, name, source, header, block, count, room)? {
+        return Ok(Err(why));
     }
-    shard_of_record(rt.alloc(), header, block.number, count, buffer)
+    let mut cells = mem::replace(&mut room.elements, Vec::new(rt.alloc()));
+    cells.truncate(count as usize);
+    Ok(Ok(Shard {
+        index: header.index,
+        min: header.min,
+        total: header.total,
+        cells,
+    }))
 }
 
 /// The shard of a block that the file has, where it is a file of the split and has one. What is
@@ -122,7 +167,7 @@ fn shard_from(
     file: &mut ShardFile,
     split: &Header,
     block: Block,
-    buffer: &mut Vec<u8>,
+    room: &mut RecordRoom,
 ) -> Result<Option<Shard>, Fault>
     requires { 1 ≤ split.now.min }
     ensures { IfOk result (λ answer. IfSome answer (IsOfSplit split.now)) }
@@ -130,7 +175,7 @@ fn shard_from(
     let Some(source) = &file.source else {
         return Ok(None);
     };
-    match shard_in(rt, file.name.as_str(), source, split, block, buffer)? {
+    match shard_in(rt, file.name.as_str(), source, split, block, room)? {
         Ok(shard) => Ok(Some(shard)),
         Err(why) => {
             file.add_lost_block(block.number, why);
@@ -147,7 +192,7 @@ fn find_shards(
     split: &Header,
     block: Block,
     wanted: usize,
-    buffer: &mut Vec<u8>,
+    room: &mut RecordRoom,
     found: &mut FoundShards,
 ) -> Result<(), Fault>
     requires some { 1 ≤ split.now.min }
@@ -159,7 +204,7 @@ fn find_shards(
             return Ok(());
         }
         found.looked_at = place + 1;
-        if let Some(shard) = shard_from(rt, &mut files[place], split, block, buffer)? {
+        if let Some(shard) = shard_from(rt, &mut files[place], split, block, room)? {
             if !is_there(&found.shards, shard.index) {
                 found.shards.push(shard)?;
                 found.places.push(place)?;
@@ -175,7 +220,7 @@ fn is_there(shards: &[Shard], index: u32) -> bool {
 }
 
 /// The bytes of a block that these shards of a split give, where they give so many.
-fn joined(
+fn bytes_given(
     alloc: Global,
     _split: &Header,
     shards: &[Shard],
@@ -237,8 +282,8 @@ pub fn block_in(
     files: &mut [ShardFile],
     split: &Header,
     block: Block,
-    reach: Reach,
-    buffer: &mut Vec<u8>,
+    compares_all: bool,
+    room: &mut RecordRoom,
 ) -> Result<Vec<u8>, Fault>
     requires { 1 ≤ split.now.min }
     ensures { IfOk result (λ bytes. length bytes.items ≡ block.bytes) }
@@ -248,25 +293,66 @@ pub fn block_in(
         places: Vec::new(rt.alloc()),
         looked_at: 0,
     };
-    find_shards(
-        rt,
-        files,
-        split,
-        block,
-        split.min as usize,
-        buffer,
-        &mut found,
-    )?;
-    let first = if reach.compares_all {
-        None
-    } else {
-        joined(rt.alloc(), split, &found.shards, block.bytes)?
+    if !compares_all {
+        let wanted = split.min as usize;
+        find_shards(rt, files, split, block, wanted, room, &mut found)?;
+        if let Some(bytes) = bytes_given(rt.alloc(), split, &found.shards, block.bytes)? {
+            return Ok(bytes);
+        }
+    }
+    find_shards(rt, files, split, block, usize::MAX, room, &mut found)?;
+    corrected(rt.alloc(), files, split, block, &found)
+}
+
+/// Whether the file is one of the split, and its shard of a block fits its fingerprints. What is
+/// wrong with that is noted.
+fn is_shard_sound(
+    rt: &HostRuntime,
+    file: &mut ShardFile,
+    split: &Header,
+    block: Block,
+    room: &mut RecordRoom,
+) -> Result<bool, Fault>
+    requires { 1 ≤ split.now.min }
+{
+    let Some(source) = &file.source else {
+        return Ok(false);
     };
-    if first.is_none() || reach.reads_all {
-        find_shards(rt, files, split, block, usize::MAX, buffer, &mut found)?;
+    let header = &Header {
+        index: source.header.index,
+        ..*split
+    };
+    let cells = cells_of(header, block)?;
+    match read_record(rt, file.name.as_str(), source, header, block, cells, room)? {
+        None => Ok(true),
+        Some(why) => {
+            file.add_lost_block(block.number, why);
+            Ok(false)
+        }
     }
-    match first {
-        Some(bytes) => Ok(bytes),
-        None => corrected(rt.alloc(), files, split, block, &found),
+}
+
+/// Looks at all shards of a block, and notes what is wrong with each. It refuses where those that
+/// fit their fingerprints, each index counted once, are fewer than give the block; none is joined.
+pub fn check_block(
+    rt: &HostRuntime,
+    files: &mut [ShardFile],
+    split: &Header,
+    block: Block,
+    room: &mut RecordRoom,
+) -> Result<(), Fault>
+    requires { 1 ≤ split.now.min }
+{
+    let mut count = 0u32;
+    let mut last = None;
+    for file in files.iter_mut() {
+        if is_shard_sound(rt, file, split, block, room)? && file.number != last {
+            count = count.saturating_add(1);
+            last = file.number;
+        }
     }
+    if count < split.min {
+        return Err(Fault::Block(block.number, Error::TooFew));
+    }
+    Ok(())
 }

@@ -2,7 +2,7 @@
 
 ghost use Rattle.std.specs.Prelude.{◌≤◌};
 
-use crate::blocks::{Block, Reach, block_in};
+use crate::blocks::{Block, RecordRoom, block_in, check_block};
 use crate::fault::Fault;
 use crate::joining::check_count;
 use crate::listing::{line_of, list};
@@ -42,7 +42,8 @@ pub struct Checked {
     pub fault: Option<Fault>,
 }
 
-/// Joins each block, reads all of its shards, and notes what is wrong.
+/// Looks at all shards of each block, notes what is wrong, and which blocks have too few that fit
+/// their fingerprints. Only where all are to be compared are the shards of a block joined too.
 fn try_blocks(
     rt: &HostRuntime,
     split: &Header,
@@ -57,19 +58,15 @@ fn try_blocks(
         refused: 0,
         first: None,
     };
-    let reach = Reach {
-        reads_all: true,
-        compares_all,
-    };
     let mut progress = Progress::new(rt, split.length);
-    let mut buffer = Vec::new(rt.alloc());
+    let mut room = RecordRoom::new(rt.alloc());
     let mut left = split.length;
     while left > 0 {
         let block = Block {
             number: findings.blocks,
             bytes: left.min(u64::from(split.block)) as u32,
         };
-        if let Err(fault) = block_in(rt, files, split, block, reach, &mut buffer) {
+        if let Err(fault) = try_block(rt, split, files, block, compares_all, &mut room) {
             findings.add_refused_block(fault)?;
         }
         findings.blocks = findings.blocks.saturating_add(1);
@@ -77,6 +74,25 @@ fn try_blocks(
         progress.print_percentage(rt, left);
     }
     Ok(findings)
+}
+
+/// Looks at all shards of a block, joins them where they are to be compared, and refuses where they
+/// do not give it.
+fn try_block(
+    rt: &HostRuntime,
+    split: &Header,
+    files: &mut [ShardFile],
+    block: Block,
+    compares_all: bool,
+    room: &mut RecordRoom,
+) -> Result<(), Fault>
+    requires { 1 ≤ split.now.min }
+{
+    if compares_all {
+        block_in(rt, files, split, block, true, room)?;
+        return Ok(());
+    }
+    check_block(rt, files, split, block, room)
 }
 
 /// The reason alone that a fault gives.

@@ -2,7 +2,7 @@
 
 ghost use Rattle.std.specs.Prelude.{◌≡◌, ◌≤◌, OnOk};
 
-use crate::blocks::{Block, Reach, block_in};
+use crate::blocks::{Block, RecordRoom, block_in};
 use crate::fault::Fault;
 use crate::listing::line_of;
 use crate::names::{Wanted, number_in};
@@ -86,11 +86,7 @@ fn restore_file(
     check_count(rt, wanted, &split, files)?;
     let how = Manner::new(rt, force, first_rights(files))?;
     let mut restored = Restored::create(rt, owned(rt, out)?, &how, split.length)?;
-    let reach = Reach {
-        reads_all: false,
-        compares_all,
-    };
-    match fill(rt, &split, files, reach, &mut restored) {
+    match fill(rt, &split, files, compares_all, &mut restored) {
         Ok(()) => restored.finish(rt),
         Err(fault) => {
             restored.discard(rt);
@@ -113,12 +109,12 @@ pub fn check_count(
     Ok(())
 }
 
-/// Writes the blocks in order.
+/// Writes the blocks in order, each from the first shards that fit, or from all compared.
 fn fill(
     rt: &HostRuntime,
     split: &Header,
     files: &mut [ShardFile],
-    reach: Reach,
+    compares_all: bool,
     restored: &mut Restored,
 ) -> Result<(), Fault>
     requires some { 1 ≤ split.now.min }
@@ -126,14 +122,14 @@ fn fill(
     ensures { OnOk result (restored.new.left ≡ 0) }
 {
     let mut progress = Progress::new(rt, split.length);
-    let mut buffer = Vec::new(rt.alloc());
+    let mut room = RecordRoom::new(rt.alloc());
     let mut number = 0u64;
     while restored.left > 0 {
         let block = Block {
             number,
             bytes: restored.left.min(u64::from(split.block)) as u32,
         };
-        let bytes = block_in(rt, files, split, block, reach, &mut buffer)?;
+        let bytes = block_in(rt, files, split, block, compares_all, &mut room)?;
         restored.write(rt, &bytes)?;
         progress.print_percentage(rt, restored.left);
         number = number.saturating_add(1);

@@ -81,7 +81,7 @@ impl ShardFile {
 }
 
 /// The open file, where it can be opened. It refuses where the system has no room for it.
-fn opened(rt: &HostRuntime, name: &str) -> Result<Option<File>, Fault> {
+fn open_file(rt: &HostRuntime, name: &str) -> Result<Option<File>, Fault> {
     match fs::open(rt, name) {
         Ok(file) => Ok(Some(file)),
         Err(error) if is_want_of_room(&error) => Err(Fault::File(owned(rt, name)?, error)),
@@ -115,7 +115,7 @@ pub fn is_read(
     if let Some(file) = &source.file {
         return Ok(is_read_at(file, at, buffer));
     }
-    match opened(rt, name)? {
+    match open_file(rt, name)? {
         Some(file) => Ok(is_read_at(&file, at, buffer)),
         None => Ok(false),
     }
@@ -133,7 +133,7 @@ fn open_source(
     if !metadata.is_file() {
         return Ok(Err("is not a regular file"));
     }
-    let Some(file) = opened(rt, name)? else {
+    let Some(file) = open_file(rt, name)? else {
         return Ok(Err("cannot be opened"));
     };
     let mut bytes = [0u8; HEADER_SIZE];
