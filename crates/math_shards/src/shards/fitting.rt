@@ -1,8 +1,9 @@
 //! More shards than give the data back.
 //!
-//! The first `min` shards of distinct indices give data by their weights. Every shard is then compared with the values
-//! of these data, which are had strip by strip of columns as a split has them. Where all shards fit
-//! they are shards of the data; where one does not, they may be damaged, and nothing is said here.
+//! The first `min` shards of distinct indices give data by their weights. Every shard is then
+//! compared with the values of these data, which are had strip by strip of columns as a split has
+//! them. Where all shards fit they are shards of the data; where one does not, they may be damaged,
+//! and nothing is said here.
 
 ghost use Rattle.std.specs.Prelude.{◌≡◌, ◌+◌, ◌*◌, ◌<◌, ◌≤◌, ◌^◌, All, length, IsTrue, IfOk};
 ghost use Rattle.std.specs.Prelude.{IfSome};
@@ -14,12 +15,12 @@ ghost use Rattle.math_shards.specs.Strips.{IsLayoutOf, IsTableOf};
 use super::Shard;
 use super::choosing::{are_distinct, distinct_copies};
 use super::joining::are_equal;
-use super::strips::{Layout, layout_of, strip_cols, strip_values};
+use super::strips::{Layout, layout_of, most_cols, strip_room, write_values};
 use super::unpacking::data_of_elements;
 use super::weighing::{are_weights_taken, weighed_coefficients};
 use math_base::algebra::Mem;
 use math_base::fields::goldilocks::F;
-use math_transforms::transform::evaluation_table;
+use math_transforms::transform::{evaluation_table, size_of};
 use std::alloc::Global;
 
 /// Whether the shard's cells from place `from` on are those of the row of its index, where a row
@@ -30,7 +31,10 @@ fn has_row(values: &[F], cols: usize, from: usize, shard: &Shard) -> bool
     ensures { IsTrue result → HasRow values.now cols from shard.now }
 {
     let start = shard.index as usize * cols;
-    are_equal(&values[start..start + cols], &shard.cells[from..from + cols])
+    are_equal(
+        &values[start..start + cols],
+        &shard.cells[from..from + cols],
+    )
 }
 
 /// Whether each shard's cells from place `from` on are those of the row of its index.
@@ -47,7 +51,8 @@ fn have_rows(values: &[F], cols: usize, from: usize, shards: &[Shard]) -> bool
     true
 }
 
-/// Whether the shards have the values of the data in `cols` columns from column `from` on.
+/// Whether the shards have the values of the data in `cols` columns from column `from` on, which are
+/// written into `strip`.
 fn fit_strip(
     alloc: Global,
     data: &[u64],
@@ -55,20 +60,53 @@ fn fit_strip(
     from: usize,
     cols: usize,
     table: &[F],
+    strip: &mut [F],
     shards: &[Shard],
-) -> Mem<bool>
+) -> bool
     requires layout { IsLayoutOf «data».now layout }
     requires within { from + cols ≤ layout.width }
-    requires size { 2 ^ layout.lg * cols < 2 ^ 64 }
+    requires size { length strip.old ≡ 2 ^ layout.lg * cols }
     requires table { IsTableOf layout.lg table.now }
     requires indices { All (λ s. s.index < 2 ^ layout.lg) shards.now }
     requires cells { All (λ s. length s.cells.items ≡ layout.width) shards.now }
-    ensures { IfOk result (λ answer. IsTrue answer
+    ensures { IsTrue result
         → All (HasFirstValues «data».now layout.min layout.lg from) shards.now
-        → All (HasFirstValues «data».now layout.min layout.lg (from + cols)) shards.now) }
+        → All (HasFirstValues «data».now layout.min layout.lg (from + cols)) shards.now }
 {
-    let values = strip_values(alloc, data, layout, from, cols, table)?;
-    Ok(have_rows(&values, cols, from, shards))
+    write_values(alloc, data, layout, from, cols, table, strip);
+    have_rows(strip, cols, from, shards)
+}
+
+/// Whether the shards have the values of the data in all columns, strip by strip of at most so many
+/// columns, each in the same room.
+fn fit_strips(
+    alloc: Global,
+    data: &[u64],
+    layout: Layout,
+    table: &[F],
+    most: usize,
+    room: &mut [F],
+    shards: &[Shard],
+) -> bool
+    requires layout { IsLayoutOf «data».now layout }
+    requires table { IsTableOf layout.lg table.now }
+    requires some { 1 ≤ most }
+    requires room { length room.old ≡ 2 ^ layout.lg * most }
+    requires indices { All (λ s. s.index < 2 ^ layout.lg) shards.now }
+    requires cells { All (λ s. length s.cells.items ≡ layout.width) shards.now }
+    ensures { IsTrue result
+        → All (HasFirstValues «data».now layout.min layout.lg layout.width) shards.now }
+{
+    let mut from = 0;
+    while from < layout.width {
+        let cols = most.min(layout.width - from);
+        let strip = &mut room[..size_of(layout.lg) * cols];
+        if !fit_strip(alloc, data, layout, from, cols, table, strip, shards) {
+            return false;
+        }
+        from += cols;
+    }
+    true
 }
 
 /// Whether each of the shards, which have as many cells as those of the data, is the one of its
@@ -83,15 +121,9 @@ fn are_shards_of(alloc: Global, data: &[u64], shards: &[Shard], first: &Shard) -
 {
     let layout = layout_of(data, first.min, first.total);
     let table = evaluation_table::<F>(alloc, layout.lg)?;
-    let mut from = 0;
-    while from < layout.width {
-        let cols = strip_cols(layout, from);
-        if !fit_strip(alloc, data, layout, from, cols, &table, shards)? {
-            return Ok(false);
-        }
-        from += cols;
-    }
-    Ok(true)
+    let most = most_cols(layout);
+    let mut room = strip_room(alloc, layout, most)?;
+    Ok(fit_strips(alloc, data, layout, &table, most, &mut room, shards))
 }
 
 /// The data that shards give by weights, where these are taken and there are such data.

@@ -1,6 +1,6 @@
 use Rattle.std.proofs.Common.{◌-◌, ◌≤◌, All}
 use Rattle.math_shards.specs.Fitting.{HasFirstValues}
-use Rattle.math_shards.proofs.shards.fitting.are_shards_of.Given as goal
+use Rattle.math_shards.proofs.shards.fitting.fit_strips.Given as goal
 
 -- the shards have the values of the columns so far
 abbrev pub invariant-loop-from : goal.invariant-loop-from
