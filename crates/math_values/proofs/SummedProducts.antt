@@ -1,6 +1,6 @@
 -- Sums of products of words and elements, as whole numbers, and their remainders.
 use Rattle.std.proofs.Common.{◌≡◌, ◌∙◌, ℕ, suc, ◌+◌, ◌*◌, ◌<◌, ◌≤◌, List, [], ◌∷◌, length, map, drop, get_or, refl, sym, ap, ap₂, arith}
-use Rattle.std.proofs.lemmas.List.{drop_more, drop_all}
+use Rattle.std.proofs.lemmas.List.{drop_more}
 use Rattle.math_theory.specs.Sums.{weighted_sum}
 use Rattle.math_theory.specs.Values.{value_from}
 use Rattle.math_base.specs.declared.fields.goldilocks.F.{F}
@@ -14,10 +14,6 @@ pub products-more : (words : List ℕ) (weights : List F) (i w : ℕ) (p : F) �
     → products (drop i words) (drop i weights) ≡ w * number p + products (drop (i + 1) words) (drop (i + 1) weights)
 products-more words weights i w p l m e f =
     ap₂ products (drop_more words i 0 l ∙ ap (λ b. b ∷ drop (i + 1) words) e) (drop_more weights i p m ∙ ap (λ b. b ∷ drop (i + 1) weights) (sym f))
-
--- no products are left
-pub no-products : (words : List ℕ) (weights : List F) (i : ℕ) → length words ≤ i → products (drop i words) (drop i weights) ≡ 0
-no-products words weights i l = ap (λ ws. products ws (drop i weights)) (drop_all i words l)
 
 -- the residue of a product and of more behind it
 residue-front : (a b rest : ℕ) → residue (a * b + rest) ≡ sum (product (residue a) (residue b)) (residue rest)
