@@ -31,7 +31,10 @@ fn has_row(values: &[F], cols: usize, from: usize, shard: &Shard) -> bool
     ensures { IsTrue result → HasRow values.now cols from shard.now }
 {
     let start = shard.index as usize * cols;
-    are_equal(&values[start..start + cols], &shard.cells[from..from + cols])
+    are_equal(
+        &values[start..start + cols],
+        &shard.cells[from..from + cols],
+    )
 }
 
 /// Whether each shard's cells from place `from` on are those of the row of its index.
