@@ -1,5 +1,5 @@
 -- Shards that have the values of data at their indices are those of the data.
-use Rattle.std.proofs.Common.{◌≡◌, ◌∙◌, inl, inr, ℕ, ◌+◌, ◌-◌, ◌*◌, ◌<◌, ◌≤◌, ◌^◌, List, [], ◌∷◌, true, length, take, drop, get_or, refl, sym, ap, subst, arith}
+use Rattle.std.proofs.Common.{◌≡◌, ◌∙◌, inl, inr, ℕ, ◌+◌, ◌-◌, ◌*◌, ◌<◌, ◌≤◌, ◌^◌, List, true, length, take, drop, get_or, refl, sym, ap, subst, arith}
 use Rattle.std.specs.Int.{IsNextPowerOfTwo}
 use Rattle.std.specs.List.{All, AllZip}
 use Rattle.std.proofs.lemmas.Bool.{cases_lt}
@@ -11,17 +11,15 @@ use Rattle.math_ntt.proofs.MatrixPlaces.{rows_are_full, rows_hold_cells}
 use Rattle.math_transforms.proofs.PresentIndices.{lg-only}
 use Rattle.math_transforms.proofs.WrittenCells.{row-within}
 use Rattle.math_transforms.specs.DomainValues.{matrix_of}
-use Rattle.math_transforms.specs.Matrices.{MatrixOf, column_of}
+use Rattle.math_transforms.specs.Matrices.{column_of}
 use Rattle.math_shards.specs.declared.shards.Shard.{Shard}
-use Rattle.math_shards.specs.Fitting.{DoChosenJoinTo, HasFirstValues, HasRow}
+use Rattle.math_shards.specs.Fitting.{HasFirstValues, HasRow, MayBeData}
 use Rattle.math_shards.specs.Joining.{IsSound}
 use Rattle.math_shards.specs.ShardEncoding.{AreSameShards}
 use Rattle.math_shards.specs.Shards.{IsSameAsOne, IsShardOf, JoinTo, has_index, rows_for, value_at, width_for}
 use Rattle.math_shards.specs.Strips.{HasStripValues}
-use Rattle.math_shards.specs.Weights.{HasColumnsOf}
 use Rattle.math_shards.proofs.CountedIndices.{none_lost}
-use Rattle.math_shards.proofs.FilledShards.{index_found, index_there, no_indices}
-use Rattle.math_shards.proofs.JoinedShards.{joined_some}
+use Rattle.math_shards.proofs.FilledShards.{index_found, index_there}
 use Rattle.math_shards.proofs.SameCells.{nought, same_by_items}
 
 -- the row of an index below the number of rows is within the cells
@@ -102,11 +100,6 @@ first_are_some n shards many = λ k d l.
     let s : Shard = get_or shards k d in
     (k, s, early.1, get_or_default shards k s d early.1, subst (AreSameShards s) (sym (get_or-take n shards k d early.0)) (same_as_itself s))
 
--- shards that have polynomials are not none
-pub some_of_columns : (first : Shard) (shards : List Shard) (m : MatrixOf F) → 1 ≤ first.min → HasColumnsOf first shards m → 0 < length shards
-some_of_columns first [] m some c = absurd (omega (arith, some, c.enough, no_indices first.total))
-some_of_columns first (s ∷ shards) m some c = omega arith
-
 -- the indices of chosen shards are indices of all
 index_of_chosen : (shards chosen : List Shard) → All (IsSameAsOne shards) chosen → (i : ℕ) → has_index chosen i ≡ true → has_index shards i ≡ true
 index_of_chosen shards chosen same_as i h =
@@ -116,33 +109,28 @@ index_of_chosen shards chosen same_as i h =
     ap (λ (s : Shard). s.index) one.3 ∙ one.4.index ∙ ap (λ (s : Shard). s.index) found.3 ∙ found.4 in
     subst (λ j. has_index shards j ≡ true) at (index_there shards one.0 one.1 one.2)
 
--- where chosen shards join to data, and all shards are those of the data, all join to them
-pub join_of_chosen : (words : List ℕ) (first : Shard) (shards : List Shard) → DoChosenJoinTo words shards → All (IsShardOf words first.min first.total) shards → JoinTo words shards
-join_of_chosen words first shards chosen each =
-    let j = chosen.2 in
-    let there : 0 < length chosen.0 = joined_some words chosen.0 j in
-    let of = j.each 0 first there in
-    let one = chosen.1 0 first there in
-    let also : IsShardOf words first.min first.total one.1 = subst (IsShardOf words first.min first.total) one.3 (each one.0 one.1 one.2) in
-    let least : first.min ≡ j.min = sym also.least ∙ one.4.least ∙ of.least in
-    let most : first.total ≡ j.total = sym also.most ∙ one.4.most ∙ of.most in
-    record {
-      min = j.min;
-      total = j.total;
-      some = j.some;
-      within = j.within;
-      short = j.short;
-      each_word = j.each_word;
-      few = j.few;
-      enough = omega (arith, j.enough, none_lost j.total chosen.0 shards (index_of_chosen shards chosen.0 chosen.1));
-      each = subst (λ m. All (IsShardOf words m j.total) shards) least (subst (λ t. All (IsShardOf words first.min t) shards) most each);
-    }
+-- words that may be the data of chosen shards may be those of all
+pub may_be_of_all : (first : Shard) (shards chosen : List Shard) (words : List ℕ) → All (IsSameAsOne shards) chosen → MayBeData first chosen words → MayBeData first shards words
+may_be_of_all first shards chosen words same_as h = record {
+  short = h.short;
+  each_word = h.each_word;
+  few = h.few;
+  enough = omega (arith, h.enough, none_lost first.total chosen shards (index_of_chosen shards chosen same_as));
+}
 
--- the width of the data that chosen shards join to is the number of cells
-pub width_of_chosen : (words : List ℕ) (first : Shard) (shards : List Shard) → All (IsSound first) shards → DoChosenJoinTo words shards → length first.cells.items ≡ width_for first.min words
-width_of_chosen words first shards sound chosen =
-    let j = chosen.2 in
-    let there : 0 < length chosen.0 = joined_some words chosen.0 j in
-    let of = j.each 0 first there in
-    let s = chosen_sound first shards chosen.0 chosen.1 sound 0 first there in
-    sym s.0.count ∙ of.count ∙ ap (λ m. width_for m words) (sym of.least ∙ s.0.least)
+-- and where all shards are those of these words, they join to them
+pub join_of_fitted : (words : List ℕ) (first : Shard) (shards : List Shard) → 0 < length shards → All (IsSound first) shards → MayBeData first shards words
+    → All (IsShardOf words first.min first.total) shards → JoinTo words shards
+join_of_fitted words first shards some sound h each =
+    let s = sound 0 first some in
+    record {
+      min = first.min;
+      total = first.total;
+      some = omega (arith, s.0.least, s.0.some);
+      within = omega (arith, s.0.least, s.0.most, s.0.within);
+      short = h.short;
+      each_word = h.each_word;
+      few = h.few;
+      enough = h.enough;
+      each = each;
+    }

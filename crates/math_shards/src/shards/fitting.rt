@@ -1,22 +1,22 @@
 //! More shards than give the data back.
 //!
-//! The first `min` shards of distinct indices give data by their weights. Every shard is then
-//! compared with the values of these data, which are had strip by strip of columns as a split has
-//! them. Where all shards fit they are shards of the data; where one does not, they may be damaged,
-//! and nothing is said here.
+//! The first `min` shards of distinct indices give words by their weights. Every shard is then
+//! compared with the values of these words at its index, which are had strip by strip of columns, as
+//! a split has them. Where all shards fit, the words are their data; where one does not, some shard
+//! is damaged, and which error is due is not looked at here.
 
 ghost use Rattle.std.specs.Prelude.{◌≡◌, ◌+◌, ◌*◌, ◌<◌, ◌≤◌, ◌^◌, All, length, IsTrue, IfOk};
 ghost use Rattle.std.specs.Prelude.{IfSome};
-ghost use Rattle.math_shards.specs.Fitting.{DoChosenJoinTo, HasFirstValues, HasRow};
+ghost use Rattle.math_shards.specs.Fitting.{HasFirstValues, HasRow, MayBeData};
 ghost use Rattle.math_shards.specs.Joining.{IsSound};
-ghost use Rattle.math_shards.specs.Shards.{IsShardOf, JoinTo, width_for};
+ghost use Rattle.math_shards.specs.Shards.{IsShardOf, JoinTo};
 ghost use Rattle.math_shards.specs.Strips.{IsLayoutOf, IsTableOf};
 
 use super::Shard;
 use super::choosing::{are_distinct, distinct_copies};
 use super::joining::are_equal;
 use super::strips::{Layout, layout_of, most_cols, strip_room, write_values};
-use super::unpacking::data_of_elements;
+use super::unpacking::{leading_data, unpacked};
 use super::weighing::{are_weights_taken, weighed_coefficients};
 use math_base::algebra::Mem;
 use math_base::fields::goldilocks::F;
@@ -109,53 +109,56 @@ fn fit_strips(
     true
 }
 
-/// Whether each of the shards, which have as many cells as those of the data, is the one of its
-/// index for the data. Takes memory as `split` does, but for no shards.
+/// Whether each of the shards is the one of its index for the data. Takes memory as `split` does,
+/// but for no shards.
 fn are_shards_of(alloc: Global, data: &[u64], shards: &[Shard], first: &Shard) -> Mem<bool>
     requires some { 1 ≤ first.now.min }
     requires within { first.now.min ≤ first.now.total }
     requires sound { All (IsSound first.now) shards.now }
-    requires width { length first.now.cells.items ≡ width_for first.now.min «data».now }
     ensures { IfOk result (λ answer. IsTrue answer
         → All (IsShardOf «data».now first.now.min first.now.total) shards.now) }
 {
     let layout = layout_of(data, first.min, first.total);
+    if layout.width != first.cells.len() {
+        return Ok(false);
+    }
     let table = evaluation_table::<F>(alloc, layout.lg)?;
     let most = most_cols(layout);
     let mut room = strip_room(alloc, layout, most)?;
     Ok(fit_strips(alloc, data, layout, &table, most, &mut room, shards))
 }
 
-/// The data that shards give by weights, where these are taken and there are such data.
-fn data_by_weights(alloc: Global, shards: &[Shard], first: &Shard) -> Mem<Option<Vec<u64>>>
+/// The words that shards give by weights, where these are taken and the coefficients begin with
+/// data. Whether they are the data of the shards is not looked at.
+fn words_by_weights(alloc: Global, shards: &[Shard], first: &Shard) -> Mem<Option<Vec<u64>>>
     requires some { 1 ≤ first.now.min }
     requires sound { All (IsSound first.now) shards.now }
-    ensures { IfOk result (λ answer. IfSome answer (λ words. JoinTo words.items shards.now)) }
+    ensures { IfOk result (λ answer. IfSome answer
+        (λ words. MayBeData first.now shards.now words.items)) }
 {
     let Some(elements) = weighed_coefficients(alloc, shards, first)? else {
         return Ok(None);
     };
-    let Some(data) = data_of_elements(alloc, &elements, first)? else {
-        return Ok(None);
-    };
-    Ok(Some(data))
+    let words = unpacked(alloc, &elements)?;
+    Ok(leading_data(words))
 }
 
-/// The data that the first `min` shards of distinct indices give by weights, where these are taken
-/// and there are such data. These shards are copied where they are not the first ones of all.
-fn data_of_chosen(alloc: Global, shards: &[Shard], first: &Shard) -> Mem<Option<Vec<u64>>>
+/// The words that the first `min` shards of distinct indices so give. These shards are copied where
+/// they are not the first ones of all.
+fn words_of_chosen(alloc: Global, shards: &[Shard], first: &Shard) -> Mem<Option<Vec<u64>>>
     requires some { 1 ≤ first.now.min }
     requires many { first.now.min ≤ length shards.now }
     requires sound { All (IsSound first.now) shards.now }
-    ensures { IfOk result (λ answer. IfSome answer (λ words. DoChosenJoinTo words.items shards.now)) }
+    ensures { IfOk result (λ answer. IfSome answer
+        (λ words. MayBeData first.now shards.now words.items)) }
 {
     let leading = &shards[..first.min as usize];
     if are_distinct(leading) {
-        let found = data_by_weights(alloc, leading, first)?;
+        let found = words_by_weights(alloc, leading, first)?;
         return Ok(found);
     }
     let copies = distinct_copies(alloc, shards, first.min as usize)?;
-    let found = data_by_weights(alloc, &copies, first)?;
+    let found = words_by_weights(alloc, &copies, first)?;
     Ok(found)
 }
 
@@ -169,7 +172,7 @@ pub(super) fn fitted_data(alloc: Global, shards: &[Shard], first: &Shard) -> Mem
     if !are_weights_taken(first) || shards.len() <= first.min as usize {
         return Ok(None);
     }
-    let Some(data) = data_of_chosen(alloc, shards, first)? else {
+    let Some(data) = words_of_chosen(alloc, shards, first)? else {
         return Ok(None);
     };
     if !are_shards_of(alloc, &data, shards, first)? {

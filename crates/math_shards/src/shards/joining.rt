@@ -3,7 +3,7 @@
 ghost use Rattle.std.specs.Prelude.{◌≡◌, ◌↔◌, ◌+◌, ◌*◌, ◌<◌, ◌≤◌, ◌^◌, ◌++◌, ℕ, List, All, length};
 ghost use Rattle.std.specs.Prelude.{take, IsTrue, IsSome, IfOk, IfErr, IfSome, OnOk, MatchResult};
 ghost use Rattle.std.specs.Prelude.{◌⊎◌, false, replicate};
-ghost use Rattle.std.specs.Int.{IsNextPowerOfTwo, IsPowerOfTwo};
+ghost use Rattle.std.specs.Int.{IsNextPowerOfTwo};
 ghost use Rattle.std.specs.List.{AllZip};
 ghost use Rattle.math_base.specs.Elements.{same};
 ghost use Rattle.math_base.specs.Packing.{words_of};
@@ -24,6 +24,7 @@ use super::{Error, Shard};
 use math_base::algebra::Mem;
 use math_base::fields::goldilocks::F;
 use math_ntt::ntt::{EvaluationVector, PolynomialVector};
+use math_transforms::transform::lg_of;
 use std::alloc::{AllocError, Global};
 
 /// The data of which each of the shards is one. There are no others, and a shard that is handed in
@@ -36,12 +37,16 @@ use std::alloc::{AllocError, Global};
 /// that are those of no data with `Inconsistent`. Where more than `min` shards are there, damage to
 /// one is so found, and where just `min` are there it is not.
 ///
-/// Just `min` shards of distinct indices, at most 256 and no more than a shard has cells, are
-/// joined by weights: beside the data it then takes memory for as many elements as these shards
+/// Where `min` is at most 256 and no more than a shard has cells, `min` shards of distinct indices
+/// are joined by weights: beside the data it then takes memory for as many elements as these shards
 /// have cells, and for a few times N rows of `min` cells, where N is `total` rounded up to a power
-/// of two. Other shards are joined by transforms, with memory for a few times N rows of as many
-/// cells as a shard has. Who takes shards from strangers bounds `total` first. Nothing is allocated
-/// by a number that a shard claims of its data before the cells bear it out.
+/// of two. With further shards the first `min` of distinct indices are joined so, with memory for
+/// their cells once more where an index stands twice among the first `min`, and then all shards are
+/// compared with the data, in the memory that `split` takes beside its shards. Where one of them
+/// does not fit, and where `min` is greater, shards are joined by transforms, with memory for a few
+/// times N rows of as many cells as a shard has. Who takes shards from strangers bounds `total`
+/// first. Nothing is allocated by a number that a shard claims of its data before the cells bear it
+/// out.
 pub fn join(alloc: Global, shards: &[Shard]) -> Result<Vec<u64>, Error>
     ensures ok { IfOk result (λ words. JoinTo words.items shards.now) }
     ensures found { (words : List ℕ) → JoinTo words shards.now
@@ -141,15 +146,6 @@ pub(super) fn are_equal(cells: &[F], others: &[F]) -> bool
     true
 }
 
-/// The exponent of a power of two.
-fn lg_of(points: usize) -> usize
-    requires { IsPowerOfTwo points }
-    ensures value { points ≡ 2 ^ result }
-    ensures small { result < 64 }
-{
-    points.trailing_zeros() as usize
-}
-
 /// The vector of values for shards like the first one, of which no row is filled.
 pub(super) fn no_rows(alloc: Global, first: &Shard) -> Mem<EvaluationVector<F>>
     ensures empty { IfOk result (λ e. (lg : ℕ) × IsNextPowerOfTwo first.now.total (2 ^ lg)
@@ -162,7 +158,7 @@ pub(super) fn no_rows(alloc: Global, first: &Shard) -> Mem<EvaluationVector<F>>
     if points.checked_mul(cols).is_none() {
         return Err(AllocError);
     }
-    let values = EvaluationVector::empty(alloc, lg_of(points), cols)?;
+    let values = EvaluationVector::empty(alloc, lg_of(points) as usize, cols)?;
     Ok(values)
 }
 

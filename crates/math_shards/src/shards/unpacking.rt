@@ -14,7 +14,7 @@ use math_base::fields::goldilocks::F;
 use std::alloc::Global;
 
 /// The words that the elements unpack to.
-fn unpacked(alloc: Global, elements: &[F]) -> Mem<Vec<u64>>
+pub(super) fn unpacked(alloc: Global, elements: &[F]) -> Mem<Vec<u64>>
     ensures { IfOk result (λ words. words.items ≡ words_of elements.now) }
 {
     let mut words = Vec::with_capacity(alloc, elements.len() - elements.len() / 64)?;

@@ -1,4 +1,4 @@
-use Rattle.std.proofs.Common.{◌≡◌, ◌∙◌, sym, ap, subst, arith}
+use Rattle.std.proofs.Common.{◌≡◌, ◌∙◌, length, sym, ap, arith, rules}
 use Rattle.math_shards.specs.Shards.{width_for}
 use Rattle.math_shards.proofs.FittedShards.{shards_with_values}
 use Rattle.math_shards.proofs.StripSizes.{wide_rows}
@@ -17,13 +17,14 @@ fit_strips-requires-clause-indices c = λ k d l.
 pub fit_strips-requires-clause-cells : goal.fit_strips-requires-clause-cells
 fit_strips-requires-clause-cells c = λ k d l.
     let s = c.requires.sound k d l in
-    let made = c.layout_of-layout.ensures in
-    s.0.count ∙ c.requires.width ∙ sym (ap (λ m. width_for m c.args.data.now) made.min) ∙ sym made.layout.width
+    let wide : length c.args.first.now.cells.items ≡ c.len.result = search rules in
+    s.0.count ∙ wide ∙ sym c.if-layout-len.false
 
 pub returns : goal.returns
 returns c = λ fit.
     let made = c.layout_of-layout.ensures in
     let layout = c.layout_of-layout.result in
-    let all : layout.width ≡ width_for c.args.first.now.min c.args.data.now = made.layout.width ∙ ap (λ m. width_for m c.args.data.now) made.min in
-    shards_with_values c.args.data.now layout.lg layout.width c.args.first.now c.args.shards.now made.points c.requires.width all c.requires.sound
+    let width : layout.width ≡ width_for c.args.first.now.min c.args.data.now = made.layout.width ∙ ap (λ m. width_for m c.args.data.now) made.min in
+    let wide : length c.args.first.now.cells.items ≡ c.len.result = search rules in
+    shards_with_values c.args.data.now layout.lg layout.width c.args.first.now c.args.shards.now made.points (wide ∙ sym c.if-layout-len.false ∙ width) width c.requires.sound
     (rw made.min at (c.fit_strips.ensures fit))
