@@ -136,9 +136,9 @@ static void shards(uint32_t min, uint32_t total) {
   fill(a, BLOCK / 8);
   if (cwm_shard_bytes_sizes(BLOCK, min, total, &size) != CWM_DONE || size * total > ROOM) exit(2);
   if (cwm_shard_sizes(BLOCK / 8, min, total, &cols) != CWM_DONE || 8 * cols * total > ROOM) exit(2);
-  size_t words = rows * cols + 64 * rows;
+  size_t words = rows * cols + 64 * rows, strip = 32768 / rows > 8 ? 32768 / rows : 8;
   peak = 0;
-  count("cwm_split", cwm_split(a, BLOCK / 8, min, total, cells, total * cols), 3, words);
+  count("cwm_split", cwm_split(a, BLOCK / 8, min, total, cells, total * cols), 1, rows * (cols < strip ? cols : strip) + rows);
   count("cwm_split_bytes", cwm_split_bytes(back, BLOCK, min, total, bytes, total * size), 4, words);
   for (uint32_t k = min; k <= total; k += total > min ? total - min : 1) {
     count("cwm_join", cwm_join(indices, k, min, total, cells, k * cols, b, CELLS, &written), 9, words);

@@ -9,10 +9,10 @@ ghost use Rattle.commonware_math_c.specs.WordElements.{AreElements};
 ghost use Rattle.commonware_math_c.specs.WordEncodings.{StandInFront};
 ghost use Rattle.commonware_math_c.specs.WordShards.{AreRefused, AreRefusedCorrecting, AreRowsOf, AreWordShards, AreWordsOfShards, DoCorrectTo, DoJoinTo, HaveShardSizes, IsSplit};
 
-use crate::elements::{elements, write_numbers};
+use crate::elements::elements;
 use commonware_math::algebra::Mem;
 use commonware_math::fields::goldilocks::F;
-use commonware_math::shards::{Error, Shard, join, join_corrected, split};
+use commonware_math::shards::{Error, Shard, join, join_corrected, split_rows};
 use std::alloc::Global;
 
 /// 2^57: there are fewer words of data, and fewer of shards.
@@ -93,9 +93,7 @@ pub fn write_shards(
     ensures ok { OnOk result (AreWordsOfShards words.now min total cells.new) }
     ensures err { OnErr result (cells.new ≡ cells.old) }
 {
-    let shards = split(alloc, words, min, total)?;
-    let found = all_cells(alloc, &shards)?;
-    write_numbers(cells, &found);
+    split_rows(alloc, words, min, total, cells)?;
     Ok(())
 }
 
