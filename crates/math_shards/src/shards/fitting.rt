@@ -1,9 +1,9 @@
 //! More shards than give the data back.
 //!
 //! The first `min` shards of distinct indices give words by their weights. Every shard is then
-//! compared with the values of these words at its index, which are had strip by strip of columns, as
-//! a split has them. Where all shards fit, the words are their data; where one does not, some shard
-//! is damaged, and which error is due is not looked at here.
+//! compared with the values of these words at its index, which are had strip by strip of columns,
+//! as a split has them. Where all shards fit, the words are their data; where one does not, some
+//! shard is damaged, and which error is due is not looked at here.
 
 ghost use Rattle.std.specs.Prelude.{◌≡◌, ◌+◌, ◌*◌, ◌<◌, ◌≤◌, ◌^◌, All, length, IsTrue, IfOk};
 ghost use Rattle.std.specs.Prelude.{IfSome};
