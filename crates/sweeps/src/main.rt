@@ -6,6 +6,7 @@
 
 mod encodings;
 mod hostile;
+mod secrets;
 mod shards;
 mod shares;
 mod transforms;
@@ -51,6 +52,7 @@ fn run(alloc: Global, table: &mut Table<'_>) -> Mem<()> {
     table.set_type("field", Texts::Apart, true);
     table.sweep::<encodings::Given>(alloc, &encodings::NAMES)?;
     table.sweep::<shards::Given>(alloc, &shards::NAMES)?;
+    table.sweep::<secrets::Given>(alloc, &secrets::NAMES)?;
     transforms::recovery_of_32768(alloc, table)?;
     hostile::generated_strings(alloc, table)?;
     hostile::claims(alloc, table)
