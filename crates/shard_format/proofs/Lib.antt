@@ -4,3 +4,4 @@ pub mod CountedSplits
 pub mod RecordPlaces
 pub mod SpelledElements
 pub mod SpelledRecords
+pub mod PutElements

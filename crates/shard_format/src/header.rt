@@ -208,7 +208,7 @@ fn read_keys(alloc: Global, input: &mut &[u8]) -> Result<Keys, Error>
 }
 
 /// The number of an element.
-fn number_of(a: F) -> u64
+pub(crate) fn number_of(a: F) -> u64
     ensures { result ≡ number a }
 {
     u64::from_le_bytes(a.to_le_bytes())

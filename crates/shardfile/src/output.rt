@@ -4,10 +4,9 @@ ghost use Rattle.std.specs.Prelude.{◌≡◌, ◌+◌, ◌≤◌, length, IfOk,
 
 use crate::fault::Fault;
 use crate::names::folder_and_name;
-use math_codec::codec::Write;
 use shard_blocks::Shard;
-use shard_fingerprints::{Keys, cells_fingerprints};
 use shard_format::header::Header;
+use shard_format::records::write_record;
 use std::alloc::Global;
 use std::fs;
 use std::fs::{File, Metadata, OpenOptions, Permissions};
@@ -317,8 +316,8 @@ pub struct ShardFiles {
     partials: Vec<Partial>,
     /// The number of bytes of the file whose shards are still to be written.
     pub left: u64,
-    /// The keys of the split.
-    keys: Keys,
+    /// The header of the split.
+    split: Header,
     /// The number of the next block.
     block: u64,
     /// Room for one record.
@@ -333,7 +332,7 @@ impl ShardFiles {
         ShardFiles {
             partials: Vec::new(alloc),
             left: split.length,
-            keys: split.keys,
+            split: *split,
             block: 0,
             record: Vec::new(alloc),
         }
@@ -367,12 +366,12 @@ impl ShardFiles {
     {
         let ShardFiles {
             partials,
-            keys,
+            split,
             block,
             record,
             ..
         } = self;
-        append_all(rt, partials, shards, keys, *block, record)?;
+        append_all(rt, partials, shards, split, *block, record)?;
         self.block = self.block.saturating_add(1);
         self.left -= bytes;
         Ok(())
@@ -403,33 +402,21 @@ fn append_all(
     rt: &HostRuntime,
     partials: &mut [Partial],
     shards: &[Shard],
-    keys: &Keys,
+    split: &Header,
     block: u64,
     record: &mut Vec<u8>,
 ) -> Result<(), Fault> {
     for (partial, shard) in partials.iter_mut().zip(shards) {
-        record.clear();
-        add_record(rt.alloc(), shard, keys, block, record)?;
+        if shard.cells.len() > u32::MAX as usize {
+            return Err(Fault::Cells);
+        }
+        let header = Header {
+            index: shard.index,
+            ..*split
+        };
+        write_record(rt.alloc(), &header, block, &shard.cells, record)?;
         partial.append(rt, record)?;
     }
-    Ok(())
-}
-
-/// Adds the encoding of the shard and its two fingerprints.
-fn add_record(
-    alloc: Global,
-    shard: &Shard,
-    keys: &Keys,
-    block: u64,
-    out: &mut Vec<u8>,
-) -> Result<(), Fault> {
-    if shard.cells.len() > u32::MAX as usize {
-        return Err(Fault::Cells);
-    }
-    shard.write(alloc, out)?;
-    let fingerprints = cells_fingerprints(keys, block, shard.index, &shard.cells);
-    fingerprints.first.write(alloc, out)?;
-    fingerprints.second.write(alloc, out)?;
     Ok(())
 }
 
