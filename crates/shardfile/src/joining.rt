@@ -86,7 +86,7 @@ fn restore_file(
     check_count(rt, wanted, &split, files)?;
     let how = Manner::new(rt, force, first_rights(files))?;
     let mut restored = Restored::create(rt, owned(rt, out)?, &how, split.length)?;
-    match fill(rt, &split, files, compares_all, &mut restored) {
+    match restore_blocks(rt, &split, files, compares_all, &mut restored) {
         Ok(()) => restored.finish(rt),
         Err(fault) => {
             restored.discard(rt);
@@ -110,7 +110,7 @@ pub fn check_count(
 }
 
 /// Writes the blocks in order, each from the first shards that fit, or from all compared.
-fn fill(
+fn restore_blocks(
     rt: &HostRuntime,
     split: &Header,
     files: &mut [ShardFile],

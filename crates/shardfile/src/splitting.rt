@@ -59,7 +59,7 @@ pub fn split(
         files.discard(rt);
         return Err(fault);
     }
-    match fill(rt, &mut source, file, &header, &mut files) {
+    match write_blocks(rt, &mut source, file, &header, &mut files) {
         Ok(()) => files.finish(rt),
         Err(fault) => {
             files.discard(rt);
@@ -145,7 +145,7 @@ fn check_beyond(rt: &HostRuntime, file: &str, total: u32) -> Result<(), Fault> {
 }
 
 /// Writes the shards of each block.
-fn fill(
+fn write_blocks(
     rt: &HostRuntime,
     source: &mut File,
     file: &str,

@@ -1,4 +1,4 @@
-use Rattle.shardfile.proofs.splitting.fill.Given as goal
+use Rattle.shardfile.proofs.splitting.write_blocks.Given as goal
 
 abbrev pub decreases-loop-files : goal.decreases-loop-files
 decreases-loop-files l = l.files.left

@@ -1,4 +1,4 @@
-use Rattle.shardfile.proofs.joining.fill.Given as goal
+use Rattle.shardfile.proofs.joining.restore_blocks.Given as goal
 
 abbrev pub decreases-loop-restored : goal.decreases-loop-restored
 decreases-loop-restored l = l.restored.left
