@@ -60,7 +60,7 @@ fn print(rt: &HostRuntime, bytes: &[u8]) -> Result<(), Fault> {
 }
 
 /// Says what is to be said on standard error, as far as that can be, and then writes the answer.
-fn tell(rt: &HostRuntime, told: &Told) -> Result<(), Fault> {
+fn print_told(rt: &HostRuntime, told: &Told) -> Result<(), Fault> {
     let _told = eprint!(rt; "{}", told.err);
     print(rt, &told.out)
 }
@@ -72,7 +72,7 @@ fn deal(rt: &HostRuntime, words: &[String]) -> Result<(), Fault> {
     let mut rng: StdRng = make_rng(rt)?;
     let secret = input(rt, MOST_BYTES as u64 + 1, "the secret")?;
     let told = dealt(rt.alloc(), &secret, t, n, &mut rng)?;
-    tell(rt, &told)
+    print_told(rt, &told)
 }
 
 /// The secret of the shares that are read.
@@ -82,7 +82,7 @@ fn combine(rt: &HostRuntime, words: &[String]) -> Result<(), Fault> {
     }
     let text = input(rt, u64::MAX, "shares, a line each,")?;
     let told = combined(rt.alloc(), &text)?;
-    tell(rt, &told)
+    print_told(rt, &told)
 }
 
 /// The words after the program's name.
