@@ -5,3 +5,4 @@ pub mod OneBlock
 pub mod CellCounts
 pub mod BlockErrors
 pub mod OneWrong
+pub mod PutWords

@@ -16,7 +16,7 @@ pub word_count : (n : ℕ) → div_ceil n 8 ≡ piece_count 64 (8 * n)
 word_count n = omega arith
 
 -- eight bytes a word
-length_unpacked : (words : List ℕ) → length (flat_map (to_le_bytes w64) words) ≡ 8 * length words
+pub length_unpacked : (words : List ℕ) → length (flat_map (to_le_bytes w64) words) ≡ 8 * length words
 length_unpacked words =
     let e : 8 * length (flat_map (to_le_bytes w64) words) ≡ 64 * length words =
     sym (length-joined 8 (flat_map (to_le_bytes w64) words)) ∙ ap length (bits_of_all_bytes words) ∙ length-joined 64 words in

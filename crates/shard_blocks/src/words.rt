@@ -1,6 +1,6 @@
 //! Bytes as words, and these as bytes.
 
-ghost use Rattle.std.specs.Prelude.{◌≡◌, ◌↔◌, ◌-◌, ◌<◌, ◌++◌, ℕ, List, All, length, replicate};
+ghost use Rattle.std.specs.Prelude.{◌≡◌, ◌↔◌, ◌+◌, ◌-◌, ◌*◌, ◌<◌, ◌≤◌, ◌++◌, ℕ, List, All, length, take, drop, replicate};
 ghost use Rattle.std.specs.Prelude.{IsTrue, IfOk, IfSome, IsSomeAnd};
 ghost use Rattle.std.specs.Int.{to_le_bytes, w64};
 ghost use Rattle.std.specs.List.{flat_map};
@@ -69,9 +69,34 @@ fn all_zero(bytes: &[u8]) -> bool
 fn unpacked(alloc: Global, words: &[u64]) -> Mem<Vec<u8>>
     ensures { IfOk result (λ bytes. bytes.items ≡ flat_map (to_le_bytes w64) words.now) }
 {
-    let mut bytes = Vec::with_capacity(alloc, words.len().saturating_mul(8))?;
-    for word in words {
-        bytes.extend_from_slice(&word.to_le_bytes())?;
-    }
+    let mut bytes = Vec::new(alloc);
+    bytes.resize(8 * words.len(), 0)?;
+    put_words(&mut bytes, words);
     Ok(bytes)
+}
+
+/// Puts the eight bytes of each word in place of the bytes, the lowest first.
+fn put_words(bytes: &mut [u8], words: &[u64])
+    requires { length bytes.old ≡ 8 * length words.now }
+    ensures { bytes.new ≡ flat_map (to_le_bytes w64) words.now }
+{
+    for i in 0..words.len() {
+        put_word(bytes, 8 * i, words[i]);
+    }
+}
+
+/// Puts the eight bytes of a word at this place, the lowest first.
+fn put_word(bytes: &mut [u8], at: usize, word: u64)
+    requires { at + 8 ≤ length bytes.old }
+    ensures { bytes.new ≡ take at bytes.old ++ (to_le_bytes w64 word ++ drop (at + 8) bytes.old) }
+{
+    let eight = word.to_le_bytes();
+    bytes[at] = eight[0];
+    bytes[at + 1] = eight[1];
+    bytes[at + 2] = eight[2];
+    bytes[at + 3] = eight[3];
+    bytes[at + 4] = eight[4];
+    bytes[at + 5] = eight[5];
+    bytes[at + 6] = eight[6];
+    bytes[at + 7] = eight[7];
 }

@@ -1,7 +1,6 @@
-use Rattle.std.proofs.Common.{◌≡◌, ◌≤◌, ◌<◌, ◌%◌, ℕ, length, ◌∙◌, sym, ap, arith, IsNone, rules}
+use Rattle.std.proofs.Common.{length, ◌∙◌, sym, ap, arith, IsNone, rules}
 use Rattle.std.proofs.lemmas.List.{take_all}
 use Rattle.std.proofs.lemmas.Bool.{eqb-true}
-use Rattle.shard_format.specs.Records.{elements_spelling}
 use Rattle.shard_format.proofs.SpelledElements.{chunks_are_spelled, length_spelled, next_spelled, some_of_test, spelled_of_all, word_spelled}
 use Rattle.shard_format.proofs.records.are_elements.Goals as goal
 

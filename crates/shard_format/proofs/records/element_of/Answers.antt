@@ -1,4 +1,4 @@
-use Rattle.std.proofs.Common.{◌≡◌, ◌<◌, ℕ, length, ◌∙◌, arith}
+use Rattle.std.proofs.Common.{arith}
 use Rattle.shard_format.proofs.SpelledElements.{below_where_spelled, spelled_where_below}
 use Rattle.shard_format.proofs.records.element_of.Goals as goal
 

@@ -1,8 +1,8 @@
-use Rattle.std.proofs.Common.{◌≡◌, ◌++◌, ◌∙◌, IsTrue, sym, ap, rules}
+use Rattle.std.proofs.Common.{◌++◌, ◌∙◌, sym, ap, rules}
 use Rattle.std.proofs.lemmas.Bool.Decides.{Decides-eqb}
 use Rattle.std.proofs.lemmas.Slice.Eq.{strip_prefix_is}
-use Rattle.shard_format.specs.Records.{IsRecordOf, elements_spelling}
-use Rattle.shard_format.proofs.SpelledRecords.{after_numbers, elements_fit, record_made}
+use Rattle.shard_format.specs.Records.{elements_spelling}
+use Rattle.shard_format.proofs.SpelledRecords.{elements_fit, record_made}
 use Rattle.shard_format.proofs.records.is_record_of.Goals as goal
 
 pub returns-in_default : goal.returns-in_default

@@ -1,4 +1,4 @@
-use Rattle.std.proofs.Common.{◌≡◌, ◌+◌, ◌*◌, ℕ, length, drop, ◌∙◌, arith}
+use Rattle.std.proofs.Common.{◌≡◌, ◌+◌, ◌*◌, length, drop, ◌∙◌, arith}
 use Rattle.shard_format.specs.Records.{HaveFingerprints}
 use Rattle.shard_format.proofs.SpelledRecords.{record_written}
 use Rattle.shard_format.proofs.records.write_record.Goals as goal

@@ -1,0 +1,61 @@
+-- Words that are put into bytes, the lowest byte first.
+use Rattle.std.proofs.Common.{◌≡◌, ℕ, ◌+◌, ◌*◌, ◌<◌, ◌≤◌, List, [], ◌∷◌, ◌++◌, length, take, drop, get_or, refl, sym, ◌∙◌, ap, ap₂, arith, append-nil}
+use Rattle.std.proofs.Math.ListN.{set}
+use Rattle.std.proofs.Math.Seq.{paste}
+use Rattle.std.proofs.lemmas.List.{drop_all, length-take-le, take_all, take_more}
+use Rattle.std.proofs.lemmas.List.Concat.{flat_map-append}
+use Rattle.std.proofs.lemmas.List.Edits.{paste_all, paste_more, paste_none, paste-paste}
+use Rattle.std.specs.Int.{to_le_bytes, w64}
+use Rattle.std.specs.List.{flat_map}
+use Rattle.shard_blocks.proofs.UnpackedBytes.{length_unpacked}
+
+next_set : (d s x : List ℕ) (at j place : ℕ) → place ≡ at + j → x ≡ paste d at s j → at + j < length d → j < length s → set x place (get_or s j 0) ≡ paste d at s (j + 1)
+next_set d s x at j place p e h k = rw (p, e) (paste_more d at s j 0 h k)
+
+-- eight bytes that are put one by one
+pub eight_put : (d s : List ℕ) (at : ℕ) → at + 8 ≤ length d → length s ≡ 8
+    → set (set (set (set (set (set (set (set d at (get_or s 0 0)) (at + 1) (get_or s 1 0)) (at + 2) (get_or s 2 0)) (at + 3) (get_or s 3 0)) (at + 4) (get_or s 4 0)) (at + 5) (get_or s 5 0)) (at + 6) (get_or s 6 0)) (at + 7) (get_or s 7 0)
+    ≡ take at d ++ (s ++ drop (at + 8) d)
+eight_put d s at room l =
+    let e0 = next_set d s d at 0 at (omega arith) (paste_none d at s) (omega (arith, room)) (omega (arith, l)) in
+    let e1 = next_set d s _ at 1 (at + 1) refl e0 (omega (arith, room)) (omega (arith, l)) in
+    let e2 = next_set d s _ at 2 (at + 2) refl e1 (omega (arith, room)) (omega (arith, l)) in
+    let e3 = next_set d s _ at 3 (at + 3) refl e2 (omega (arith, room)) (omega (arith, l)) in
+    let e4 = next_set d s _ at 4 (at + 4) refl e3 (omega (arith, room)) (omega (arith, l)) in
+    let e5 = next_set d s _ at 5 (at + 5) refl e4 (omega (arith, room)) (omega (arith, l)) in
+    let e6 = next_set d s _ at 6 (at + 6) refl e5 (omega (arith, room)) (omega (arith, l)) in
+    let e7 = next_set d s _ at 7 (at + 7) refl e6 (omega (arith, room)) (omega (arith, l)) in
+    e7 ∙ paste_all d at s 8 (sym l)
+
+abbrev bytes_for : List ℕ → List ℕ
+bytes_for words = flat_map (to_le_bytes w64) words
+
+-- the bytes once the first words were put in front
+abbrev pub put_in_front : List ℕ → List ℕ → List ℕ
+put_in_front d words = paste d 0 (bytes_for words) (8 * length words)
+
+-- one more
+pub next_put : (d b new words : List ℕ) (i word : ℕ) → i < length words → word ≡ get_or words i 0
+    → b ≡ put_in_front d (take i words) → new ≡ take (8 * i) b ++ (to_le_bytes w64 word ++ drop (8 * i + 8) b) → new ≡ put_in_front d (take (i + 1) words)
+next_put d b new words i word l w before after =
+    let front = take i words in
+    let s = bytes_for front in
+    let t = to_le_bytes w64 word in
+    let n : length front ≡ i = length-take-le i words (omega (arith, l)) in
+    let m : length (take (i + 1) words) ≡ i + 1 = length-take-le (i + 1) words (omega (arith, l)) in
+    let long : 8 * length front ≡ length s = sym (length_unpacked front) in
+    let more : s ++ t ≡ bytes_for (take (i + 1) words) =
+    ap (λ (x : ℕ). s ++ to_le_bytes w64 x) w ∙ ap (λ (x : List ℕ). s ++ x) (sym (append-nil (to_le_bytes w64 (get_or words i 0)))) ∙ sym (flat_map-append (to_le_bytes w64) front (get_or words i 0 ∷ []))
+    ∙ ap bytes_for (sym (take_more words i 0 l)) in
+    let place : 8 * i ≡ 0 + 8 * length front = omega (arith, n) in
+    let one : new ≡ paste b (8 * i) t 8 = after ∙ sym (paste_all b (8 * i) t 8 refl) in
+    let two : new ≡ paste d 0 (s ++ t) (8 * length front + 8) =
+    one ∙ ap₂ (λ (x : List ℕ) (k : ℕ). paste x k t 8) before place ∙ paste-paste d 0 s t (8 * length front) 8 long refl (omega arith) in
+    two ∙ ap₂ (λ (x : List ℕ) (k : ℕ). paste d 0 x k) more (let c : 8 * length front + 8 ≡ 8 * length (take (i + 1) words) = omega (arith, n, m) in c)
+
+-- all of them
+pub all_put : (d b words : List ℕ) (i : ℕ) → length d ≡ 8 * length words → length words ≤ i → b ≡ put_in_front d (take i words) → b ≡ bytes_for words
+all_put d b words i size l e =
+    let none : drop (0 + 8 * length words) d ≡ [] = drop_all (0 + 8 * length words) d (omega (arith, size)) in
+    e ∙ ap (put_in_front d) (take_all i words l) ∙ paste_all d 0 (bytes_for words) (8 * length words) (sym (length_unpacked words)) ∙ ap (λ (x : List ℕ). bytes_for words ++ x) none
+    ∙ append-nil (bytes_for words)

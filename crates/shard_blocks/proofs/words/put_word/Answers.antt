@@ -1,0 +1,10 @@
+use Rattle.std.proofs.Common.{List, ℕ, ◌++◌, ◌+◌, take, drop, length, ◌≡◌, ◌∙◌, ap}
+use Rattle.shard_blocks.proofs.PutWords.{eight_put}
+use Rattle.shard_blocks.proofs.words.put_word.Goals as goal
+
+pub returns : goal.returns
+returns c =
+    let d = c.args.bytes.now in
+    let s = c.to_le_bytes-eight.result in
+    let long : length s ≡ 8 = ap length c.to_le_bytes-eight.ensures in
+    eight_put d s c.args.at c.requires long ∙ ap (λ (x : List ℕ). take c.args.at d ++ (x ++ drop (c.args.at + 8) d)) c.to_le_bytes-eight.ensures
