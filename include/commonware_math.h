@@ -181,8 +181,8 @@ CWM_MUST_USE uint32_t cwm_shard_sizes(size_t words, uint32_t min, uint32_t total
 /* Writes the shards of the n words of data: shard i is row i of the m words of `cells`, in `total` rows of
  * as many words as cwm_shard_sizes says.
  * 1 <= min <= total, else CWM_MISMATCH. m is total times the size of a shard, and the sizes are such as
- * cwm_shard_sizes takes, else CWM_WRONG_SIZE. Takes memory for N words, and for N rows of a shard's words, or of the
- * greater of 8 and 2^15 / N where a shard has more; N is `total` rounded up to a power of two. */
+ * cwm_shard_sizes takes, else CWM_WRONG_SIZE. Takes memory for N words and for N rows, each of as many
+ * words as a shard has, but of no more than the greater of 8 and 2^15 / N; N is `total` rounded up to a power of two. */
 CWM_MUST_USE uint32_t cwm_split(const uint64_t *data, size_t n, uint32_t min, uint32_t total, uint64_t *cells, size_t m);
 
 /* Writes the data that k shards give back over the first of the m words of data, and their number into
