@@ -19,7 +19,7 @@ pub enum Fault {
     File(String, io::Error),
     #[error("refused: {0}: is there already, and only --force replaces it")]
     Exists(String),
-    #[error("refused: {0}: is a file that is read here, or has the name of a shard")]
+    #[error("refused: {0}: is a file that is read here, a shard file, or has the name of one")]
     Input(String),
     #[error("refused: {0}: another run is splitting it")]
     Busy(String),
@@ -27,7 +27,7 @@ pub enum Fault {
     NotRegular(String),
     #[error("refused: {0}: changed while it was read")]
     Changed(String),
-    #[error("refused: {0}: is a shard beyond these, so remove it first")]
+    #[error("refused: {0}: has the name of a shard beyond these: move it away first")]
     Beyond(String),
     #[error("refused: {0}: no shard is there")]
     NoShard(String),

@@ -8,7 +8,7 @@ use crate::listing::line_of;
 use crate::names::{Wanted, number_in};
 use crate::output::{Identity, Manner, Restored, check_no_input, owned};
 use crate::progress::Progress;
-use crate::sources::{ShardFile, count_there, gather};
+use crate::sources::{ShardFile, count_there, gather, is_shard_file};
 use shard_format::header::Header;
 use std::fs;
 
@@ -30,8 +30,8 @@ pub fn join(
     done
 }
 
-/// Refuses where the name is that of a shard of the file, whether it is there or not, or of one of
-/// the files under another name.
+/// Refuses where the name is that of a shard of the file, whether it is there or not, of one of the
+/// files under another name, or of any shard file.
 fn check_out(
     rt: &HostRuntime,
     wanted: &Wanted,
@@ -42,6 +42,9 @@ fn check_out(
         if number_in(rt, file, out)?.is_some() {
             return Err(Fault::Input(owned(rt, out)?));
         }
+    }
+    if is_shard_file(rt, out)? {
+        return Err(Fault::Input(owned(rt, out)?));
     }
     for shard in files {
         if let Ok(metadata) = fs::metadata(rt, shard.name.as_str()) {

@@ -20,6 +20,13 @@ use std::{fs, io};
 /// open, of all programs or of this one.
 const NO_ROOM: [i32; 3] = [12, 23, 24];
 
+/// What is wrong with a file that begins as a shard file does.
+const ANOTHER_VERSION: &str = "has a header of another version";
+
+const ANOTHER_FINGERPRINT: &str = "has a header that does not fit its fingerprint";
+
+const DAMAGED_HEADER: &str = "has a damaged header";
+
 /// A file that can be read, and what is known of it.
 #[derive(Drop)]
 pub struct Source {
@@ -151,6 +158,14 @@ fn open_source(
     }
 }
 
+/// Whether a regular file with this name begins as a shard file does, of any split, whole or not.
+pub fn is_shard_file(rt: &HostRuntime, name: &str) -> Result<bool, Fault> {
+    match open_source(rt, name, false)? {
+        Ok(_) => Ok(true),
+        Err(why) => Ok(matches!(why, ANOTHER_VERSION | ANOTHER_FINGERPRINT | DAMAGED_HEADER)),
+    }
+}
+
 /// The header that the bytes are, or what is wrong with them.
 fn read_header(alloc: Global, bytes: &[u8]) -> Result<Result<Header, &'static str>, Fault> {
     match header_in(alloc, bytes) {
@@ -158,11 +173,9 @@ fn read_header(alloc: Global, bytes: &[u8]) -> Result<Result<Header, &'static st
         Err(codec::Error::Memory(error)) => Err(Fault::Memory(error)),
         Err(codec::Error::EndOfBuffer) => Ok(Err("has no whole header")),
         Err(codec::Error::Invalid(_, "mark")) => Ok(Err("has no header of a shard file")),
-        Err(codec::Error::Invalid(_, "version")) => Ok(Err("has a header of another version")),
-        Err(codec::Error::Invalid(_, "fingerprint")) => {
-            Ok(Err("has a header that does not fit its fingerprint"))
-        }
-        Err(_) => Ok(Err("has a damaged header")),
+        Err(codec::Error::Invalid(_, "version")) => Ok(Err(ANOTHER_VERSION)),
+        Err(codec::Error::Invalid(_, "fingerprint")) => Ok(Err(ANOTHER_FINGERPRINT)),
+        Err(_) => Ok(Err(DAMAGED_HEADER)),
     }
 }
 
