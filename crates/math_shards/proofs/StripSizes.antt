@@ -1,8 +1,8 @@
 -- The sizes of strips and of rows of data: all of them fit a word.
-use Rattle.std.proofs.Common.{◌≡◌, ◌∙◌, inl, inr, ℕ, suc, ◌+◌, ◌-◌, ◌*◌, ◌/◌, ◌<◌, ◌≤◌, ◌^◌, List, length, sym, ap, max, min, pow_mono, arith}
+use Rattle.std.proofs.Common.{◌≡◌, ◌∙◌, inl, inr, ℕ, suc, ◌+◌, ◌-◌, ◌*◌, ◌<◌, ◌≤◌, ◌^◌, List, length, sym, ap, arith}
 use Rattle.std.specs.Int.{div_ceil}
 use Rattle.std.proofs.lemmas.Bool.{cases_lt}
-use Rattle.std.proofs.lemmas.Nat.{mul-le, shr_le}
+use Rattle.std.proofs.lemmas.Nat.{mul-le}
 use Rattle.math_numbers.specs.Bits.{piece_count}
 use Rattle.math_numbers.proofs.BitPieces.{piece_count-enough, piece_count-least}
 use Rattle.math_base.proofs.Packing.{length-elements_of}
@@ -47,20 +47,3 @@ short_rows least words some few =
   where
     short : (w a b least n m : ℕ) → a < n + least → a ≡ b + least → 1 * (w - 1) ≤ b → n ≡ m + 1 + div_ceil (m + 1) 63 → m < 2 ^ 61 → w < 2 ^ 63
     short w a b least n m h e l c f = omega (arith, h, e, l, c, f)
-
--- the columns of a strip
-pub strip_fits : (lg n : ℕ) → lg ≤ 32 → n ≤ 32768 → 2 ^ lg * n < 2 ^ 64
-strip_fits lg n small few =
-    let points : 2 ^ lg ≤ 2 ^ 32 = pow_mono small in
-    let cells : 2 ^ lg * n ≤ 2 ^ 32 * 32768 = mul-le (2 ^ lg) n (2 ^ 32) 32768 points few in
-    omega (arith, cells)
-
-pub few_columns : (lg most left n : ℕ) → most ≡ max (32768 / 2 ^ lg) 8 → n ≡ min most left → n ≤ 32768
-few_columns lg most left n e f = omega (arith, shr_le 32768 lg)
-
--- the butterflies of a strip
-pub work_fits : (lg n done : ℕ) → lg ≤ 32 → 2 ^ lg * n < 2 ^ 64 → done ≡ 0 → 2 * done + n * 2 ^ lg * lg < 2 ^ 129
-work_fits lg n done small fits none =
-    let turned : n * 2 ^ lg ≡ 2 ^ lg * n = omega arith in
-    let all : n * 2 ^ lg * lg ≤ 2 ^ 64 * 32 = mul-le (n * 2 ^ lg) lg (2 ^ 64) 32 (omega (arith, turned, fits)) small in
-    omega (arith, all, none)

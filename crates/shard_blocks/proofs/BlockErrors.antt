@@ -1,5 +1,5 @@
 -- What is wrong with the shards of a block, as with those of its words: one error at most, and none but want of memory where they give a block back.
-use Rattle.std.proofs.Common.{◌≡◌, ℕ, ◌<◌, ◌≤◌, List, [], ◌∷◌, Result, Ok, Err, refl, ◌∙◌}
+use Rattle.std.proofs.Common.{◌≡◌, ℕ, ◌≤◌, List, [], ◌∷◌, Result, Ok, Err, refl}
 use Rattle.std.specs.List.{All}
 use Rattle.std.specs.Result.{IfErr}
 use Rattle.math_shards.specs.declared.shards.Error.{Error}

@@ -106,8 +106,8 @@ fn is_record_read(
     is_read(rt, name, source, at, buffer)
 }
 
-/// Reads the record of a block in the file, with so many cells, or says what is wrong with it. Where
-/// nothing is, the room has its elements: the cells, and their two fingerprints.
+/// Reads the record of a block in the file, with so many cells, or says what is wrong with it.
+/// Where nothing is, the room has its elements: the cells, and their two fingerprints.
 fn read_record(
     rt: &HostRuntime,
     name: &str,

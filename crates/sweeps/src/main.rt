@@ -1,7 +1,7 @@
 //! `sweeps [NAME]`: runs calls with each of their allocations refused in turn.
 //!
-//! Where the library that refuses allocations is not loaded, each call is run undisturbed. `.ci/sweeps` loads
-//! it. Of the sweeps those are run whose names contain NAME.
+//! Where the library that refuses allocations is not loaded, each call is run undisturbed.
+//! `.ci/sweeps` loads it. Of the sweeps those are run whose names contain NAME.
 #![tactic(auto)]
 
 mod encodings;
@@ -32,8 +32,8 @@ fn at_any<R: Element>(alloc: Global, table: &mut Table<'_>) -> Mem<()> {
     table.sweep::<interpolation::Given<R>>(alloc, &interpolation::NAMES)
 }
 
-/// All sweeps. Those at boxed elements have to show what the undisturbed calls do at the plain ones, and a
-/// commitment what is known.
+/// All sweeps. Those at boxed elements have to show what the undisturbed calls do at the plain
+/// ones, and a commitment what is known.
 fn run(alloc: Global, table: &mut Table<'_>) -> Mem<()> {
     table.set_type("field", Texts::Kept, false);
     at_any::<F>(alloc, table)?;

@@ -51,8 +51,8 @@ fn have_rows(values: &[F], cols: usize, from: usize, shards: &[Shard]) -> bool
     true
 }
 
-/// Whether the shards have the values of the data in `cols` columns from column `from` on, which are
-/// written into `strip`.
+/// Whether the shards have the values of the data in `cols` columns from column `from` on. These
+/// values are written into `strip`.
 fn fit_strip(
     alloc: Global,
     data: &[u64],

@@ -45,8 +45,8 @@ use std::alloc::{AllocError, Global};
 /// compared with the data, in the memory that `split` takes beside its shards. Where one of them
 /// does not fit, and where `min` is greater, shards are joined by transforms, with memory for a few
 /// times N rows of as many cells as a shard has. Who takes shards from strangers bounds `total`
-/// first. Nothing is allocated by a number that a shard claims of its data before the cells bear it
-/// out.
+/// first. Nothing is allocated by a number that a shard claims of its data before the cells are seen
+/// to be so many.
 pub fn join(alloc: Global, shards: &[Shard]) -> Result<Vec<u64>, Error>
     ensures ok { IfOk result (λ words. JoinTo words.items shards.now) }
     ensures found { (words : List ℕ) → JoinTo words shards.now

@@ -37,7 +37,7 @@ use std::alloc::Global;
 /// that the data and their count pack to, divided by `min` and rounded up. Beside the shards it
 /// takes memory for a table of N elements and for N rows of some columns, where N is `total`
 /// rounded up to a power of two: eight columns, or as many as make up 2^15 cells where these are
-/// more.
+/// more, or those of a shard where these are fewer.
 pub fn split(alloc: Global, data: &[u64], min: u32, total: u32) -> Mem<Vec<Shard>>
     requires some { 1 ≤ min }
     requires within { min ≤ total }

@@ -5,8 +5,9 @@
 //! lowest bits of the element are the highest of word h - 1, and the others are the lowest of word
 //! h. So the cells of any columns are had from the words, and no list of all elements is made.
 //!
-//! The columns of the rows are transformed one by one. A strip has so few of them that it fits a
-//! cache near the processor, but eight at least: there all levels of its transform find its cells.
+//! Each column of the rows is transformed by itself, whatever the others are. A strip has so few of
+//! them that it fits a cache near the processor, but eight at least: there all levels of its
+//! transform find its cells.
 
 ghost use Rattle.std.specs.Prelude.{
   ◌≡◌,

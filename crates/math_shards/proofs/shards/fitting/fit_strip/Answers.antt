@@ -1,4 +1,3 @@
-use Rattle.std.proofs.Common.{◌∙◌, length, ap}
 use Rattle.math_shards.proofs.FittedShards.{all_values-more, row_fits}
 use Rattle.math_shards.proofs.shards.fitting.fit_strip.Goals as goal
 
