@@ -9,7 +9,8 @@ use Rattle.std.proofs.lemmas.List.FromFn.{sum_by-map-range_with_len_more}
 use Rattle.math_shards.specs.declared.shards.Shard.{Shard}
 use Rattle.math_shards.specs.Shards.{distinct_indices, has_index}
 
-abbrev weight : Bool → ℕ
+-- what a truth value adds to a count
+abbrev pub weight : Bool → ℕ
 weight b = cond b 1 0
 
 -- one more number counts where it is an index
@@ -19,8 +20,8 @@ distinct_more n shards =
     ap (sum_by w) (sym (map-id (range_with_len 0 (n + 1)))) ∙ sum_by-map-range_with_len_more w (λ i. i) 0 n n (omega arith)
     ∙ ap (λ l. sum_by w l + w n) (map-id (range_with_len 0 n))
 
--- a number adds no more where it is an index only if it is one of the others
-weight_kept : (a b : Bool) → (a ≡ true → b ≡ true) → weight a ≤ weight b
+-- a truth value adds no more than another that is true where it is
+pub weight_kept : (a b : Bool) → (a ≡ true → b ≡ true) → weight a ≤ weight b
 weight_kept true b h = rw (h refl) (omega arith)
 weight_kept false b h = omega arith
 

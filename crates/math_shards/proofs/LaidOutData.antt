@@ -31,7 +31,7 @@ given_all start elements items n e l few given =
     ]
 
 -- elements that are zero
-zeros_alone : (xs : List F) → All (λ x. same x (residue 0)) xs → xs ≡ replicate (length xs) (residue 0)
+pub zeros_alone : (xs : List F) → All (λ x. same x (residue 0)) xs → xs ≡ replicate (length xs) (residue 0)
 zeros_alone [] h = refl
 zeros_alone (x ∷ xs) h = ap₂ (λ y ys. y ∷ ys) (same_number x (residue 0) (All-head (λ x. same x (residue 0)) x xs h)) (zeros_alone xs (All-tail (λ x. same x (residue 0)) x xs h))
 

@@ -36,7 +36,7 @@ drop-none zero = refl
 drop-none (suc k) = refl
 
 -- the pieces past the last one are zero too
-cut_at : (k : ℕ) (bs : List ℕ) (j : ℕ) → 0 < k → get_or (cut k bs) j 0 ≡ number (take k (drop (k * j) bs))
+pub cut_at : (k : ℕ) (bs : List ℕ) (j : ℕ) → 0 < k → get_or (cut k bs) j 0 ≡ number (take k (drop (k * j) bs))
 cut_at k bs j positive =
     elim (cases_lt j (piece_count k (length bs))) [
       | inl within ↦ piece_at k (piece_count k (length bs)) bs j within
@@ -47,7 +47,7 @@ cut_at k bs j positive =
           get_or_past (cut k bs) j 0 (omega (arith, length-cut k bs)) ∙ sym (take-none k) ∙ ap (λ l. number (take k l)) (sym none)
     ]
 
-element_bits_at : (words : List ℕ) (e : ℕ) → get_or (elements_of words) e nought ≡ residue (number (take 63 (drop (63 * e) (joined 64 words))))
+pub element_bits_at : (words : List ℕ) (e : ℕ) → get_or (elements_of words) e nought ≡ residue (number (take 63 (drop (63 * e) (joined 64 words))))
 element_bits_at words e = get_or-map residue (cut 63 (joined 64 words)) e 0 ∙ ap residue (cut_at 63 (joined 64 words) e (lit< tt))
 
 -- Zeros behind bits write nothing.
@@ -116,11 +116,11 @@ behind_words k (suc h) (w ∷ words) =
     ∙ ap (drop (k * h)) (drop_at (bits k w) (joined k words) k (length-bits k w)) ∙ behind_words k h words
 
 -- j bits from the start of word h on
-from_word : (k j h : ℕ) (words : List ℕ) → j ≤ k → number (take j (drop (k * h) (joined k words))) ≡ number (take j (bits k (get_or words h 0)))
+pub from_word : (k j h : ℕ) (words : List ℕ) → j ≤ k → number (take j (drop (k * h) (joined k words))) ≡ number (take j (bits k (get_or words h 0)))
 from_word k j h words few = ap (λ l. number (take j l)) (behind_words k h words) ∙ one_word k words j h [] (omega (arith, few))
 
 -- j bits, of which the first are the highest t bits of word h
-from_between : (k j h s t : ℕ) (words : List ℕ) → s + t ≡ k → j ≤ t + k
+pub from_between : (k j h s t : ℕ) (words : List ℕ) → s + t ≡ k → j ≤ t + k
     → number (take j (drop (k * h + s) (joined k words))) ≡ number (take j (bits t (get_or words h 0 / 2 ^ s) ++ bits k (get_or words (h + 1) 0)))
 from_between k j h s t words e few =
     let w = get_or words h 0 in
@@ -152,9 +152,13 @@ bits_of_place words e =
           ∙ ap (λ n. number (take 63 (bits n v ++ bits 64 (get_or words (e - e / 64) 0)))) z
     ]
 
--- an element is the piece of two words
+-- an element that words pack to is the piece of two of them
+pub element_from_words : (words : List ℕ) (e : ℕ) → get_or (elements_of words) e nought ≡ piece_of (get_or words (e - e / 64 - 1) 0) (get_or words (e - e / 64) 0) (e % 64)
+element_from_words words e = element_bits_at words e ∙ ap residue (bits_of_place words e)
+
+-- an element that data pack to is the piece of two words
 pub packed_from_words : (words : List ℕ) (e : ℕ) → packed_at words e ≡ piece_of (get_or (counted words) (e - e / 64 - 1) 0) (get_or (counted words) (e - e / 64) 0) (e % 64)
-packed_from_words words e = element_bits_at (counted words) e ∙ ap residue (bits_of_place (counted words) e)
+packed_from_words words e = element_from_words (counted words) e
 
 -- the words that are packed, behind the first one
 pub counted-behind : (words : List ℕ) (place : ℕ) → 0 < place → get_or (counted words) place 0 ≡ get_or words (place - 1) 0

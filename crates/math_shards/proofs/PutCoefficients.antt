@@ -1,17 +1,39 @@
--- Coefficients that are written column by column among the cells of rows.
-use Rattle.std.proofs.Common.{◌≡◌, ◌∙◌, inl, inr, ℕ, ◌+◌, ◌*◌, ◌<◌, List, length, get_or, sym, ap, arith}
+-- Coefficients that are written column by column over the cells of rows.
+use Rattle.std.proofs.Common.{◌≡◌, ◌∙◌, inl, inr, ℕ, ◌+◌, ◌*◌, ◌<◌, ◌≤◌, ◌++◌, List, [], ◌∷◌, length, drop, take, get_or, refl, sym, ap, arith}
 use Rattle.std.proofs.Math.ListN.{set}
 use Rattle.std.proofs.lemmas.Bool.{cases_lt}
-use Rattle.std.proofs.lemmas.List.{length-map}
+use Rattle.std.proofs.lemmas.List.{append-nil, drop_all, ext_get_or, get_or_default, take_all, take_more}
+use Rattle.std.proofs.lemmas.Nat.{mul-add-lt}
 use Rattle.math_theory.specs.Sums.{weighted_sum}
 use Rattle.math_base.specs.declared.fields.goldilocks.F.{F}
 use Rattle.math_base.specs.Elements.{product, sum}
-use Rattle.math_ntt.proofs.MatrixPlaces.{cells_are_written_alone}
+use Rattle.math_ntt.proofs.MatrixPlaces.{cells_are_written_alone, columns_are_full}
 use Rattle.math_transforms.specs.DomainValues.{matrix_of}
-use Rattle.math_transforms.specs.Matrices.{MatrixOf, row_of}
-use Rattle.math_shards.specs.declared.shards.Shard.{Shard}
-use Rattle.math_shards.specs.Weights.{cells_at, coefficient_of}
+use Rattle.math_transforms.specs.Matrices.{MatrixOf, column_of, row_of}
+use Rattle.math_transforms.proofs.MatrixRows.{cell-of_column}
+use Rattle.math_shards.specs.Weights.{coefficient_of}
 use Rattle.math_shards.proofs.SameCells.{nought}
+
+-- the column of these cells
+abbrev pub column_in : ℕ → ℕ → List F → ℕ → List F
+column_in count width cells k = column_of nought (matrix_of count width cells) k
+
+-- it has an item for each row
+pub column-count : (count width k : ℕ) (cells room : List F) → room ≡ column_in count width cells k → length room ≡ count
+column-count count width k cells room is = ap length is ∙ columns_are_full (matrix_of count width cells) k nought
+
+-- one item more of a column
+pub column-next : (count width k r : ℕ) (cells : List F) (x : F) → length cells ≡ count * width → k < width → r < count → x ≡ get_or cells (r * width + k) x
+    → take (r + 1) (column_in count width cells k) ≡ take r (column_in count width cells k) ++ x ∷ []
+column-next count width k r cells x size l b is =
+    let m = matrix_of count width cells in
+    let place : r * width + k < length cells = omega (arith, size, mul-add-lt r width k count b l) in
+    let item : get_or (column_of nought m k) r nought ≡ x = cell-of_column nought m k r l size ∙ get_or_default cells (r * width + k) nought x place ∙ sym is in
+    take_more (column_of nought m k) r nought (omega (arith, b, columns_are_full m k nought)) ∙ ap (λ y. take r (column_of nought m k) ++ y ∷ []) item
+
+-- all items
+pub column-whole : (count width k r : ℕ) (cells : List F) → count ≤ r → take r (column_in count width cells k) ≡ column_in count width cells k
+column-whole count width k r cells b = let m = matrix_of count width cells in take_all r (column_of nought m k) (omega (arith, b, columns_are_full m k nought))
 
 -- the first r cells of a column have these values, and the cells of the other columns are as they were
 pub record IsColumnPut (rows width column : ℕ) (value : ℕ → F) (start : List F) (r : ℕ) (cells : List F) : Type 0 where
@@ -33,22 +55,52 @@ column-more rows width column r value start cells v size l m e h =
       others = λ i k a b apart. w.1.others nought i k a b (λ _ same. apart same) ∙ h.others i k a b apart;
     }
 
--- the coefficients of the first columns are written
-abbrev pub ArePutBefore : MatrixOf F → List Shard → ℕ → ℕ → List F → Type 0
-ArePutBefore weights shards width column cells = (r k : ℕ) → r < length shards → k < column → get_or cells (r * width + k) nought ≡ coefficient_of weights shards r k
+-- in the first columns the coefficients of the columns of the start are written, and the cells of the further ones are as they were
+pub record ArePutBefore (weights : MatrixOf F) (count width : ℕ) (start : List F) (column : ℕ) (cells : List F) : Type 0 where
+  pub done : (r k : ℕ) → r < count → k < column → get_or cells (r * width + k) nought ≡ coefficient_of weights (matrix_of count width start) r k
+  pub others : (r k : ℕ) → r < count → column ≤ k → k < width → get_or cells (r * width + k) nought ≡ get_or start (r * width + k) nought
+
+-- no column yet
+pub columns-none : (weights : MatrixOf F) (count width : ℕ) (start : List F) → ArePutBefore weights count width start 0 start
+columns-none weights count width start = record {
+  done = λ r k a b. absurd (omega (arith, b));
+  others = λ r k a b l. refl;
+}
+
+-- a further column is that of the start
+pub column-kept : (weights : MatrixOf F) (count width column : ℕ) (start cells : List F) → length start ≡ count * width → length cells ≡ count * width → column < width
+    → ArePutBefore weights count width start column cells → column_in count width cells column ≡ column_in count width start column
+column-kept weights count width column start cells size other l h =
+    let m = matrix_of count width cells in
+    let n = matrix_of count width start in
+    ext_get_or nought (column_of nought m column) (column_of nought n column) (columns_are_full m column nought ∙ sym (columns_are_full n column nought))
+    (λ r b. let inside : r < count = omega (arith, b, columns_are_full m column nought) in
+    cell-of_column nought m column r l other ∙ h.others r column inside (omega arith) l ∙ sym (cell-of_column nought n column r l size))
 
 -- one column more
-pub columns-more : (weights : MatrixOf F) (shards : List Shard) (width column : ℕ) (old new room : List F) → room ≡ cells_at shards column → column < width
+pub columns-more : (weights : MatrixOf F) (count width column : ℕ) (start old new room : List F) → length start ≡ count * width → length old ≡ count * width
+    → room ≡ column_in count width old column → column < width
     → ((r : ℕ) → r < length room → get_or new (r * width + column) nought ≡ weighted_sum nought sum product room (row_of weights r))
     → ((r k : ℕ) → r < length room → k < width → ¬ (k ≡ column) → get_or new (r * width + k) nought ≡ get_or old (r * width + k) nought)
-    → ArePutBefore weights shards width column old → ArePutBefore weights shards width (column + 1) new
-columns-more weights shards width column old new room is l put others h r k a b =
-    let count : length room ≡ length shards = ap length is ∙ length-map shards (λ (s : Shard). get_or s.cells.items column nought) in
-    let inside : r < length room = omega (arith, a, count) in
-    elim (cases_lt k column) as (λ _. get_or new (r * width + k) nought ≡ coefficient_of weights shards r k) [
-      | inl before ↦ others r k inside (omega (arith, before, l)) (λ same. omega (arith, same, before)) ∙ h r k a before
-      | inr after ↦
-          let same : k ≡ column = omega (arith, after, b) in
-          ap (λ j. get_or new (r * width + j) nought) same ∙ put r inside ∙ ap (λ xs. weighted_sum nought sum product xs (row_of weights r)) is
-          ∙ ap (λ j. coefficient_of weights shards r j) (sym same)
-    ]
+    → ArePutBefore weights count width start column old → ArePutBefore weights count width start (column + 1) new
+columns-more weights count width column start old new room size other is l put kept h =
+    let long : length room ≡ count = column-count count width column old room is in
+    let from_start : room ≡ column_in count width start column = is ∙ column-kept weights count width column start old size other l h in
+    record {
+      done = λ r k a b.
+          let inside : r < length room = omega (arith, a, long) in
+          elim (cases_lt k column) as (λ _. get_or new (r * width + k) nought ≡ coefficient_of weights (matrix_of count width start) r k) [
+            | inl before ↦ kept r k inside (omega (arith, before, l)) (λ same. omega (arith, same, before)) ∙ h.done r k a before
+            | inr after ↦
+                let same : k ≡ column = omega (arith, after, b) in
+                ap (λ j. get_or new (r * width + j) nought) same ∙ put r inside ∙ ap (λ xs. weighted_sum nought sum product xs (row_of weights r)) from_start
+                ∙ ap (λ j. coefficient_of weights (matrix_of count width start) r j) (sym same)
+          ];
+      others = λ r k a b m.
+          kept r k (omega (arith, a, long)) m (λ same. omega (arith, same, b)) ∙ h.others r k a (omega (arith, b)) m;
+    }
+
+-- where as many cells are written over others, no other is left
+pub written-back : (n : ℕ) (new old : List F) → length new ≡ n → length old ≡ n → take n (new ++ drop (length new) old) ≡ new
+written-back n new old count other =
+    ap (λ xs. take n (new ++ xs)) (drop_all (length new) old (omega (arith, count, other))) ∙ ap (take n) (append-nil new) ∙ take_all n new (omega (arith, count))

@@ -32,7 +32,7 @@ zeros-at (suc n) zero = refl
 zeros-at (suc n) (suc p) = zeros-at n p
 
 -- behind items stand zeros, as past the end of a list
-zeros-behind : (xs : List F) (n p : ℕ) → get_or (xs ++ replicate n nought) p nought ≡ get_or xs p nought
+pub zeros-behind : (xs : List F) (n p : ℕ) → get_or (xs ++ replicate n nought) p nought ≡ get_or xs p nought
 zeros-behind [] n p = zeros-at n p
 zeros-behind (x ∷ xs) n zero = refl
 zeros-behind (x ∷ xs) n (suc p) = zeros-behind xs n p

@@ -13,7 +13,7 @@ use Rattle.math_shards.proofs.LaidOutData.{rounded_up}
 elements_of_words : (n : ℕ) → piece_count 63 (64 * suc n) ≡ n + 1 + div_ceil (n + 1) 63
 elements_of_words n = omega arith
 
-count_elements : (words : List ℕ) → length (elements_for words) ≡ length words + 1 + div_ceil (length words + 1) 63
+pub count_elements : (words : List ℕ) → length (elements_for words) ≡ length words + 1 + div_ceil (length words + 1) 63
 count_elements words = length-elements_of (counted words) ∙ elements_of_words (length words)
 
 -- the width of the rows

@@ -1,27 +1,34 @@
--- Shards that are chosen by their indices, and shards beside the values of data at all points, strip by strip of columns.
-use Rattle.std.specs.Prelude.{◌≡◌, ℕ, ◌*◌, ◌<◌, ◌≤◌, ◌^◌, false, List, length, take, drop, slice_index_or, All}
-use Rattle.std.specs.List.{AllZip}
+-- Shards as rows of one width, each with an index, and the data that rows fit.
+use Rattle.std.specs.Prelude.{◌≡◌, ℕ, ◌*◌, ◌<◌, ◌≤◌, ◌^◌, ◌==◌, List, length, map, slice_index_or, count_by, All}
+use Rattle.std.specs.Int.{IsNextPowerOfTwo}
+use Rattle.std.specs.List.{list_any, range_with_len}
 use Rattle.math_base.specs.declared.fields.goldilocks.F.{F}
 use Rattle.math_base.specs.Elements.{residue, same}
-use Rattle.math_transforms.specs.Matrices.{column_of}
-use Rattle.math_shards.specs.declared.shards.Shard.{Shard}
-use Rattle.math_shards.specs.Shards.{distinct_indices, has_index, rows_for, value_at}
+use Rattle.math_transforms.specs.Matrices.{MatrixOf, column_of}
+use Rattle.math_shards.specs.Shards.{elements_for, rows_for, value_at, width_for, with_zeros}
 
--- no shard before it has a shard's index
-abbrev pub HaveOwnIndices : List Shard → Type 0
-HaveOwnIndices shards = (i : ℕ) (s : Shard) → i < length shards → has_index (take i shards) (slice_index_or shards i s).index ≡ false
+-- how many of the numbers below n are among the indices
+abbrev pub distinct_among : ℕ → List ℕ → ℕ
+distinct_among n indices = count_by (λ i. list_any (λ j. j == i) indices) (range_with_len 0 n)
 
--- words that may be the data of the shards: at least `min` of these have distinct indices
-pub record MayBeData (first : Shard) (shards : List Shard) (words : List ℕ) : Type 0 where
-  pub short : first.total < 2 ^ 32
+-- the cells are the values, at power `index` of the root of order 2^lg, of the polynomials whose coefficients are the columns of m
+abbrev pub HasValuesOf : ℕ → MatrixOf F → ℕ → List F → Type 0
+HasValuesOf lg m index cells = (k : ℕ) → k < m.cols → same (slice_index_or cells k (residue 0)) (value_at lg (column_of (residue 0) m k) index)
+
+-- the elements are those that the number of the words and the words pack to, and zeros that fill up the last of `min` rows
+pub record AreDataOf (words : List ℕ) (min : ℕ) (elements : List F) : Type 0 where
   pub each_word : All (λ word. word < 2 ^ 64) words
   pub few : length words < 2 ^ 64
-  pub enough : first.min ≤ distinct_indices first.total shards
+  pub packed : elements ≡ with_zeros (min * width_for min words) (elements_for words)
 
--- the shard's cells from place `from` on are those of the row of its index, where a row has c cells
-abbrev pub HasRow : List F → ℕ → ℕ → Shard → Type 0
-HasRow cells c from s = AllZip same (take c (drop (s.index * c) cells)) (take c (drop from s.cells.items))
-
--- the first n cells of the shard are the values, at the power of the root of order 2^lg that is its index, of the first n columns of the rows of data
-abbrev pub HasFirstValues : List ℕ → ℕ → ℕ → ℕ → Shard → Type 0
-HasFirstValues words min lg n s = (k : ℕ) → k < n → same (slice_index_or s.cells.items k (residue 0)) (value_at lg (column_of (residue 0) (rows_for min words) k) s.index)
+-- rows, each with an index and cells, fit the words: each has the cells of the shard of its index, and at least `min` have distinct indices
+pub record DoRowsFit {R : Type 0} (index : R → ℕ) (cells : R → List F) (words : List ℕ) (min total : ℕ) (rows : List R) : Type 0 where
+  pub some : 1 ≤ min
+  pub within : min ≤ total
+  pub short : total < 2 ^ 32
+  pub each_word : All (λ word. word < 2 ^ 64) words
+  pub few : length words < 2 ^ 64
+  pub enough : min ≤ distinct_among total (map index rows)
+  pub below : All (λ row. index row < total) rows
+  pub count : All (λ row. length (cells row) ≡ width_for min words) rows
+  pub values : (lg : ℕ) → IsNextPowerOfTwo total (2 ^ lg) → All (λ row. HasValuesOf lg (rows_for min words) (index row) (cells row)) rows

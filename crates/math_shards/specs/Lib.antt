@@ -1,8 +1,10 @@
 pub mod Shards
 pub mod Strips
+pub mod Unpacking
 pub mod ShardRows
 pub mod Weights
 pub mod Fitting
+pub mod Cosets
 pub mod Joining
 pub mod Correcting
 pub mod ShardEncoding

@@ -14,12 +14,13 @@
 ghost use Rattle.std.specs.Prelude.{◌≡◌, alloc_error};
 ghost use Rattle.math_shards.specs.declared.shards.Error.TheVariants.{Memory};
 
-mod choosing;
 mod correcting;
 mod encoding;
 mod fitting;
 mod joining;
+mod joining_rows;
 mod layout;
+mod rows;
 mod splitting;
 mod strips;
 mod unpacking;
@@ -27,6 +28,7 @@ mod weighing;
 
 pub use correcting::{Joined, join_corrected};
 pub use joining::join;
+pub use joining_rows::{join_rows, shards_of_rows};
 use math_base::fields::goldilocks::F;
 pub use splitting::{split, split_rows};
 use std::alloc::{AllocError, AllocFailed};

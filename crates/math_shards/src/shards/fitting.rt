@@ -1,107 +1,244 @@
-//! More shards than give the data back.
+//! Rows beside the values of polynomials.
 //!
-//! The first `min` shards of distinct indices give words by their weights. Every shard is then
-//! compared with the values of these words at its index, which are had strip by strip of columns,
-//! as a split has them. Where all shards fit, the words are their data; where one does not, some
-//! shard is damaged, and which error is due is not looked at here.
+//! Polynomials of `min` coefficients are evaluated at the N = 2^lg powers of a root w, coset by
+//! coset. Let m = 2^l be `min` or more. The powers of w are the N / m cosets w^s times the powers
+//! of w^(N / m), which are those of the root of order m. The value of p at w^s times such a power
+//! is that of the polynomial whose coefficient r is p's times w^(s r). So a coset takes a product
+//! for each coefficient and a transform of m rows, and where `min` is far below N that is far less
+//! than a transform of N rows. The columns are taken strip by strip, so that a coset stays in a
+//! cache near the processor.
 
-ghost use Rattle.std.specs.Prelude.{◌≡◌, ◌+◌, ◌*◌, ◌<◌, ◌≤◌, ◌^◌, All, length, IsTrue, IfOk};
-ghost use Rattle.std.specs.Prelude.{IfSome};
-ghost use Rattle.math_shards.specs.Fitting.{HasFirstValues, HasRow, MayBeData};
-ghost use Rattle.math_shards.specs.Joining.{IsSound};
-ghost use Rattle.math_shards.specs.Shards.{IsShardOf, JoinTo};
-ghost use Rattle.math_shards.specs.Strips.{IsLayoutOf, IsTableOf};
+ghost use Rattle.std.specs.Prelude.{◌≡◌, ◌+◌, ◌-◌, ◌*◌, ◌/◌, ◌%◌, ◌<◌, ◌≤◌, ◌^◌, All, length};
+ghost use Rattle.std.specs.Prelude.{IfOk, IsTrue};
+ghost use Rattle.math_transforms.specs.DomainValues.{matrix_of};
+ghost use Rattle.math_shards.specs.Cosets.{AreCosetValues, AreMultiples};
+ghost use Rattle.math_shards.specs.Cosets.{HasCosetCells, HasValuesFrom};
+ghost use Rattle.math_shards.specs.Fitting.{HasValuesOf};
+ghost use Rattle.math_shards.specs.Strips.{IsTableOf};
 
-use super::Shard;
-use super::choosing::{are_distinct, distinct_copies};
-use super::joining::are_equal;
-use super::strips::{Layout, layout_of, most_cols, strip_room, write_values};
-use super::unpacking::{leading_data, unpacked};
-use super::weighing::{are_weights_taken, weighed_coefficients};
+use super::rows::Row;
+use super::strips::{Layout, strip_room};
 use math_base::algebra::Mem;
 use math_base::fields::goldilocks::F;
-use math_transforms::transform::{evaluation_table, size_of};
+use math_transforms::transform::{evaluate_rows, evaluation_table, lg_of, size_of};
+use math_transforms::work::Work;
 use std::alloc::Global;
 
-/// Whether the shard's cells from place `from` on are those of the row of its index, where a row
-/// has `cols` cells.
-fn has_row(values: &[F], cols: usize, from: usize, shard: &Shard) -> bool
-    requires row { (shard.now.index + 1) * cols ≤ length values.now }
-    requires cells { from + cols ≤ length shard.now.cells.items }
-    ensures { IsTrue result → HasRow values.now cols from shard.now }
+/// How many cells a strip of a coset has at most, where eight columns have no more.
+const COSET_CELLS: usize = 8192;
+
+/// How many columns a strip has at least, where so many are left.
+const LEAST_COLS: usize = 8;
+
+/// The lg of how many points a coset has: there are as many as coefficients, or more, and no more
+/// cosets than twice the width.
+fn coset_lg(layout: Layout) -> u8
+    requires some { 1 ≤ layout.min }
+    requires wide { 1 ≤ layout.width }
+    requires points { layout.min ≤ 2 ^ layout.lg }
+    requires domain { layout.lg ≤ 32 }
+    ensures enough { layout.min ≤ 2 ^ result }
+    ensures within { result ≤ layout.lg }
 {
-    let start = shard.index as usize * cols;
-    are_equal(
-        &values[start..start + cols],
-        &shard.cells[from..from + cols],
-    )
+    let few = lg_of(layout.min.next_power_of_two());
+    let wide = usize::BITS - (layout.width - 1).leading_zeros();
+    few.max(layout.lg.saturating_sub(wide as u8))
 }
 
-/// Whether each shard's cells from place `from` on are those of the row of its index.
-fn have_rows(values: &[F], cols: usize, from: usize, shards: &[Shard]) -> bool
-    requires rows { All (λ s. (s.index + 1) * cols ≤ length values.now) shards.now }
-    requires cells { All (λ s. from + cols ≤ length s.cells.items) shards.now }
-    ensures { IsTrue result → All (HasRow values.now cols from) shards.now }
+/// How many columns a strip of a coset has at most.
+fn most_cols(width: usize, lg: u8) -> usize
+    requires domain { lg ≤ 32 }
+    requires wide { 1 ≤ width }
+    ensures some { 1 ≤ result }
+    ensures size { 2 ^ lg * result < 2 ^ 64 }
 {
-    for shard in shards {
-        if !has_row(values, cols, from, shard) {
+    (COSET_CELLS >> lg).max(LEAST_COLS).min(width)
+}
+
+/// Writes over the cells the items, each times the factor.
+fn write_multiples(cells: &mut [F], items: &[F], factor: F)
+    requires { length cells.old ≡ length items.now }
+    ensures { AreMultiples items.now factor cells.new }
+{
+    let items = &items[..cells.len()];
+    for k in 0..cells.len() {
+        cells[k] = items[k] * factor;
+    }
+}
+
+/// Writes over the cells the values of `cols` columns, from column `from` on, at `ratio` times the
+/// powers of the root of order 2^lg: a row for each power. The table is that of `evaluation_table`.
+/// Takes no memory.
+fn write_coset(
+    alloc: Global,
+    elements: &[F],
+    layout: Layout,
+    from: usize,
+    cols: usize,
+    ratio: F,
+    lg: u8,
+    table: &[F],
+    cells: &mut [F],
+)
+    requires some { 1 ≤ layout.min }
+    requires points { layout.min ≤ 2 ^ lg }
+    requires domain { lg ≤ 32 }
+    requires elements { length elements.now ≡ layout.min * layout.width }
+    requires within { from + cols ≤ layout.width }
+    requires size { length cells.old ≡ 2 ^ lg * cols }
+    requires table { IsTableOf lg table.now }
+    ensures { AreCosetValues (matrix_of layout.min layout.width elements.now)
+        from cols ratio lg cells.new }
+{
+    cells[..cols].copy_from_slice(&elements[from..from + cols]);
+    let mut factor = ratio;
+    for row in 1..layout.min {
+        let place = row * cols;
+        let at = row * layout.width + from;
+        write_multiples(
+            &mut cells[place..place + cols],
+            &elements[at..at + cols],
+            factor,
+        );
+        factor = factor * ratio;
+    }
+    cells[layout.min * cols..].fill(F::from(0));
+    let Ok(()) = evaluate_rows(alloc, cells, cols, lg, table, &mut Work::new()) else {
+        unreachable!()
+    };
+}
+
+/// In which of 2^stride cosets the point of this index is, and in which place of it.
+fn place_of(index: usize, stride: u8) -> (usize, usize)
+    requires { stride ≤ 32 }
+    ensures coset { result.0 ≡ index % 2 ^ stride }
+    ensures place { result.1 ≡ index / 2 ^ stride }
+{
+    let place = index >> stride;
+    (index - (place << stride), place)
+}
+
+/// Whether the row has the cells of a coset from place `from` on, where its index is `start` and a
+/// multiple of 2^stride.
+fn has_coset<R: Row>(
+    row: &R,
+    cells: &[F],
+    cols: usize,
+    from: usize,
+    start: usize,
+    stride: u8,
+) -> bool
+    requires small { stride ≤ 32 }
+    requires row { (R.index row.now / 2 ^ stride + 1) * cols ≤ length cells.now }
+    requires within { from + cols ≤ length (R.cells row.now) }
+    ensures { IsTrue result
+        → HasCosetCells cells.now cols from start stride (R.index row.now) (R.cells row.now) }
+{
+    let (coset, place) = place_of(row.index() as usize, stride);
+    if coset != start {
+        return true;
+    }
+    let at = place * cols;
+    row.has_values(from, &cells[at..at + cols])
+}
+
+/// Whether each row whose index is `start` and a multiple of 2^stride has the cells of a coset from
+/// place `from` on.
+fn have_coset<R: Row>(
+    rows: &[R],
+    cells: &[F],
+    cols: usize,
+    from: usize,
+    start: usize,
+    stride: u8,
+) -> bool
+    requires small { stride ≤ 32 }
+    requires rows { All (λ row. (R.index row / 2 ^ stride + 1) * cols ≤ length cells.now)
+        rows.now }
+    requires within { All (λ row. from + cols ≤ length (R.cells row)) rows.now }
+    ensures { IsTrue result → All (λ row. HasCosetCells cells.now cols from start stride
+        (R.index row) (R.cells row)) rows.now }
+{
+    for row in rows {
+        if !has_coset(row, cells, cols, from, start, stride) {
             return false;
         }
     }
     true
 }
 
-/// Whether the shards have the values of the data in `cols` columns from column `from` on. These
-/// values are written into `strip`.
-fn fit_strip(
+/// Whether the rows have the values of `cols` columns from column `from` on, coset by coset.
+fn have_columns<R: Row>(
     alloc: Global,
-    data: &[u64],
+    rows: &[R],
+    elements: &[F],
     layout: Layout,
     from: usize,
     cols: usize,
+    lg: u8,
     table: &[F],
-    strip: &mut [F],
-    shards: &[Shard],
+    cells: &mut [F],
 ) -> bool
-    requires layout { IsLayoutOf «data».now layout }
+    requires some { 1 ≤ layout.min }
+    requires points { layout.min ≤ 2 ^ lg }
+    requires part { lg ≤ layout.lg }
+    requires domain { layout.lg ≤ 32 }
+    requires elements { length elements.now ≡ layout.min * layout.width }
     requires within { from + cols ≤ layout.width }
-    requires size { length strip.old ≡ 2 ^ layout.lg * cols }
-    requires table { IsTableOf layout.lg table.now }
-    requires indices { All (λ s. s.index < 2 ^ layout.lg) shards.now }
-    requires cells { All (λ s. length s.cells.items ≡ layout.width) shards.now }
-    ensures { IsTrue result
-        → All (HasFirstValues «data».now layout.min layout.lg from) shards.now
-        → All (HasFirstValues «data».now layout.min layout.lg (from + cols)) shards.now }
+    requires size { length cells.old ≡ 2 ^ lg * cols }
+    requires table { IsTableOf lg table.now }
+    requires below { All (λ row. R.index row < 2 ^ layout.lg) rows.now }
+    requires count { All (λ row. length (R.cells row) ≡ layout.width) rows.now }
+    ensures { IsTrue result → All (λ row. HasValuesFrom layout.lg
+        (matrix_of layout.min layout.width elements.now) from cols
+        (R.index row) (R.cells row)) rows.now }
 {
-    write_values(alloc, data, layout, from, cols, table, strip);
-    have_rows(strip, cols, from, shards)
+    let Some(root) = F::root_of_unity(layout.lg) else {
+        unreachable!()
+    };
+    let stride = layout.lg - lg;
+    let mut ratio = F::from(1);
+    for start in 0..size_of(stride) {
+        write_coset(alloc, elements, layout, from, cols, ratio, lg, table, cells);
+        if !have_coset(rows, cells, cols, from, start, stride) {
+            return false;
+        }
+        ratio = ratio * root;
+    }
+    true
 }
 
-/// Whether the shards have the values of the data in all columns, strip by strip of at most so many
-/// columns, each in the same room.
-fn fit_strips(
+/// Whether the rows have the values of all columns, strip by strip of at most so many columns, each
+/// in the same room.
+fn have_strips<R: Row>(
     alloc: Global,
-    data: &[u64],
+    rows: &[R],
+    elements: &[F],
     layout: Layout,
+    lg: u8,
     table: &[F],
     most: usize,
     room: &mut [F],
-    shards: &[Shard],
 ) -> bool
-    requires layout { IsLayoutOf «data».now layout }
-    requires table { IsTableOf layout.lg table.now }
-    requires some { 1 ≤ most }
-    requires room { length room.old ≡ 2 ^ layout.lg * most }
-    requires indices { All (λ s. s.index < 2 ^ layout.lg) shards.now }
-    requires cells { All (λ s. length s.cells.items ≡ layout.width) shards.now }
-    ensures { IsTrue result
-        → All (HasFirstValues «data».now layout.min layout.lg layout.width) shards.now }
+    requires some { 1 ≤ layout.min }
+    requires points { layout.min ≤ 2 ^ lg }
+    requires part { lg ≤ layout.lg }
+    requires domain { layout.lg ≤ 32 }
+    requires elements { length elements.now ≡ layout.min * layout.width }
+    requires most { 1 ≤ most }
+    requires room { length room.old ≡ 2 ^ lg * most }
+    requires table { IsTableOf lg table.now }
+    requires below { All (λ row. R.index row < 2 ^ layout.lg) rows.now }
+    requires count { All (λ row. length (R.cells row) ≡ layout.width) rows.now }
+    ensures { IsTrue result → All (λ row. HasValuesOf layout.lg
+        (matrix_of layout.min layout.width elements.now) (R.index row) (R.cells row))
+        rows.now }
 {
     let mut from = 0;
     while from < layout.width {
         let cols = most.min(layout.width - from);
-        let strip = &mut room[..size_of(layout.lg) * cols];
-        if !fit_strip(alloc, data, layout, from, cols, table, strip, shards) {
+        let cells = &mut room[..size_of(lg) * cols];
+        if !have_columns(alloc, rows, elements, layout, from, cols, lg, table, cells) {
             return false;
         }
         from += cols;
@@ -109,74 +246,31 @@ fn fit_strips(
     true
 }
 
-/// Whether each of the shards is the one of its index for the data. Takes memory as `split` does,
-/// but for no shards.
-fn are_shards_of(alloc: Global, data: &[u64], shards: &[Shard], first: &Shard) -> Mem<bool>
-    requires some { 1 ≤ first.now.min }
-    requires within { first.now.min ≤ first.now.total }
-    requires sound { All (IsSound first.now) shards.now }
-    ensures { IfOk result (λ answer. IsTrue answer
-        → All (IsShardOf «data».now first.now.min first.now.total) shards.now) }
+/// Whether each row has the values, at the power of the root that is its index, of the polynomials
+/// whose coefficients are the columns of the elements, row by row, in this layout.
+///
+/// Takes memory for a table of as many elements as a coset has points, and for one strip of it.
+pub(super) fn have_values<R: Row>(
+    alloc: Global,
+    rows: &[R],
+    elements: &[F],
+    layout: Layout,
+) -> Mem<bool>
+    requires some { 1 ≤ layout.min }
+    requires wide { 1 ≤ layout.width }
+    requires points { layout.min ≤ 2 ^ layout.lg }
+    requires domain { layout.lg ≤ 32 }
+    requires size { length elements.now ≡ layout.min * layout.width }
+    requires below { All (λ row. R.index row < 2 ^ layout.lg) rows.now }
+    requires count { All (λ row. length (R.cells row) ≡ layout.width) rows.now }
+    ensures { IfOk result (λ answer. IsTrue answer → All (λ row. HasValuesOf layout.lg
+        (matrix_of layout.min layout.width elements.now) (R.index row) (R.cells row))
+        rows.now) }
 {
-    let layout = layout_of(data, first.min, first.total);
-    if layout.width != first.cells.len() {
-        return Ok(false);
-    }
-    let table = evaluation_table::<F>(alloc, layout.lg)?;
-    let most = most_cols(layout);
-    let mut room = strip_room(alloc, layout, most)?;
-    Ok(fit_strips(alloc, data, layout, &table, most, &mut room, shards))
-}
-
-/// The words that shards give by weights, where these are taken and the coefficients begin with
-/// data. Whether they are the data of the shards is not looked at.
-fn words_by_weights(alloc: Global, shards: &[Shard], first: &Shard) -> Mem<Option<Vec<u64>>>
-    requires some { 1 ≤ first.now.min }
-    requires sound { All (IsSound first.now) shards.now }
-    ensures { IfOk result (λ answer. IfSome answer
-        (λ words. MayBeData first.now shards.now words.items)) }
-{
-    let Some(elements) = weighed_coefficients(alloc, shards, first)? else {
-        return Ok(None);
-    };
-    let words = unpacked(alloc, &elements)?;
-    Ok(leading_data(words))
-}
-
-/// The words that the first `min` shards of distinct indices so give. These shards are copied where
-/// they are not the first ones of all.
-fn words_of_chosen(alloc: Global, shards: &[Shard], first: &Shard) -> Mem<Option<Vec<u64>>>
-    requires some { 1 ≤ first.now.min }
-    requires many { first.now.min ≤ length shards.now }
-    requires sound { All (IsSound first.now) shards.now }
-    ensures { IfOk result (λ answer. IfSome answer
-        (λ words. MayBeData first.now shards.now words.items)) }
-{
-    let leading = &shards[..first.min as usize];
-    if are_distinct(leading) {
-        let found = words_by_weights(alloc, leading, first)?;
-        return Ok(found);
-    }
-    let copies = distinct_copies(alloc, shards, first.min as usize)?;
-    let found = words_by_weights(alloc, &copies, first)?;
-    Ok(found)
-}
-
-/// The data of more than `min` shards, where the first `min` of distinct indices give them by
-/// weights and all shards fit them; `None` elsewhere.
-pub(super) fn fitted_data(alloc: Global, shards: &[Shard], first: &Shard) -> Mem<Option<Vec<u64>>>
-    requires some { 0 < length shards.now }
-    requires sound { All (IsSound first.now) shards.now }
-    ensures { IfOk result (λ answer. IfSome answer (λ words. JoinTo words.items shards.now)) }
-{
-    if !are_weights_taken(first) || shards.len() <= first.min as usize {
-        return Ok(None);
-    }
-    let Some(data) = words_of_chosen(alloc, shards, first)? else {
-        return Ok(None);
-    };
-    if !are_shards_of(alloc, &data, shards, first)? {
-        return Ok(None);
-    }
-    Ok(Some(data))
+    let lg = coset_lg(layout);
+    let table = evaluation_table::<F>(alloc, lg)?;
+    let most = most_cols(layout.width, lg);
+    let coset = Layout { lg, ..layout };
+    let mut room = strip_room(alloc, coset, most)?;
+    Ok(have_strips(alloc, rows, elements, layout, lg, &table, most, &mut room))
 }

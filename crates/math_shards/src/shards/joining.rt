@@ -9,17 +9,20 @@ ghost use Rattle.math_base.specs.Elements.{same};
 ghost use Rattle.math_base.specs.Packing.{words_of};
 ghost use Rattle.math_ntt.specs.Evaluations.{IsFilledAt};
 ghost use Rattle.math_transforms.specs.Matrices.{IsOfSize};
-ghost use Rattle.math_shards.specs.Shards.{counted, distinct_indices, JoinTo};
+ghost use Rattle.math_shards.specs.Fitting.{AreDataOf, DoRowsFit};
+ghost use Rattle.math_shards.specs.Shards.{counted, JoinTo};
 ghost use Rattle.math_shards.specs.Joining.{ArePolynomialsOf, HoldsIfFilled, HoldsOthers};
 ghost use Rattle.math_shards.specs.Joining.{HaveConflict, HoldsShards, IsDue, IsDueBeside};
 ghost use Rattle.math_shards.specs.Joining.{IsMemory, IsSound, IsUnsound, Matches, RefusesExactly};
 ghost use Rattle.math_shards.specs.declared.shards.Error.TheVariants.{TooFew, Mismatch, Index};
 ghost use Rattle.math_shards.specs.declared.shards.Error.TheVariants.{Conflict, Inconsistent};
 
-use super::fitting::fitted_data;
+use super::fitting::have_values;
 use super::layout::{laid_out, polynomials};
-use super::unpacking::{data_of_elements, leading_data};
-use super::weighing::weighed_coefficients;
+use super::rows::Row;
+use super::strips::Layout;
+use super::unpacking::{data_count, leading_data, write_data};
+use super::weighing::{are_weights_taken, weighed_coefficients};
 use super::{Error, Shard};
 use math_base::algebra::Mem;
 use math_base::fields::goldilocks::F;
@@ -37,16 +40,15 @@ use std::alloc::{AllocError, Global};
 /// that are those of no data with `Inconsistent`. Where more than `min` shards are there, damage to
 /// one is so found, and where just `min` are there it is not.
 ///
-/// Where `min` is at most 256 and no more than a shard has cells, `min` shards of distinct indices
-/// are joined by weights: beside the data it then takes memory for as many elements as these shards
-/// have cells, and for a few times N rows of `min` cells, where N is `total` rounded up to a power
-/// of two. With further shards the first `min` of distinct indices are joined so, with memory for
-/// their cells once more where an index stands twice among the first `min`, and then all shards are
-/// compared with the data, in the memory that `split` takes beside its shards. Where one of them
-/// does not fit, and where `min` is greater, shards are joined by transforms, with memory for a few
-/// times N rows of as many cells as a shard has. Who takes shards from strangers bounds `total`
-/// first. Nothing is allocated by a number that a shard claims of its data before the cells are seen
-/// to be so many.
+/// Where `min` is at most 256 and no more than a shard has cells, the first `min` shards of
+/// distinct indices are joined by weights: beside the data it then takes memory for as many
+/// elements as these shards have cells, and for a few times N rows of `min` cells, where N is
+/// `total` rounded up to a power of two. All shards are then compared with the data where there are
+/// further ones, in memory for a table and a strip of a coset of as many points as `min`, or more.
+/// Where one of them does not fit, and where `min` is greater, shards are joined by transforms,
+/// with memory for a few times N rows of as many cells as a shard has. Who takes shards from
+/// strangers bounds `total` first. Nothing is allocated by a number that a shard claims of its data
+/// before the cells are seen to be so many.
 pub fn join(alloc: Global, shards: &[Shard]) -> Result<Vec<u64>, Error>
     ensures ok { IfOk result (λ words. JoinTo words.items shards.now) }
     ensures found { (words : List ℕ) → JoinTo words shards.now
@@ -72,9 +74,6 @@ fn recovered_data(alloc: Global, shards: &[Shard]) -> Result<Vec<u64>, Error>
     if let Some(words) = weighed_data(alloc, shards, first)? {
         return Ok(words);
     }
-    if let Some(words) = fitted_data(alloc, shards, first)? {
-        return Ok(words);
-    }
     let values = gathered(alloc, shards, first)?;
     if values.filled_rows() < first.min as usize {
         return Err(Error::TooFew);
@@ -86,23 +85,64 @@ fn recovered_data(alloc: Global, shards: &[Shard]) -> Result<Vec<u64>, Error>
     }
 }
 
-/// The data of the shards by weights, or that there are none; `None` where no weights are taken.
-fn weighed_data(alloc: Global, shards: &[Shard], first: &Shard) -> Result<Option<Vec<u64>>, Error>
-    requires some { 0 < length shards.now }
-    requires sound { All (IsSound first.now) shards.now }
-    ensures ok { IfOk result
-        (λ answer. IfSome answer (λ words. JoinTo words.items shards.now)) }
-    ensures err { IfErr result (IsDueBeside (HaveConflict shards.now)
-        (distinct_indices first.now.total shards.now) (λ words. JoinTo words shards.now)
-        first.now shards.now) }
+/// The elements of the data that the rows fit, by weights, and how many words these data are;
+/// `None` where no weights are taken or some row does not fit.
+///
+/// The first `min` rows of distinct indices have the values of the polynomials that their weights
+/// give. Where there are further rows, all are compared with these values.
+pub(super) fn fitted_elements<R: Row>(
+    alloc: Global,
+    rows: &[R],
+    min: u32,
+    total: u32,
+    width: usize,
+) -> Mem<Option<(Vec<F>, usize)>>
+    requires some { 1 ≤ min }
+    requires within { min ≤ total }
+    requires below { All (λ row. R.index row < total) rows.now }
+    requires count { All (λ row. length (R.cells row) ≡ width) rows.now }
+    ensures { IfOk result (λ answer. IfSome answer (λ found. (words : List ℕ)
+        × (length words ≡ found.1) × AreDataOf words min found.0.items
+        × DoRowsFit R.index R.cells words min total rows.now)) }
 {
-    let Some(elements) = weighed_coefficients(alloc, shards, first)? else {
+    if !are_weights_taken(min, width) || rows.len() < min as usize {
+        return Ok(None);
+    }
+    let Some(elements) = weighed_coefficients(alloc, rows, min, total, width)? else {
         return Ok(None);
     };
-    match data_of_elements(alloc, &elements, first)? {
-        Some(data) => Ok(Some(data)),
-        None => Err(Error::Inconsistent),
+    let Some(count) = data_count(&elements, min, width) else {
+        return Ok(None);
+    };
+    if rows.len() == min as usize {
+        return Ok(Some((elements, count)));
     }
+    let layout = Layout {
+        min: min as usize,
+        width,
+        lg: lg_of((total as usize).next_power_of_two()),
+    };
+    if !have_values(alloc, rows, &elements, layout)? {
+        return Ok(None);
+    }
+    Ok(Some((elements, count)))
+}
+
+/// The data of the shards by weights; `None` where no weights are taken or some shard does not fit.
+fn weighed_data(alloc: Global, shards: &[Shard], first: &Shard) -> Mem<Option<Vec<u64>>>
+    requires some { 0 < length shards.now }
+    requires sound { All (IsSound first.now) shards.now }
+    ensures { IfOk result (λ answer. IfSome answer (λ words. JoinTo words.items shards.now)) }
+{
+    let width = first.cells.len();
+    let Some((elements, count)) = fitted_elements(alloc, shards, first.min, first.total, width)?
+    else {
+        return Ok(None);
+    };
+    let mut words = Vec::with_capacity(alloc, count)?;
+    words.resize(count, 0)?;
+    write_data(&elements, &mut words);
+    Ok(Some(words))
 }
 
 /// Whether the numbers and the number of cells are those of the first shard, and such as shards

@@ -1,26 +1,23 @@
 //! Elements back to data.
+//!
+//! Word i that elements unpack to has 64 bits, of which the first is bit 64 i of the elements,
+//! which have 63 each. Write i as 63 a + b with b below 63, and let q be 64 a + b, which is i + a.
+//! Then 64 i is 63 q + b: the 63 - b highest bits of element q are the lowest of the word, and the
+//! others are the lowest of element q + 1. So any word is had from two elements, and no list of all
+//! words is made. Within a run of 63 words, b and the place of the element rise by one with each
+//! word.
 
-ghost use Rattle.std.specs.Prelude.{◌≡◌, ◌↔◌, ◌*◌, ◌<◌, ◌≤◌, ◌^◌, ◌++◌, ℕ, List, All, length};
-ghost use Rattle.std.specs.Prelude.{None, IsSome, IsTrue, IfOk, IfSome, slice_index_or};
-ghost use Rattle.math_base.specs.Elements.{residue, same};
+ghost use Rattle.std.specs.Prelude.{◌≡◌, ◌↔◌, ◌+◌, ◌*◌, ◌%◌, ◌<◌};
+ghost use Rattle.std.specs.Prelude.{◌≤◌, ◌^◌, ◌++◌, ℕ, List, All, length};
+ghost use Rattle.std.specs.Prelude.{IsSome, IsTrue, IfOk, IfSome, slice_index, slice_index_or};
+ghost use Rattle.std.specs.Int.{div_ceil};
+ghost use Rattle.math_base.specs.Elements.{number, residue, same};
 ghost use Rattle.math_base.specs.Packing.{words_of};
-ghost use Rattle.math_shards.specs.Joining.{ArePolynomialsOf};
-ghost use Rattle.math_shards.specs.Shards.{counted, elements_for, with_zeros};
-ghost use Rattle.math_shards.specs.Weights.{rows_with};
+ghost use Rattle.math_shards.specs.Fitting.{AreDataOf};
+ghost use Rattle.math_shards.specs.Shards.{counted};
+ghost use Rattle.math_shards.specs.Unpacking.{AreBetween, AreRepacked, AreUnpacked, word_between};
 
-use super::Shard;
-use math_base::algebra::Mem;
 use math_base::fields::goldilocks::F;
-use std::alloc::Global;
-
-/// The words that the elements unpack to.
-pub(super) fn unpacked(alloc: Global, elements: &[F]) -> Mem<Vec<u64>>
-    ensures { IfOk result (λ words. words.items ≡ words_of elements.now) }
-{
-    let mut words = Vec::with_capacity(alloc, elements.len() - elements.len() / 64)?;
-    words.extend(F::stream_to_u64s(elements.iter().copied()))?;
-    Ok(words)
-}
 
 /// The data that words begin with, where so many words follow as the first one says.
 pub(super) fn leading_data(words: Vec<u64>) -> Option<Vec<u64>>
@@ -40,17 +37,6 @@ pub(super) fn leading_data(words: Vec<u64>) -> Option<Vec<u64>>
     Some(found)
 }
 
-/// Whether this element stands at the place.
-fn stands_at(elements: &[F], place: usize, element: F) -> bool
-    ensures { IsTrue result ↔ (place < length elements.now)
-        × (slice_index_or elements.now place (residue 0) ≡ element) }
-{
-    if place >= elements.len() {
-        return false;
-    }
-    elements[place] == element
-}
-
 /// Whether all elements are zero.
 fn are_zero(elements: &[F]) -> bool
     ensures { IsTrue result ↔ All (λ element. same element (residue 0)) elements.now }
@@ -63,59 +49,141 @@ fn are_zero(elements: &[F]) -> bool
     true
 }
 
-/// How many elements the number of the data and the data pack to, where the elements begin with
-/// these, and all others are zero. The data are packed once more, and none of it is kept.
-fn packed_count(elements: &[F], data: &[u64]) -> Option<usize>
-    ensures count { IfSome result (λ n. n ≡ length (elements_for «data».now)) }
-    ensures some { IfSome result (λ _.
-        elements.now ≡ with_zeros (length elements.now) (elements_for «data».now)) }
-    ensures none { result ≡ None
-        → ¬ (elements.now ≡ with_zeros (length elements.now) (elements_for «data».now)) }
+/// The 63 lowest bits of an element.
+fn bits_of(element: F) -> u64
+    ensures { result ≡ number element % 2 ^ 63 }
 {
-    let words = std::iter::once(data.len() as u64).chain(data.iter().copied());
-    let mut count = 0;
-    let mut equal = true;
-    for element in F::stream_from_u64s(words) {
-        if stands_at(elements, count, element) {
-            count += 1;
-        } else {
-            equal = false;
-        }
-    }
-    if !equal {
-        return None;
-    }
-    if !are_zero(&elements[count..]) {
-        return None;
-    }
-    Some(count)
+    u64::from_le_bytes(element.to_le_bytes()) & 0x7fff_ffff_ffff_ffff
 }
 
-/// The data of which these are the elements, in rows as wide as a shard, where there are such data.
-pub(super) fn data_of_elements(
-    alloc: Global,
-    elements: &[F],
-    first: &Shard,
-) -> Mem<Option<Vec<u64>>>
-    requires some { 1 ≤ first.now.min }
-    requires size { length elements.now ≡ first.now.min * length first.now.cells.items }
-    ensures each_word { IfOk result
-        (λ answer. IfSome answer (λ found. All (λ word. word < 2 ^ 64) found.items)) }
-    ensures some { IfOk result (λ answer. IfSome answer (λ found.
-        ArePolynomialsOf found.items first.now.min (rows_with first.now elements.now))) }
-    ensures none { (words : List ℕ) → All (λ word. word < 2 ^ 64) words → length words < 2 ^ 64
-        → ArePolynomialsOf words first.now.min (rows_with first.now elements.now)
-        → IfOk result (λ answer. IsSome answer) }
+/// The 63 lowest bits of the element in this place. Past the last one they are zero.
+fn bits_at(elements: &[F], place: usize) -> u64
+    ensures { result ≡ number (slice_index_or elements.now place (residue 0)) % 2 ^ 63 }
 {
-    let words = unpacked(alloc, elements)?;
-    let Some(data) = leading_data(words) else {
-        return Ok(None);
-    };
-    let Some(count) = packed_count(elements, &data) else {
-        return Ok(None);
-    };
-    if count.div_ceil(first.min as usize) != first.cells.len() {
-        return Ok(None);
+    if place >= elements.len() {
+        return 0;
     }
-    Ok(Some(data))
+    bits_of(elements[place])
+}
+
+/// The word in this place of those that the elements unpack to. Past the last one it is zero.
+fn word_at(elements: &[F], place: usize) -> u64
+    requires { place < 2 ^ 63 }
+    ensures { result ≡ slice_index (words_of elements.now) place }
+{
+    let first = place + place / 63;
+    let taken = (place % 63) as u32;
+    (bits_at(elements, first) >> taken) | (bits_at(elements, first + 1) << (63 - taken))
+}
+
+/// The word whose first bits are those of an element behind the `taken` lowest, and the others the
+/// lowest of the next element.
+fn word_of(first: F, next: F, taken: u32) -> u64
+    requires { taken < 63 }
+    ensures { result ≡ word_between first next taken }
+{
+    (bits_of(first) >> taken) | (bits_of(next) << (63 - taken))
+}
+
+/// Whether the number of each element is below the bound.
+fn are_below(elements: &[F], bound: u64) -> bool
+    ensures { IsTrue result → All (λ element. number element < bound) elements.now }
+{
+    elements.iter().all(|element| u64::from_le_bytes(element.to_le_bytes()) < bound)
+}
+
+/// Whether the first elements are those that the first `count` + 1 words pack to, of which there
+/// are `filled`. They are where all but the last are below 2^63, and the last has no more bits than
+/// the words have left for it.
+fn are_repacked(elements: &[F], count: usize, filled: usize) -> bool
+    requires few { count < 2 ^ 60 }
+    requires filled { filled ≡ count + 1 + div_ceil (count + 1) 63 }
+    requires within { filled ≤ length elements.now }
+    ensures { IsTrue result → AreRepacked elements.now count filled }
+{
+    let last = filled - 1;
+    let left = (count % 63) as u32 + 1;
+    are_below(&elements[..last], 1 << 63) && are_below(&elements[last..filled], 1 << left)
+}
+
+/// How many words of data the elements are, where they are those of data, in `min` rows of just the
+/// width that these need.
+pub(super) fn data_count(elements: &[F], min: u32, width: usize) -> Option<usize>
+    requires some { 1 ≤ min }
+    requires size { length elements.now ≡ min * width }
+    ensures { IfSome result (λ n. (words : List ℕ) × (length words ≡ n)
+        × AreDataOf words min elements.now) }
+{
+    let count = word_at(elements, 0);
+    if count >= elements.len() as u64 {
+        return None;
+    }
+    let words = count as usize + 1;
+    let filled = words + words.div_ceil(63);
+    if filled.div_ceil(min as usize) != width {
+        return None;
+    }
+    if !are_repacked(elements, count as usize, filled) {
+        return None;
+    }
+    if !are_zero(&elements[filled..]) {
+        return None;
+    }
+    Some(count as usize)
+}
+
+/// Writes over the words those whose first bits are those of an element, and the others the lowest
+/// of the next element: of the first element the bits behind the `taken` lowest, and of each
+/// further one a bit less.
+fn write_words(elements: &[F], taken: u32, out: &mut [u64])
+    requires elements { length elements.now ≡ length out.old + 1 }
+    requires taken { taken + length out.old ≤ 63 }
+    ensures { AreBetween elements.now taken out.new }
+{
+    let next = &elements[1..];
+    let first = &elements[..next.len()];
+    let out = &mut out[..next.len()];
+    for k in 0..next.len() {
+        out[k] = word_of(first[k], next[k], taken + k as u32);
+    }
+}
+
+/// Writes over the words those that the elements unpack to, from place `first` on, where these are
+/// in one run of 63.
+fn write_run(elements: &[F], first: usize, out: &mut [u64])
+    requires fits { first + length out.old < 2 ^ 63 }
+    requires run { first % 63 + length out.old ≤ 63 }
+    ensures { AreUnpacked elements.now first out.new }
+{
+    let from = first + first / 63;
+    let last = from + out.len();
+    if last < elements.len() {
+        write_words(&elements[from..last + 1], (first % 63) as u32, out);
+    } else {
+        for k in 0..out.len() {
+            out[k] = word_at(elements, first + k);
+        }
+    }
+}
+
+/// Writes over the words those that the elements unpack to, from place `first` on.
+fn write_unpacked(elements: &[F], first: usize, out: &mut [u64])
+    requires { first + length out.old < 2 ^ 63 }
+    ensures { AreUnpacked elements.now first out.new }
+{
+    let mut done = 0;
+    while done < out.len() {
+        let at = first + done;
+        let count = (63 - at % 63).min(out.len() - done);
+        write_run(elements, at, &mut out[done..done + count]);
+        done += count;
+    }
+}
+
+/// Writes over the words the data whose elements these are.
+pub(super) fn write_data(elements: &[F], out: &mut [u64])
+    ensures { (words : List ℕ) (min : ℕ) → length words ≡ length out.old
+        → AreDataOf words min elements.now → out.new ≡ words }
+{
+    write_unpacked(elements, 1, out);
 }

@@ -6,27 +6,30 @@
 //! values, and so it is the polynomial of column j, since no other one of k coefficients has them.
 //! So coefficient r of column j is the sum of the cells j of all shards, each times coefficient r
 //! of its polynomial: these weights are the same for all columns. They are had by a recovery from k
-//! rows of k cells, in which the row of shard i has one in place i and zero in every other. The
-//! cells are then read once, and each coefficient takes k products and one reduction.
+//! rows of k cells, in which the row of shard i has one in place i and zero in every other. Each
+//! coefficient then takes k products and one reduction, and the coefficients of a column are
+//! written over its cells.
 
-ghost use Rattle.std.specs.Prelude.{◌≡◌, ◌↔◌, ◌+◌, ◌*◌, ◌<◌, ◌≤◌, ◌^◌, ℕ, All, length, IsTrue};
-ghost use Rattle.std.specs.Prelude.{IfOk};
-ghost use Rattle.std.specs.Prelude.{IfSome, OnOk, slice_index_or};
+ghost use Rattle.std.specs.Prelude.{◌≡◌, ◌+◌, ◌*◌, ◌<◌, ◌≤◌, ◌^◌, ◌↔◌, ◌==◌, ℕ, All, length, map};
+ghost use Rattle.std.specs.Prelude.{IsTrue, IfOk, IfSome, OnOk, slice_index_or};
 ghost use Rattle.std.specs.Int.{IsNextPowerOfTwo};
+ghost use Rattle.std.specs.List.{list_any};
 ghost use Rattle.math_theory.specs.Recovery.{count_true};
 ghost use Rattle.math_theory.specs.Sums.{weighted_sum};
 ghost use Rattle.math_base.specs.Elements.{residue, sum, product};
-ghost use Rattle.math_transforms.specs.Matrices.{row_of};
+ghost use Rattle.math_transforms.specs.DomainValues.{matrix_of};
+ghost use Rattle.math_transforms.specs.Matrices.{column_of, row_of};
+ghost use Rattle.math_shards.specs.Fitting.{HasValuesOf, distinct_among};
 ghost use Rattle.math_shards.specs.Joining.{HoldsShards, IsSound};
-ghost use Rattle.math_shards.specs.Weights.{AreCoefficients, AreUnitShards, AreWeightsOf};
-ghost use Rattle.math_shards.specs.Weights.{HasColumnsOf, IsUnitShard, cells_at, rows_with};
+ghost use Rattle.math_shards.specs.Weights.{AreChosen, AreCoefficients, AreDistinct};
+ghost use Rattle.math_shards.specs.Weights.{AreUnitShards, AreWeightsOf};
 
 use super::Shard;
 use super::joining::no_rows;
+use super::rows::Row;
 use math_base::algebra::Mem;
 use math_base::fields::goldilocks::F;
 use math_ntt::ntt::{EvaluationVector, Matrix};
-use math_transforms::cells::filled_up;
 use math_transforms::weights::one_at;
 use math_values::sums::sum_of_products;
 use std::alloc::{AllocError, Global};
@@ -36,170 +39,175 @@ const MOST_WEIGHED: u32 = 256;
 
 /// Whether so few shards give the data back that their weights are taken: at most 256, and no more
 /// than a shard has cells, so that the weights are fewer than the cells.
-pub(super) fn are_weights_taken(first: &Shard) -> bool
-    ensures { IsTrue result
-        ↔ (first.now.min ≤ 256) × (first.now.min ≤ length first.now.cells.items) }
+pub(super) fn are_weights_taken(min: u32, width: usize) -> bool
+    ensures { IsTrue result ↔ (min ≤ 256) × (min ≤ width) }
 {
-    first.min <= MOST_WEIGHED && first.min as usize <= first.cells.len()
+    min <= MOST_WEIGHED && min as usize <= width
 }
 
-/// Whether there are just as many shards as give the data back, and their weights are taken.
-fn are_few(shards: &[Shard], first: &Shard) -> bool
-    ensures { IsTrue result → length shards.now ≡ first.now.min }
+/// Whether the number is one of these.
+fn is_among(indices: &[u32], index: u32) -> bool
+    ensures { result ≡ list_any (λ other. other == index) indices.now }
 {
-    are_weights_taken(first) && shards.len() == first.min as usize
+    for other in indices {
+        if *other == index {
+            return true;
+        }
+    }
+    false
 }
 
-/// A shard with the numbers of this one and `count` cells: one in place i, and zero in every other.
-fn unit_shard(alloc: Global, shard: &Shard, i: usize, count: usize) -> Mem<Shard>
-    requires { i < count }
-    ensures { IfOk result (λ unit. IsUnitShard count i shard.now unit) }
+/// The indices of the first `min` rows of distinct indices, or of all such rows where they are
+/// fewer, and the cells of these rows, one row after the other.
+fn chosen<R: Row>(alloc: Global, rows: &[R], min: usize, width: usize) -> Mem<(Vec<u32>, Vec<F>)>
+    requires count { All (λ row. length (R.cells row) ≡ width) rows.now }
+    ensures few { IfOk result (λ answer. length answer.0.items ≤ min) }
+    ensures rows { IfOk result
+        (λ answer. AreChosen R.index R.cells width rows.now answer.0.items answer.1.items) }
 {
-    let cells = one_at(alloc, i, count)?;
-    Ok(Shard {
-        index: shard.index,
-        min: shard.min,
-        total: shard.total,
-        cells,
-    })
+    let Some(count) = min.checked_mul(width) else {
+        return Err(AllocError);
+    };
+    let mut indices = Vec::with_capacity(alloc, min)?;
+    let mut cells = Vec::with_capacity(alloc, count)?;
+    for row in rows {
+        if indices.len() < min && !is_among(&indices, row.index()) {
+            indices.push(row.index())?;
+            row.append_to(&mut cells)?;
+        }
+    }
+    Ok((indices, cells))
 }
 
-/// For each shard one of its numbers, with a cell for each shard: one at its own place.
-fn unit_shards(alloc: Global, shards: &[Shard]) -> Mem<Vec<Shard>>
-    ensures { IfOk result (λ units. AreUnitShards shards.now units.items) }
+/// A shard for each index: its cells are one in the place of the index among these, and zero in
+/// every other.
+fn unit_shards(alloc: Global, indices: &[u32], min: u32, total: u32) -> Mem<Vec<Shard>>
+    ensures { IfOk result (λ units. AreUnitShards indices.now min total units.items) }
 {
-    let mut units = Vec::with_capacity(alloc, shards.len())?;
-    for (i, shard) in shards.iter().enumerate() {
-        units.push(unit_shard(alloc, shard, i, shards.len())?)?;
+    let mut units = Vec::with_capacity(alloc, indices.len())?;
+    for i in 0..indices.len() {
+        let cells = one_at(alloc, i, indices.len())?;
+        units.push(Shard {
+            index: indices[i],
+            min,
+            total,
+            cells,
+        })?;
     }
     Ok(units)
 }
 
-/// The vector of values in which the row of each shard's index is filled with its cells, where no
-/// two shards have one index.
-fn distinct_rows(alloc: Global, shards: &[Shard], first: &Shard) -> Mem<Option<EvaluationVector<F>>>
-    requires { All (IsSound first.now) shards.now }
-    ensures held { IfOk result (λ answer. IfSome answer (λ e. (lg : ℕ)
-        × IsNextPowerOfTwo first.now.total (2 ^ lg)
-        × HoldsShards lg (length first.now.cells.items) shards.now e)) }
-    ensures count { IfOk result
-        (λ answer. IfSome answer (λ e. count_true e.filled ≡ length shards.now)) }
-    ensures total { IfOk result (λ _. first.now.total < 2 ^ 32) }
+/// The vector of values in which the row of each shard's index is filled with its cells.
+fn filled_rows(alloc: Global, shards: &[Shard], first: &Shard) -> Mem<EvaluationVector<F>>
+    requires sound { All (IsSound first.now) shards.now }
+    requires distinct { AreDistinct (map (λ s. s.index) shards.now) }
+    ensures held { IfOk result (λ e. (lg : ℕ) × IsNextPowerOfTwo first.now.total (2 ^ lg)
+        × HoldsShards lg (length first.now.cells.items) shards.now e) }
+    ensures count { IfOk result (λ e. count_true e.filled ≡ length shards.now) }
 {
     let mut values = no_rows(alloc, first)?;
     for shard in shards {
-        let row = shard.index as usize;
-        if values.is_filled(row) {
-            return Ok(None);
-        }
-        values.fill_row(alloc, row, &shard.cells)?;
+        values.fill_row(alloc, shard.index as usize, &shard.cells)?;
     }
-    Ok(Some(values))
+    Ok(values)
 }
 
-/// The weights of the shards, where no two of them have one index: row r has the weights by which
-/// their cells give coefficient r.
-fn weights_of(alloc: Global, shards: &[Shard], first: &Shard) -> Mem<Option<Matrix<F>>>
-    requires some { 0 < length shards.now }
-    requires sound { All (IsSound first.now) shards.now }
-    ensures weights { IfOk result
-        (λ answer. IfSome answer (λ m. AreWeightsOf first.now.total shards.now m)) }
-    ensures total { IfOk result (λ answer. IfSome answer (λ _. first.now.total < 2 ^ 32)) }
+/// The weights of rows with these indices, all of them distinct: row r has the weights by which
+/// cells of the rows give coefficient r.
+fn weights_of(alloc: Global, indices: &[u32], min: u32, total: u32) -> Mem<Matrix<F>>
+    requires some { 0 < length indices.now }
+    requires least { 1 ≤ min }
+    requires within { min ≤ total }
+    requires below { All (λ i. i < total) indices.now }
+    requires distinct { AreDistinct indices.now }
+    ensures { IfOk result (λ m. AreWeightsOf total indices.now m) }
 {
-    let units = unit_shards(alloc, shards)?;
-    let Some(values) = distinct_rows(alloc, &units, &units[0])? else {
-        return Ok(None);
-    };
+    let units = unit_shards(alloc, indices, min, total)?;
+    let values = filled_rows(alloc, &units, &units[0])?;
     let recovered = values.recover(alloc)?;
-    Ok(Some(recovered.data()))
+    Ok(recovered.data())
 }
 
-/// Puts the cells at place `column` of all shards into `cells`, in place of what was there.
-fn gather(cells: &mut Vec<F>, shards: &[Shard], column: usize) -> Mem<()>
-    requires { All (λ s. column < length s.cells.items) shards.now }
-    ensures { OnOk result (cells.new.items ≡ cells_at shards.now column) }
+/// Puts the cells of a column into `column`, in place of what was there.
+fn gather(column: &mut Vec<F>, cells: &[F], width: usize, k: usize, count: usize) -> Mem<()>
+    requires size { length cells.now ≡ count * width }
+    requires within { k < width }
+    ensures { OnOk result
+        (column.new.items ≡ column_of (residue 0) (matrix_of count width cells.now) k) }
 {
-    cells.clear();
-    for shard in shards {
-        cells.push(shard.cells[column])?;
+    column.clear();
+    for r in 0..count {
+        column.push(cells[r * width + k])?;
     }
     Ok(())
 }
 
-/// Writes one column of coefficients: in row r the sum of the cells, each times its weight there.
-fn put_column(coefficients: &mut [F], width: usize, column: usize, cells: &[F], weights: &Matrix<F>)
-    requires size { length coefficients.old ≡ length cells.now * width }
-    requires column { column < width }
-    requires rows { length cells.now ≤ weights.now.rows }
-    requires cols { weights.now.cols ≡ length cells.now }
-    ensures column { (r : ℕ) → r < length cells.now
-        → slice_index_or coefficients.new (r * width + column) (residue 0)
-        ≡ weighted_sum (residue 0) sum product cells.now (row_of weights.now r) }
-    ensures others { (r k : ℕ) → r < length cells.now → k < width → ¬ (k ≡ column)
-        → slice_index_or coefficients.new (r * width + k) (residue 0)
-        ≡ slice_index_or coefficients.old (r * width + k) (residue 0) }
+/// Writes the coefficients of a column over its cells: in row r the sum of the items, each times
+/// its weight there.
+fn put_column(cells: &mut [F], width: usize, k: usize, column: &[F], weights: &Matrix<F>)
+    requires size { length cells.old ≡ length column.now * width }
+    requires within { k < width }
+    requires rows { length column.now ≤ weights.now.rows }
+    requires cols { weights.now.cols ≡ length column.now }
+    ensures column { (r : ℕ) → r < length column.now
+        → slice_index_or cells.new (r * width + k) (residue 0)
+        ≡ weighted_sum (residue 0) sum product column.now (row_of weights.now r) }
+    ensures others { (r j : ℕ) → r < length column.now → j < width → ¬ (j ≡ k)
+        → slice_index_or cells.new (r * width + j) (residue 0)
+        ≡ slice_index_or cells.old (r * width + j) (residue 0) }
 {
-    for r in 0..cells.len() {
-        coefficients[r * width + column] = sum_of_products(cells, weights.row(r));
+    for r in 0..column.len() {
+        cells[r * width + k] = sum_of_products(column, weights.row(r));
     }
 }
 
-/// Writes the coefficients of all columns.
+/// Writes the coefficients of all columns over their cells.
 fn put_columns(
     alloc: Global,
-    coefficients: &mut [F],
+    cells: &mut [F],
     width: usize,
-    shards: &[Shard],
+    count: usize,
     weights: &Matrix<F>,
 ) -> Mem<()>
-    requires size { length coefficients.old ≡ length shards.now * width }
-    requires cells { All (λ s. length s.cells.items ≡ width) shards.now }
-    requires rows { length shards.now ≤ weights.now.rows }
-    requires cols { weights.now.cols ≡ length shards.now }
-    ensures { OnOk result (AreCoefficients weights.now shards.now width coefficients.new) }
+    requires size { length cells.old ≡ count * width }
+    requires rows { count ≤ weights.now.rows }
+    requires cols { weights.now.cols ≡ count }
+    ensures { OnOk result (AreCoefficients weights.now count width cells.old cells.new) }
 {
-    let mut cells = Vec::with_capacity(alloc, shards.len())?;
-    for column in 0..width {
-        gather(&mut cells, shards, column)?;
-        put_column(coefficients, width, column, &cells, weights);
+    let mut column = Vec::with_capacity(alloc, count)?;
+    for k in 0..width {
+        gather(&mut column, cells, width, k, count)?;
+        put_column(cells, width, k, &column, weights);
     }
     Ok(())
 }
 
-/// The coefficients of all columns, row by row: as many rows as there are shards.
-fn coefficients(alloc: Global, shards: &[Shard], width: usize, weights: &Matrix<F>) -> Mem<Vec<F>>
-    requires cells { All (λ s. length s.cells.items ≡ width) shards.now }
-    requires rows { length shards.now ≤ weights.now.rows }
-    requires cols { weights.now.cols ≡ length shards.now }
-    ensures { IfOk result (λ v. AreCoefficients weights.now shards.now width v.items) }
-{
-    if shards.len().checked_mul(width).is_none() {
-        return Err(AllocError);
-    }
-    let count = shards.len() * width;
-    let mut out = filled_up(alloc, Vec::with_capacity(alloc, count)?, count)?;
-    put_columns(alloc, &mut out, width, shards, weights)?;
-    Ok(out)
-}
-
-/// The coefficients of the polynomials of which the shards have the values, row by row, where the
-/// shards are just `min`, of distinct indices, and few.
-pub(super) fn weighed_coefficients(
+/// The coefficients, row by row, of the polynomials of `min` coefficients that have the cells of
+/// the first `min` rows of distinct indices as their values; `None` where there are fewer.
+pub(super) fn weighed_coefficients<R: Row>(
     alloc: Global,
-    shards: &[Shard],
-    first: &Shard,
+    rows: &[R],
+    min: u32,
+    total: u32,
+    width: usize,
 ) -> Mem<Option<Vec<F>>>
-    requires some { 1 ≤ first.now.min }
-    requires sound { All (IsSound first.now) shards.now }
-    ensures { IfOk result (λ answer. IfSome answer
-        (λ v. HasColumnsOf first.now shards.now (rows_with first.now v.items))) }
+    requires some { 1 ≤ min }
+    requires within { min ≤ total }
+    requires below { All (λ row. R.index row < total) rows.now }
+    requires count { All (λ row. length (R.cells row) ≡ width) rows.now }
+    ensures size { IfOk result (λ answer. IfSome answer (λ v. length v.items ≡ min * width)) }
+    ensures enough { IfOk result
+        (λ answer. IfSome answer (λ _. min ≤ distinct_among total (map R.index rows.now))) }
+    ensures values { IfOk result (λ answer. IfSome answer (λ v. length rows.now ≡ min
+        → (lg : ℕ) → IsNextPowerOfTwo total (2 ^ lg)
+        → All (λ row. HasValuesOf lg (matrix_of min width v.items) (R.index row) (R.cells row))
+        rows.now)) }
 {
-    if !are_few(shards, first) {
+    let (indices, mut cells) = chosen(alloc, rows, min as usize, width)?;
+    if indices.len() < min as usize {
         return Ok(None);
     }
-    let Some(weights) = weights_of(alloc, shards, first)? else {
-        return Ok(None);
-    };
-    let elements = coefficients(alloc, shards, first.cells.len(), &weights)?;
-    Ok(Some(elements))
+    let weights = weights_of(alloc, &indices, min, total)?;
+    put_columns(alloc, &mut cells, width, min as usize, &weights)?;
+    Ok(Some(cells))
 }

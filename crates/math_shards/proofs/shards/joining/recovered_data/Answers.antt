@@ -19,13 +19,6 @@ returns-in_err-check_numbers-clause-err c =
     let due = unsound_due HaveConflict distinct_indices JoinTo c.in-Some.first.now c.args.shards.now e c.in_err-check_numbers.ensures.err in
     rw (q.1, q.2) (due_beside HaveConflict distinct_indices JoinTo c.in-Some.first.now c.args.shards.now e item.3.0 (sym item.1) due)
 
-pub returns-in_err-words-clause-err : goal.returns-in_err-words-clause-err
-returns-in_err-words-clause-err c =
-    let q = err_from_is_err_and c.from_residual-in_err-words.result c.from_residual-in_err-words.ensures.1 in
-    let item = c.in-Some.ensures.item in
-    let e = c.in_err-words.field-0.0 in
-    rw (q.1, q.2) (due_beside HaveConflict distinct_indices JoinTo c.in-Some.first.now c.args.shards.now e item.3.0 (sym item.1) c.in_err-words.ensures.err)
-
 pub returns-in_err-values-clause-err : goal.returns-in_err-values-clause-err
 returns-in_err-values-clause-err c =
     let q = err_from_is_err_and c.from_residual-in_err-values.result c.from_residual-in_err-values.ensures.1 in
@@ -57,8 +50,8 @@ recover-requires c =
           omega (arith, same, domain_is_small first.total g.0 (omega (arith, s.1, s.0.most)) t g.1);
     }
 
-pub returns-in-Some-4-clause-ok : goal.returns-in-Some-4-clause-ok
-returns-in-Some-4-clause-ok c =
+pub returns-in-Some-3-clause-ok : goal.returns-in-Some-3-clause-ok
+returns-in-Some-3-clause-ok c =
     let first = c.in-Some.first.now in
     let shards = c.args.shards.now in
     let item = c.in-Some.ensures.item in
@@ -75,8 +68,8 @@ returns-in-Some-4-clause-ok c =
       size = c.in_ok-recovered.ensures.size;
       fits = λ k l. c.in_ok-recovered.ensures.fits g.0 k g.2.size.0 l;
     } in
-    let few : length c.in-Some-4.data.items < 2 ^ 64 = search (rules, c.in-Some-4.data.small) in
-    join_of_recovered g.0 first shards v q r c.in-Some-4.data.items (rw c.in-Some-4.is at c.in_ok-data.ensures.each_word) few (rw c.in-Some-4.is at c.in_ok-data.ensures.some)
+    let few : length c.in-Some-3.data.items < 2 ^ 64 = search (rules, c.in-Some-3.data.small) in
+    join_of_recovered g.0 first shards v q r c.in-Some-3.data.items (rw c.in-Some-3.is at c.in_ok-data.ensures.each_word) few (rw c.in-Some-3.is at c.in_ok-data.ensures.some)
 
 pub returns-clause-err : goal.returns-clause-err
 returns-clause-err c =

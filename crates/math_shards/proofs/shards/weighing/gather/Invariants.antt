@@ -1,7 +1,7 @@
 use Rattle.std.proofs.Common.{◌≡◌, take}
-use Rattle.math_shards.specs.Weights.{cells_at}
+use Rattle.math_shards.proofs.PutCoefficients.{column_in}
 use Rattle.math_shards.proofs.shards.weighing.gather.Given as goal
 
--- the cells of the shards so far
-abbrev pub invariant-loop-shard : goal.invariant-loop-shard
-invariant-loop-shard l = l.cells.items ≡ cells_at (take l.shard-index l.shards) l.column
+-- the first cells of the column
+abbrev pub invariant-loop-r : goal.invariant-loop-r
+invariant-loop-r l = l.column.items ≡ take l.r (column_in l.count l.width l.cells l.k)

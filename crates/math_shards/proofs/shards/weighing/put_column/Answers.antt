@@ -11,11 +11,11 @@ loop-r-init c = record { done = λ i b. absurd (omega arith); others = λ i k a 
 
 pub loop-r-preserved : goal.loop-r-preserved
 loop-r-preserved c =
-    let cells = c.args.cells.now in
+    let items = c.args.column.now in
     let weights = c.args.weights.now in
-    column-more (length cells) c.args.width c.args.column c.loop-r.r (λ r. weighted_sum nought sum product cells (row_of weights r)) c.args.coefficients.now c.loop-r.coefficients c.sum_of_products.result
-    (c.loop-r.auto.coefficients ∙ c.requires.size) c.loop-r-test.true c.requires.column
-    (c.sum_of_products.ensures ∙ ap (λ row. weighted_sum nought sum product cells row) c.row.ensures.row) c.loop-r.invariant
+    column-more (length items) c.args.width c.args.k c.loop-r.r (λ r. weighted_sum nought sum product items (row_of weights r)) c.args.cells.now c.loop-r.cells c.sum_of_products.result
+    (c.loop-r.auto.cells ∙ c.requires.size) c.loop-r-test.true c.requires.within
+    (c.sum_of_products.ensures ∙ ap (λ row. weighted_sum nought sum product items row) c.row.ensures.row) c.loop-r.invariant
 
 pub returns-clause-column : goal.returns-clause-column
 returns-clause-column c = λ r b. c.loop-r.invariant.done r (omega (arith, b, c.loop-r-test.false))

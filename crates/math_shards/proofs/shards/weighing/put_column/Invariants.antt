@@ -8,4 +8,4 @@ use Rattle.math_shards.proofs.shards.weighing.put_column.Given as goal
 
 -- the coefficients so far of the column are written, and no others
 abbrev pub invariant-loop-r : goal.invariant-loop-r
-invariant-loop-r l = IsColumnPut (length l.cells) l.width l.column (λ r. weighted_sum nought sum product l.cells (row_of l.weights r)) l.initial.coefficients l.r l.coefficients
+invariant-loop-r l = IsColumnPut (length l.column) l.width l.k (λ r. weighted_sum nought sum product l.column (row_of l.weights r)) l.initial.cells l.r l.cells

@@ -3,9 +3,9 @@ use Rattle.math_shards.specs.declared.shards.Shard.{Shard}
 use Rattle.math_shards.specs.Weights.{IsUnitShard}
 use Rattle.math_shards.proofs.shards.weighing.unit_shards.Given as goal
 
--- the units so far are those of the first shards
+-- the units so far are those of the first indices
 abbrev pub invariant-loop-i : goal.invariant-loop-i
 invariant-loop-i l = record {
   count : length l.units.items ≡ l.i;
-  each : (k : ℕ) (s u : Shard) → k < l.i → IsUnitShard (length l.shards) k (get_or l.shards k s) (get_or l.units.items k u);
+  each : (k : ℕ) (u : Shard) → k < l.i → IsUnitShard (length l.indices) k (get_or l.indices k 0) l.min l.total (get_or l.units.items k u);
 }

@@ -1,0 +1,124 @@
+-- Rows of distinct indices that are chosen one by one, and how many indices are distinct.
+use Rattle.std.proofs.Common.{◌≡◌, ◌∙◌, inl, inr, ℕ, ◌+◌, ◌*◌, ◌<◌, ◌≤◌, ◌==◌, List, [], ◌∷◌, ◌++◌, Bool, true, false, length, map, take, get_or, sym, ap, ap₂, subst, true≢false, arith}
+use Rattle.std.specs.List.{All, Contains, count_by, flat_map, list_any, range_with_len}
+use Rattle.std.proofs.Math.Seq.{get_or-append_seam}
+use Rattle.std.proofs.lemmas.Bool.{cases_lt, eq-eqb, eqb-true}
+use Rattle.std.proofs.lemmas.List.{flat_map_more, get_or_append_left, get_or_default, length-append, length-take-le, length_push, map-append, take_more}
+use Rattle.std.proofs.lemmas.List.Concat.{get_or-flat_map}
+use Rattle.std.proofs.lemmas.List.Elements.{All-contains, All-head, All-map, All-push, All-tail, All-take, All-weaker, Contains-append_left, Contains-push}
+use Rattle.std.proofs.lemmas.List.Folds.{Any-from_list_any, list_any_at}
+use Rattle.std.proofs.lemmas.List.Sums.{sum_by-cons}
+use Rattle.math_base.specs.declared.fields.goldilocks.F.{F}
+use Rattle.math_shards.specs.Fitting.{distinct_among}
+use Rattle.math_shards.specs.Weights.{AreChosen, AreDistinct}
+use Rattle.math_shards.proofs.SameCells.{nought}
+use Rattle.math_shards.proofs.CountedIndices.{weight, weight_kept}
+
+-- whether the number is one of these
+abbrev pub is_one_of : List ℕ → ℕ → Bool
+is_one_of numbers x = list_any (λ n. n == x) numbers
+
+-- with a number that is none of them, distinct numbers are distinct
+distinct-push : (numbers : List ℕ) (x : ℕ) → is_one_of numbers x ≡ false → AreDistinct numbers → AreDistinct (numbers ++ x ∷ [])
+distinct-push numbers x none h i j before l e = elim (cases_lt j (length numbers)) as (λ _. ⊥) [
+  | inl b ↦
+      h i j before b (sym (get_or_append_left numbers (x ∷ []) 0 i (omega (arith, before, b))) ∙ e ∙ get_or_append_left numbers (x ∷ []) 0 j b)
+  | inr b ↦
+      let last : j ≡ length numbers = omega (arith, l, b, length_push numbers x) in
+      let inside : i < length numbers = omega (arith, before, last) in
+      let is : get_or numbers i 0 ≡ x =
+      sym (get_or_append_left numbers (x ∷ []) 0 i inside) ∙ e ∙ ap (λ k. get_or (numbers ++ x ∷ []) k 0) last ∙ get_or-append_seam numbers x [] 0 in
+      true≢false (sym (list_any_at (λ n. n == x) numbers i 0 inside (eq-eqb (get_or numbers i 0) x is)) ∙ none)
+]
+
+module _ {R : Type 0} (index : R → ℕ) (cells : R → List F) (width : ℕ) where
+  -- an index of a row stays one with a further row
+  contains-more : (rows : List R) (row : R) (x : ℕ) → Contains (map index rows) x → Contains (map index (rows ++ row ∷ [])) x
+  contains-more rows row x c =
+      subst (λ (xs : List ℕ). Contains xs x) (sym (map-append index rows (row ∷ []))) (Contains-append_left (map index rows) (index row ∷ []) x c)
+
+  -- a row that is passed over
+  chosen-passed : (rows : List R) (row : R) (indices : List ℕ) (found : List F) → AreChosen index cells width rows indices found
+      → AreChosen index cells width (rows ++ row ∷ []) indices found
+  chosen-passed rows row indices found h = record {
+    few = omega (arith, length_push rows row, h.few);
+    distinct = h.distinct;
+    among = All-weaker (Contains (map index rows)) (Contains (map index (rows ++ row ∷ []))) (contains-more rows row) indices h.among;
+    count = h.count;
+    whole = λ e. absurd (omega (arith, e, length_push rows row, h.few));
+  }
+
+  -- a row that is taken: its index is none of those that are chosen
+  chosen-taken : (rows : List R) (row : R) (indices : List ℕ) (found : List F) → length (cells row) ≡ width → is_one_of indices (index row) ≡ false
+      → AreChosen index cells width rows indices found → AreChosen index cells width (rows ++ row ∷ []) (indices ++ index row ∷ []) (found ++ cells row)
+  chosen-taken rows row indices found wide none h =
+      let n = length indices in
+      let one_more : n * width + width ≡ (n + 1) * width = omega arith in
+      let mapped : map index (rows ++ row ∷ []) ≡ map index rows ++ index row ∷ [] = map-append index rows (row ∷ []) in
+      record {
+        few = omega (arith, length_push rows row, length_push indices (index row), h.few);
+        distinct = distinct-push indices (index row) none h.distinct;
+        among =
+            All-push (Contains (map index (rows ++ row ∷ []))) indices (index row)
+            (All-weaker (Contains (map index rows)) (Contains (map index (rows ++ row ∷ []))) (contains-more rows row) indices h.among)
+            (subst (λ (xs : List ℕ). Contains xs (index row)) (sym mapped) (Contains-push (map index rows) (index row)));
+        count = length-append found (cells row) ∙ ap₂ (λ (a b : ℕ). a + b) h.count wide ∙ one_more ∙ ap (λ m. m * width) (sym (length_push indices (index row)));
+        whole = λ e.
+            let before = h.whole (omega (arith, e, length_push rows row, length_push indices (index row))) in (
+              ap (λ xs. xs ++ index row ∷ []) before.0 ∙ sym mapped,
+              ap (λ xs. xs ++ cells row) before.1 ∙ flat_map_more cells [] rows row,
+            );
+      }
+
+  -- row i is passed over
+  pub chosen-passed_at : (rows : List R) (i : ℕ) (row : R) (indices : List ℕ) (found : List F) → i < length rows → AreChosen index cells width (take i rows) indices found
+      → AreChosen index cells width (take (i + 1) rows) indices found
+  chosen-passed_at rows i row indices found l h =
+      subst (λ (xs : List R). AreChosen index cells width xs indices found) (sym (take_more rows i row l)) (chosen-passed (take i rows) (get_or rows i row) indices found h)
+
+  -- row i is taken
+  pub chosen-taken_at : (rows : List R) (i : ℕ) (row : R) (indices : List ℕ) (found : List F) → i < length rows → row ≡ get_or rows i row → length (cells row) ≡ width
+      → is_one_of indices (index row) ≡ false → AreChosen index cells width (take i rows) indices found
+      → AreChosen index cells width (take (i + 1) rows) (indices ++ index row ∷ []) (found ++ cells row)
+  chosen-taken_at rows i row indices found l is wide none h =
+      let more : take (i + 1) rows ≡ take i rows ++ row ∷ [] = take_more rows i row l ∙ ap (λ (r : R). take i rows ++ r ∷ []) (sym is) in
+      subst (λ (xs : List R). AreChosen index cells width xs (indices ++ index row ∷ []) (found ++ cells row)) (sym more) (chosen-taken (take i rows) row indices found wide none h)
+
+  -- rows of one width have as many cells
+  cells-count : (rows : List R) → All (λ row. length (cells row) ≡ width) rows → length (flat_map cells rows) ≡ length rows * width
+  cells-count [] h = omega arith
+  cells-count (row ∷ rows) h =
+      let n = length rows in
+      let one_more : width + n * width ≡ (n + 1) * width = omega arith in
+      let count : n + 1 ≡ length (row ∷ rows) = omega arith in
+      length-append (cells row) (flat_map cells rows)
+      ∙ ap₂ (λ (a b : ℕ). a + b) (All-head (λ r. length (cells r) ≡ width) row rows h) (cells-count rows (All-tail (λ r. length (cells r) ≡ width) row rows h))
+      ∙ one_more ∙ ap (λ m. m * width) count
+
+  -- cell k of row i stands at place k of the row
+  pub cell-at : (rows : List R) → All (λ row. length (cells row) ≡ width) rows → (i k : ℕ) (d : R) → i < length rows → k < width
+      → get_or (flat_map cells rows) (i * width + k) nought ≡ get_or (cells (get_or rows i d)) k nought
+  cell-at rows wide i k d l b =
+      let before : length (flat_map cells (take i rows)) ≡ i * width =
+      cells-count (take i rows) (All-take (λ r. length (cells r) ≡ width) i rows wide) ∙ ap (λ m. m * width) (length-take-le i rows (omega (arith, l))) in
+      ap (λ m. get_or (flat_map cells rows) (m + k) nought) (sym before) ∙ get_or-flat_map cells rows i k d nought l (omega (arith, b, wide i d l))
+
+-- items that pass a test are no more than those that pass another, where each that passes the one passes the other
+pub count-kept : {X : Type 0} (p q : X → Bool) (xs : List X) → ((x : X) → p x ≡ true → q x ≡ true) → count_by p xs ≤ count_by q xs
+count-kept p q [] h = omega arith
+count-kept p q (x ∷ xs) h =
+    omega (arith, sum_by-cons (λ y. weight (p y)) x xs, sum_by-cons (λ y. weight (q y)) x xs, weight_kept (p x) (q x) (h x), count-kept p q xs h)
+
+-- where all of some numbers are among others, no more of them are distinct
+pub distinct-kept : (n : ℕ) (numbers others : List ℕ) → All (Contains others) numbers → distinct_among n numbers ≤ distinct_among n others
+distinct-kept n numbers others h =
+    count-kept (is_one_of numbers) (is_one_of others) (range_with_len 0 n)
+    (λ i there.
+    let found = Any-from_list_any (λ (m : ℕ). m == i) numbers there in
+    let at : Contains others found.1 = subst (Contains others) found.3 (h found.0 found.1 found.2) in
+    list_any_at (λ (m : ℕ). m == i) others at.0 i at.1
+    (eq-eqb (get_or others at.0 i) i (get_or_default others at.0 i found.1 at.1 ∙ at.2 ∙ eqb-true found.1 i found.4)))
+
+-- numbers that are among others are below what these are below
+pub below-kept : {R : Type 0} (index : R → ℕ) (n : ℕ) (rows : List R) (numbers : List ℕ) → All (λ row. index row < n) rows → All (Contains (map index rows)) numbers → All (λ i. i < n) numbers
+below-kept index n rows numbers below among k d l = All-contains (λ i. i < n) (map index rows) (get_or numbers k d) (All-map (λ i. i < n) index rows below) (among k d l)

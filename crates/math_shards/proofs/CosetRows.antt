@@ -1,0 +1,69 @@
+-- Rows that have the cells of cosets have the values of the polynomials.
+use Rattle.std.proofs.Common.{◌≡◌, ◌∙◌, inl, inr, ℕ, ◌+◌, ◌-◌, ◌*◌, ◌/◌, ◌%◌, ◌<◌, ◌≤◌, ◌^◌, List, length, take, drop, get_or, sym, ap, subst, arith}
+use Rattle.std.specs.List.{All}
+use Rattle.std.proofs.lemmas.Bool.{cases_lt}
+use Rattle.std.proofs.lemmas.List.{get_or-drop, get_or-take}
+use Rattle.std.proofs.lemmas.List.Elements.{AllZip-get_or}
+use Rattle.std.proofs.lemmas.Nat.{shr_below, shr_split}
+use Rattle.math_theory.specs.Values.{value}
+use Rattle.math_base.specs.declared.fields.goldilocks.F.{F}
+use Rattle.math_base.specs.Elements.{number, residue, root_of, same, sum, product}
+use Rattle.math_base.proofs.ElementNumbers.{same_number}
+use Rattle.math_ntt.proofs.MatrixPlaces.{rows_are_full, rows_hold_cells}
+use Rattle.math_transforms.specs.DomainValues.{matrix_of}
+use Rattle.math_transforms.specs.Matrices.{MatrixOf, column_of}
+use Rattle.math_shards.specs.Cosets.{AreCosetValues, HasCosetCells, HasValuesFrom}
+use Rattle.math_shards.specs.Shards.{value_at}
+use Rattle.math_shards.proofs.RootPowers.{coset_point, raised}
+use Rattle.math_shards.proofs.SameCells.{nought}
+
+-- the first n cells of the row are the values, at power `index` of the root of order 2^lg, of the polynomials whose coefficients are the first columns of m
+abbrev pub HasFirstValues : ℕ → MatrixOf F → ℕ → ℕ → List F → Type 0
+HasFirstValues lg m n index row = (k : ℕ) → k < n → same (get_or row k nought) (value_at lg (column_of nought m k) index)
+
+-- a row that has the cells of a coset has the values in these columns
+row_valued : (lg s start : ℕ) (m : MatrixOf F) (from c : ℕ) (ratio : F) (strip : List F) (i : ℕ) (row : List F) → lg + s ≤ 32
+    → same ratio (raised (root_of (lg + s)) start) → length strip ≡ 2 ^ lg * c → AreCosetValues m from c ratio lg strip
+    → i < 2 ^ (lg + s) → i % 2 ^ s ≡ start → HasCosetCells strip c from start s i row → HasValuesFrom (lg + s) m from c i row
+row_valued lg s start m from c ratio strip i row small is count values below here has = λ k b.
+    let v = matrix_of (2 ^ lg) c strip in
+    let t = i / 2 ^ s in
+    let l : t < 2 ^ lg = shr_below i lg s below in
+    let wide : length (take c (drop (t * c) strip)) ≡ c = rows_are_full v t count l in
+    let p = column_of nought m (from + k) in
+    let at : start + 2 ^ s * t ≡ i = omega (arith, here, shr_split i s) in
+    let point : product ratio (raised (root_of lg) t) ≡ raised (root_of (lg + s)) i = same_number (product ratio (raised (root_of lg) t)) (raised (root_of (lg + s)) (start + 2 ^ s * t)) (coset_point lg s start t ratio small is) ∙ ap (raised (root_of (lg + s))) at in
+    sym (ap number (get_or-take c (drop from row) k nought b ∙ get_or-drop from row k nought))
+    ∙ sym (AllZip-get_or same (take c (drop (t * c) strip)) (take c (drop from row)) k nought nought (has here) (omega (arith, b, wide)))
+    ∙ ap number (rows_hold_cells v t k nought b) ∙ values t k l b
+    ∙ ap (λ x. number (value nought sum product (residue 1) x p)) point
+
+module _ {R : Type 0} (index : R → ℕ) (cells_of : R → List F) (rows : List R) where
+  -- rows of which those of one coset more have its cells
+  pub coset-more : (lg s total start : ℕ) (m : MatrixOf F) (from c : ℕ) (ratio : F) (strip : List F) → lg + s ≡ total → total ≤ 32
+      → same ratio (raised (root_of total) start) → length strip ≡ 2 ^ lg * c → AreCosetValues m from c ratio lg strip
+      → All (λ row. index row < 2 ^ total) rows
+      → All (λ row. HasCosetCells strip c from start s (index row) (cells_of row)) rows
+      → All (λ row. index row % 2 ^ s < start → HasValuesFrom total m from c (index row) (cells_of row)) rows
+      → All (λ row. index row % 2 ^ s < start + 1 → HasValuesFrom total m from c (index row) (cells_of row)) rows
+  coset-more lg s total start m from c ratio strip e small is count values below has before = λ k d l less.
+      let row : R = get_or rows k d in
+      elim (cases_lt (index row % 2 ^ s) start) [
+        | inl b ↦ before k d l b
+        | inr b ↦
+            subst (λ n. HasValuesFrom n m from c (index row) (cells_of row)) e
+            (row_valued lg s start m from c ratio strip (index row) (cells_of row) (omega (arith, e, small)) (rw (← e) at is) count values (rw (← e) at (below k d l))
+            (omega (arith, less, b)) (has k d l))
+      ]
+
+  -- rows whose first values are those of the columns, and the next ones too
+  pub values-more : (lg : ℕ) (m : MatrixOf F) (from c : ℕ) → All (λ row. HasFirstValues lg m from (index row) (cells_of row)) rows
+      → All (λ row. HasValuesFrom lg m from c (index row) (cells_of row)) rows → All (λ row. HasFirstValues lg m (from + c) (index row) (cells_of row)) rows
+  values-more lg m from c before here = λ i d l k b.
+      elim (cases_lt k from) [
+        | inl first ↦ before i d l k first
+        | inr further ↦
+            let q : from + (k - from) ≡ k = omega (arith, further) in
+            let there : k - from < c = omega (arith, further, b) in
+            rw q at (here i d l (k - from) there)
+      ]

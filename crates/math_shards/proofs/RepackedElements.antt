@@ -1,0 +1,103 @@
+-- Elements that the words to which they unpack pack to again: all are below 2^63, and the last has no more bits than are left for it.
+use Rattle.std.proofs.Common.{◌≡◌, ◌∙◌, inl, inr, ℕ, zero, suc, ◌+◌, ◌-◌, ◌*◌, ◌%◌, ◌^◌, ◌<◌, ◌≤◌, List, [], ◌∷◌, ◌++◌, length, map, take, drop, get_or, replicate, refl, sym, ap, ap₂, subst, arith, lit<, append-nil, mod-eq_of_lt}
+use Rattle.std.proofs.Math.ListN.{get_or-map}
+use Rattle.std.proofs.Math.Seq.{take-add}
+use Rattle.std.specs.Int.{div_ceil}
+use Rattle.std.specs.List.{All}
+use Rattle.std.proofs.Math.Nat.{pow-le-pow_right}
+use Rattle.std.proofs.lemmas.Bool.{cases_lt}
+use Rattle.std.proofs.lemmas.List.{drop-take, get_or-take, length-drop, length-map, length-take, length-take-le, take_all}
+use Rattle.std.proofs.lemmas.List.Elements.{All-drop, All-take}
+use Rattle.math_numbers.specs.Bits.{IsBit, bits, joined, number, piece_count, pieces, pieces-suc, pieces-zero}
+use Rattle.math_numbers.proofs.BitLists.{bits-number, joined-are_bits, length-joined}
+use Rattle.math_base.specs.declared.fields.goldilocks.F.{F}
+use Rattle.math_base.specs.Elements as Elements
+use Rattle.math_base.proofs.BitFronts.{number-take-bits}
+use Rattle.math_base.proofs.ElementNumbers.{residue-number}
+use Rattle.math_shards.specs.Unpacking.{AreRepacked, first_words, repacked_at}
+use Rattle.math_shards.proofs.PackedWords.{element_bits_at, from_word}
+use Rattle.math_shards.proofs.SameCells.{nought}
+
+-- the bits of the first pieces are the first bits
+pub joined_pieces_first : (k m : ℕ) (bs : List ℕ) → All IsBit bs → k * m ≤ length bs → joined k (pieces k m bs) ≡ take (k * m) bs
+joined_pieces_first k zero bs h l = let e : k * 0 ≡ 0 = omega arith in ap (joined k) (pieces-zero k bs) ∙ sym (ap (λ n. take n bs) e)
+joined_pieces_first k (suc m) bs h l =
+    let e : k + k * m ≡ k * suc m = omega arith in
+    let long : length (take k bs) ≡ k = length-take-le k bs (omega (arith, l, e)) in
+    let none : k - length (take k bs) ≡ 0 = omega (arith, long) in
+    let first : bits k (number (take k bs)) ≡ take k bs =
+    bits-number k (take k bs) (All-take IsBit k bs h) (omega (arith, long)) ∙ ap (λ n. take k bs ++ replicate n 0) none ∙ append-nil (take k bs) in
+    ap (joined k) (pieces-suc k m bs)
+    ∙ ap₂ (λ s t. s ++ t) first (joined_pieces_first k m (drop k bs) (All-drop IsBit k bs h) (omega (arith, l, e, length-drop k bs)))
+    ∙ sym (take-add k (k * m) bs) ∙ ap (λ n. take n bs) e
+
+-- the first j of the first r items
+take_of_more : (j r : ℕ) (xs : List ℕ) → j ≤ r → take j (take r xs) ≡ take j xs
+take_of_more zero r xs l = refl
+take_of_more (suc j) zero xs l = absurd (omega arith)
+take_of_more (suc j) (suc r) [] l = refl
+take_of_more (suc j) (suc r) (x ∷ xs) l = ap (λ t. x ∷ t) (take_of_more j r xs (omega arith))
+
+take_of_fewer : (j r : ℕ) (xs : List ℕ) → r ≤ j → take j (take r xs) ≡ take r xs
+take_of_fewer j r xs l = take_all j (take r xs) (omega (arith, l, length-take r xs))
+
+-- element p, where m bits are left in all: the number of its bits among these is its own, where it is below 2^63 and has no more bits than are left
+element_within : (ns : List ℕ) (m p : ℕ) → 63 * p < m → get_or ns p 0 < 2 ^ 63 → (m < 63 * p + 63 → get_or ns p 0 < 2 ^ (m - 63 * p))
+    → number (take 63 (drop (63 * p) (take m (joined 63 ns)))) ≡ get_or ns p 0
+element_within ns m p some below last =
+    let r : ℕ = m - 63 * p in
+    let e : m ≡ 63 * p + r = omega (arith, some) in
+    let bs = joined 63 ns in
+    let n : ℕ = get_or ns p 0 in
+    let left : drop (63 * p) (take m bs) ≡ take r (drop (63 * p) bs) = ap (λ i. drop (63 * p) (take i bs)) e ∙ drop-take (63 * p) r bs in
+    ap (λ l. number (take 63 l)) left
+    ∙ elim (cases_lt r 63) [
+      | inl few ↦
+          ap number (take_of_fewer 63 r (drop (63 * p) bs) (omega (arith, few))) ∙ from_word 63 r p ns (omega (arith, few)) ∙ number-take-bits r 63 n below
+          ∙ mod-eq_of_lt (last (omega (arith, few, e)))
+      | inr full ↦
+          ap number (take_of_more 63 r (drop (63 * p) bs) (omega (arith, full))) ∙ from_word 63 63 p ns (omega arith) ∙ number-take-bits 63 63 n below ∙ mod-eq_of_lt below
+    ]
+
+-- the first of some pieces are as many pieces
+first_pieces : (k m n : ℕ) (bs : List ℕ) → m ≤ n → take m (pieces k n bs) ≡ pieces k m bs
+first_pieces k zero n bs l = sym (pieces-zero k bs)
+first_pieces k (suc m) zero bs l = absurd (omega arith)
+first_pieces k (suc m) (suc n) bs l =
+    ap (take (suc m)) (pieces-suc k n bs) ∙ ap (λ ns. number (take k bs) ∷ ns) (first_pieces k m n (drop k bs) (omega arith)) ∙ sym (pieces-suc k m bs)
+
+-- so it is the element in its place of those that the first words pack to
+repacked_element : (elements : List F) (n p : ℕ) → 64 * (n + 1) ≤ 63 * length elements → 63 * p < 64 * (n + 1)
+    → Elements.number (get_or elements p nought) < 2 ^ 63 → (64 * (n + 1) < 63 * p + 63 → Elements.number (get_or elements p nought) < 2 ^ (64 * (n + 1) - 63 * p))
+    → repacked_at elements n p ≡ get_or elements p nought
+repacked_element elements n p within some below last =
+    let ns : List ℕ = map Elements.number elements in
+    let x : F = get_or elements p nought in
+    let at : get_or ns p 0 ≡ Elements.number x = get_or-map Elements.number elements p nought in
+    let all : length (joined 63 ns) ≡ 63 * length elements = length-joined 63 ns ∙ ap (λ m. 63 * m) (length-map elements Elements.number) in
+    let enough : n + 1 ≤ piece_count 64 (length (joined 63 ns)) = omega (arith, within, all) in
+    element_bits_at (first_words n elements) p
+    ∙ ap (λ bs. Elements.residue (number (take 63 (drop (63 * p) bs))))
+    (ap (joined 64) (first_pieces 64 (n + 1) (piece_count 64 (length (joined 63 ns))) (joined 63 ns) enough)
+    ∙ joined_pieces_first 64 (n + 1) (joined 63 ns) (joined-are_bits 63 ns) (omega (arith, within, all)))
+    ∙ ap Elements.residue (element_within ns (64 * (n + 1)) p some (rw at below) (λ l. rw at (last l)) ∙ at)
+    ∙ residue-number x
+
+-- elements of which all but the last are below 2^63, and the last has no more bits than are left, are those that the first words pack to
+pub repacked_below : (elements : List F) (n filled : ℕ) → filled ≡ n + 1 + div_ceil (n + 1) 63 → filled ≤ length elements
+    → All (λ x. Elements.number x < 2 ^ 63) (take (filled - 1) elements) → Elements.number (get_or elements (filled - 1) nought) < 2 ^ (n % 63 + 1) → AreRepacked elements n filled
+repacked_below elements n filled count within below last k l =
+    let room : 64 * (n + 1) ≤ 63 * length elements = omega (arith, count, within) in
+    elim (cases_lt k (filled - 1)) [
+      | inl early ↦
+          let there : k < length (take (filled - 1) elements) = omega (arith, early, within, length-take (filled - 1) elements) in
+          let small : Elements.number (get_or elements k nought) < 2 ^ 63 =
+          subst (λ (x : F). Elements.number x < 2 ^ 63) (get_or-take (filled - 1) elements k nought early) (below k nought there) in
+          sym (ap Elements.number (repacked_element elements n k room (omega (arith, count, early)) small (λ g. absurd (omega (arith, g, count, early)))))
+      | inr late ↦
+          let at : k ≡ filled - 1 = omega (arith, late, l) in
+          let left : 64 * (n + 1) - 63 * (filled - 1) ≡ n % 63 + 1 = omega (arith, count) in
+          let few : n % 63 + 1 ≤ 63 = omega arith in
+          let small : Elements.number (get_or elements (filled - 1) nought) < 2 ^ 63 = omega (arith, last, pow-le-pow_right {n = 2} (lit< tt) few) in
+          rw at (sym (ap Elements.number (repacked_element elements n (filled - 1) room (omega (arith, count)) small (λ _. rw left last))))
+    ]

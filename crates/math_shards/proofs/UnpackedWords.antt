@@ -1,0 +1,174 @@
+-- The words that elements unpack to, each had from two elements, and elements that the first of these words pack to again.
+use Rattle.std.proofs.Common.{◌≡◌, ◌∙◌, ℕ, suc, ◌+◌, ◌-◌, ◌*◌, ◌/◌, ◌%◌, ◌^◌, ◌<◌, ◌≤◌, bit_or, List, [], ◌∷◌, ◌++◌, length, map, take, drop, get_or, replicate, sym, ap, ap₂, subst, add_comm, arith, lit<, mod-eq_of_lt}
+use Rattle.std.specs.Int.{div_ceil}
+use Rattle.std.specs.List.{All}
+use Rattle.std.proofs.Math.ListN.{get_or-append, get_or-map}
+use Rattle.std.proofs.Math.Nat.{mod-lt, pow-le-pow_right}
+use Rattle.std.proofs.lemmas.List.{ext_get_or, get_or-take, length-drop, length-take-le, take-append-drop}
+use Rattle.std.proofs.lemmas.List.Elements.{All-drop, All-take}
+use Rattle.std.proofs.lemmas.Nat.{or_comm, or_mod, or_shifted, pow_pos, shr_below}
+use Rattle.math_numbers.specs.Bits as Bits
+use Rattle.math_numbers.specs.Bits.{bits, joined, piece_count}
+use Rattle.math_numbers.proofs.BitLists.{append_below, bits-append, bits-mod, joined-are_bits}
+use Rattle.math_numbers.proofs.BitPieces.{piece_count-enough}
+use Rattle.math_base.specs.declared.fields.goldilocks.F.{F}
+use Rattle.math_base.specs.Elements.{number, same}
+use Rattle.math_base.specs.Packing.{element_bits, elements_of, words_of}
+use Rattle.math_base.proofs.BitFronts.{drop-bits, number-take-bits, pieces_below}
+use Rattle.math_base.proofs.ElementNumbers.{same_number}
+use Rattle.math_base.proofs.Packing.{length-words_of}
+use Rattle.math_transforms.proofs.WrittenRows.{part-read}
+use Rattle.math_shards.specs.Fitting.{AreDataOf}
+use Rattle.math_shards.specs.Shards.{counted, elements_for, width_for, with_zeros}
+use Rattle.math_shards.specs.Unpacking.{AreRepacked, AreUnpacked, first_words, word_between}
+use Rattle.math_shards.proofs.LaidOutData.{rounded_up, zeros_alone}
+use Rattle.math_shards.proofs.PackedData.{data_stand}
+use Rattle.math_shards.proofs.PackedWords.{counted-behind, cut_at, from_between}
+use Rattle.math_shards.proofs.SameCells.{nought}
+use Rattle.math_shards.proofs.StripSizes.{count_elements, width_of_words}
+
+-- A word from two elements.
+
+-- a number of t bits and a number that stands above these bits, joined by `or`, are their sum, as far as 64 bits go
+or_both : (v w t : ℕ) → v < 2 ^ t → t ≤ 63 → bit_or v (w * 2 ^ t % 2 ^ 64) ≡ (v + w * 2 ^ t) % 2 ^ 64
+or_both v w t small few =
+    let most : 2 ^ t ≤ 2 ^ 63 = pow-le-pow_right (lit< tt) few in
+    let low : v % 2 ^ 64 ≡ v = mod-eq_of_lt (omega arith) in
+    or_comm v (w * 2 ^ t % 2 ^ 64) ∙ ap (bit_or (w * 2 ^ t % 2 ^ 64)) (sym low) ∙ sym (or_mod (w * 2 ^ t) v 64)
+    ∙ ap (λ n. n % 2 ^ 64) (or_shifted w t v small ∙ add_comm (w * 2 ^ t) v)
+
+-- the bits of a number from bit s to bit 62 are those of its remainder by 2^63
+high_bits : (x s : ℕ) → bits (63 - s) (x % 2 ^ 63 / 2 ^ s) ≡ bits (63 - s) (x / 2 ^ s)
+high_bits x s = sym (drop-bits s 63 (x % 2 ^ 63)) ∙ ap (drop s) (bits-mod 63 x) ∙ drop-bits s 63 x
+
+-- the number that the first 64 of t bits of one number and 63 bits of another write
+first_word : (v y t : ℕ) → v < 2 ^ t → (v + y % 2 ^ 63 * 2 ^ t) % 2 ^ 64 ≡ Bits.number (take 64 (bits t v ++ bits 63 y))
+first_word v y t small =
+    let low = y % 2 ^ 63 in
+    let below : low < 2 ^ 63 = mod-lt y (pow_pos 63) in
+    sym (number-take-bits 64 (t + 63) (v + low * 2 ^ t) (append_below t 63 v low small below)) ∙ ap (λ l. Bits.number (take 64 l)) (sym (bits-append t 63 v low small))
+    ∙ ap (λ l. Bits.number (take 64 (bits t v ++ l))) (bits-mod 63 y)
+
+-- the 63 lowest bits of two numbers, shifted and joined by `or`
+both_shifted : (x y s : ℕ) → s < 63 → bit_or (x % 2 ^ 63 / 2 ^ s) (y % 2 ^ 63 * 2 ^ (63 - s) % 2 ^ 64) ≡ Bits.number (take 64 (bits (63 - s) (x / 2 ^ s) ++ bits 63 y))
+both_shifted x y s few =
+    let t : ℕ = 63 - s in
+    let whole : 63 ≡ t + s = omega arith in
+    let v : ℕ = x % 2 ^ 63 / 2 ^ s in
+    let fits : x % 2 ^ 63 < 2 ^ (t + s) = subst (λ n. x % 2 ^ 63 < 2 ^ n) whole (mod-lt x (pow_pos 63)) in
+    let small : v < 2 ^ t = shr_below (x % 2 ^ 63) t s fits in
+    or_both v (y % 2 ^ 63) t small (omega arith) ∙ first_word v y t small ∙ ap (λ l. Bits.number (take 64 (l ++ bits 63 y))) (high_bits x s)
+
+-- the number of the element in a place
+number_at : (elements : List F) (i : ℕ) → get_or (map number elements) i 0 ≡ number (get_or elements i nought)
+number_at elements i = get_or-map number elements i nought
+
+-- a word that elements unpack to is made of the bits of two of them
+pub word_from_elements : (elements : List F) (i : ℕ)
+    → bit_or (number (get_or elements (i + i / 63) nought) % 2 ^ 63 / 2 ^ (i % 63)) (number (get_or elements (i + i / 63 + 1) nought) % 2 ^ 63 * 2 ^ (63 - i % 63) % 2 ^ 64)
+    ≡ get_or (words_of elements) i 0
+word_from_elements elements i =
+    let q : ℕ = i + i / 63 in
+    let s : ℕ = i % 63 in
+    let ns : List ℕ = map number elements in
+    let at : 64 * i ≡ 63 * q + s = omega arith in
+    both_shifted (number (get_or elements q nought)) (number (get_or elements (q + 1) nought)) s (omega arith)
+    ∙ ap₂ (λ x y. Bits.number (take 64 (bits (63 - s) (x / 2 ^ s) ++ bits 63 y))) (sym (number_at elements q)) (sym (number_at elements (q + 1)))
+    ∙ sym (from_between 63 64 q s (63 - s) ns (omega arith) (omega arith))
+    ∙ ap (λ n. Bits.number (take 64 (drop n (joined 63 ns)))) (sym at)
+    ∙ sym (cut_at 64 (joined 63 ns) i (lit< tt))
+
+-- a word of a run of 63 is had from two of the elements that lie one after the other, from the one on in which the run begins
+pub run_unpacked : (elements : List F) (first m k : ℕ) → first % 63 + k < 63 → k + 1 < m
+    → word_between (get_or (take m (drop (first + first / 63) elements)) k nought) (get_or (take m (drop (first + first / 63) elements)) (k + 1) nought) (first % 63 + k)
+    ≡ get_or (words_of elements) (first + k) 0
+run_unpacked elements first m k run few =
+    let from = first + first / 63 in
+    let i = first + k in
+    let taken : first % 63 + k ≡ i % 63 = omega (arith, run) in
+    let at : from + k ≡ i + i / 63 = omega (arith, run) in
+    let after : from + (k + 1) ≡ i + i / 63 + 1 = omega (arith, run) in
+    let here : get_or (take m (drop from elements)) k nought ≡ get_or elements (i + i / 63) nought =
+    part-read nought elements from m k (omega (arith, few)) ∙ ap (λ p. get_or elements p nought) at in
+    let next : get_or (take m (drop from elements)) (k + 1) nought ≡ get_or elements (i + i / 63 + 1) nought =
+    part-read nought elements from m (k + 1) few ∙ ap (λ p. get_or elements p nought) after in
+    ap₂ (λ x y. word_between x y (first % 63 + k)) here next
+    ∙ ap (λ t. word_between (get_or elements (i + i / 63) nought) (get_or elements (i + i / 63 + 1) nought) t) taken
+    ∙ word_from_elements elements i
+
+-- Elements that are those of data.
+
+-- a first word that says how many words follow, and so many words behind it
+counted_front : (words : List ℕ) (n : ℕ) → n ≡ get_or words 0 0 → n + 1 ≤ length words → counted (take n (drop 1 words)) ≡ take (n + 1) words
+counted_front [] n e l = absurd (omega arith)
+counted_front (w ∷ words) n e l =
+    let long : length (take n words) ≡ n = length-take-le n words (omega arith) in
+    let s : suc n ≡ n + 1 = omega arith in
+    ap (λ m. m ∷ take n words) (long ∙ e) ∙ ap (λ m. take m (w ∷ words)) s
+
+-- elements that begin with those packed, place by place, and are zero behind them
+front_and_zeros : (elements packed : List F) (n : ℕ) → length packed ≡ n → n ≤ length elements → ((k : ℕ) → k < n → same (get_or elements k nought) (get_or packed k nought))
+    → All (λ x. same x nought) (drop n elements) → elements ≡ with_zeros (length elements) packed
+front_and_zeros elements packed n long within equal zeros =
+    let taken : length (take n elements) ≡ n = length-take-le n elements within in
+    let front : take n elements ≡ packed =
+    ext_get_or nought (take n elements) packed (taken ∙ sym long)
+    (λ k l. let below : k < n = omega (arith, l, taken) in get_or-take n elements k nought below ∙ same_number (get_or elements k nought) (get_or packed k nought) (equal k below)) in
+    let left : length (drop n elements) ≡ length elements - length packed = omega (arith, length-drop n elements, long) in
+    sym (take-append-drop n elements) ∙ ap₂ (λ xs ys. xs ++ ys) front (zeros_alone (drop n elements) zeros ∙ ap (λ m. replicate m nought) left)
+
+-- the elements that n + 1 words fill have bits for as many words
+enough_words : (elements : List F) (n : ℕ) → n + 1 + div_ceil (n + 1) 63 ≤ length elements → n + 1 ≤ length (words_of elements)
+enough_words elements n few = omega (arith, few, length-words_of elements)
+
+-- each word that elements unpack to is below 2^64
+words_below : (elements : List F) → All (λ word. word < 2 ^ 64) (words_of elements)
+words_below elements =
+    let bs : List ℕ = element_bits elements in
+    pieces_below 64 (piece_count 64 (length bs)) bs (joined-are_bits 63 (map number elements))
+
+-- rows of the width that n elements need have room for them
+filled_within : (n min width size : ℕ) → 1 ≤ min → div_ceil n min ≡ width → size ≡ min * width → n ≤ size
+filled_within n min width size some wide e =
+    let count : piece_count min n ≡ width = sym (rounded_up n min some) ∙ wide in
+    let enough : n ≤ min * piece_count min n = piece_count-enough min n some in
+    let all : min * piece_count min n ≡ min * width = ap (λ m. min * m) count in
+    omega (arith, enough, all, e)
+
+-- where the first word says how many words follow, the first elements are what it and these pack to, and the others are zero, the elements are those of data
+pub data_of_repacked : (elements : List F) (n min width : ℕ) → 1 ≤ min → length elements ≡ min * width → n < 2 ^ 64 → n ≡ get_or (words_of elements) 0 0
+    → div_ceil (n + 1 + div_ceil (n + 1) 63) min ≡ width → AreRepacked elements n (n + 1 + div_ceil (n + 1) 63)
+    → All (λ x. same x nought) (drop (n + 1 + div_ceil (n + 1) 63) elements) → (words : List ℕ) × (length words ≡ n) × AreDataOf words min elements
+data_of_repacked elements n min width some size few first wide equal zeros =
+    let filled : ℕ = n + 1 + div_ceil (n + 1) 63 in
+    let within : filled ≤ length elements = filled_within filled min width (length elements) some wide size in
+    let enough : n + 1 ≤ length (words_of elements) = enough_words elements n within in
+    let words : List ℕ = take n (drop 1 (words_of elements)) in
+    let long : length words ≡ n = length-take-le n (drop 1 (words_of elements)) (omega (arith, enough, length-drop 1 (words_of elements))) in
+    let packed : elements_for words ≡ elements_of (first_words n elements) = ap elements_of (counted_front (words_of elements) n first enough) in
+    let count : length (elements_of (first_words n elements)) ≡ filled = sym (ap length packed) ∙ count_elements words ∙ ap (λ m. m + 1 + div_ceil (m + 1) 63) long in
+    let due : width ≡ width_for min words = sym wide ∙ ap (λ m. div_ceil (m + 1 + div_ceil (m + 1) 63) min) (sym long) ∙ width_of_words min words some in (
+      words,
+      long,
+      record {
+        each_word = All-take (λ word. word < 2 ^ 64) n (drop 1 (words_of elements)) (All-drop (λ word. word < 2 ^ 64) 1 (words_of elements) (words_below elements));
+        few = subst (λ m. m < 2 ^ 64) (sym long) few;
+        packed = front_and_zeros elements (elements_of (first_words n elements)) filled count within equal zeros
+            ∙ ap₂ with_zeros (size ∙ ap (λ m. min * m) due) (sym packed);
+      },
+    )
+
+-- The words of data.
+
+-- behind the first one, the words that the elements of data unpack to are the data
+word_of_data : (words : List ℕ) (min : ℕ) (elements : List F) → AreDataOf words min elements → (k : ℕ) → k < length words → get_or (words_of elements) (k + 1) 0 ≡ get_or words k 0
+word_of_data words min elements h k within =
+    let stand = data_stand (min * width_for min words) words h.each_word h.few in
+    let behind : k + 1 - 1 ≡ k = omega arith in
+    ap (λ (ws : List ℕ). get_or ws (k + 1) 0) (ap words_of h.packed ∙ stand.1) ∙ get_or-append (counted words) stand.0 0 (k + 1) (omega arith)
+    ∙ counted-behind words (k + 1) (omega arith) ∙ ap (λ m. get_or words m 0) behind
+
+-- a list of as many words as the data, which are those that the elements unpack to, from the second one on, is the data
+pub written_data : (words out : List ℕ) (min : ℕ) (elements : List F) → length words ≡ length out → AreDataOf words min elements → AreUnpacked elements 1 out → out ≡ words
+written_data words out min elements long h each =
+    ext_get_or 0 out words (sym long) (λ k l. each k l ∙ ap (λ n. get_or (words_of elements) n 0) (add_comm 1 k) ∙ word_of_data words min elements h k (omega (arith, l, long)))

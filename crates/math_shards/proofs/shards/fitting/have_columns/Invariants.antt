@@ -1,0 +1,14 @@
+use Rattle.std.proofs.Common.{◌%◌, ◌<◌, ◌^◌, All}
+use Rattle.math_base.specs.Elements.{root_of, same}
+use Rattle.math_transforms.specs.DomainValues.{matrix_of}
+use Rattle.math_shards.specs.Cosets.{HasValuesFrom}
+use Rattle.math_shards.proofs.RootPowers.{raised}
+use Rattle.math_shards.proofs.shards.fitting.have_columns.Given as goal
+
+-- the rows of the cosets so far have the values, and the ratio is that of the next coset
+abbrev pub invariant-loop-start : goal.invariant-loop-start
+invariant-loop-start g l = record {
+  ratio : same l.ratio (raised (root_of l.layout.lg) l.start);
+  values : All (λ row. g.R.Row.index row % 2 ^ l.stride < l.start
+      → HasValuesFrom l.layout.lg (matrix_of l.layout.min l.layout.width l.elements) l.from l.cols (g.R.Row.index row) (g.R.Row.cells row)) l.rows;
+}

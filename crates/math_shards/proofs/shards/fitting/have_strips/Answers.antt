@@ -1,0 +1,13 @@
+use Rattle.std.proofs.Common.{arith}
+use Rattle.math_transforms.specs.DomainValues.{matrix_of}
+use Rattle.math_shards.proofs.CosetRows.{values-more}
+use Rattle.math_shards.proofs.shards.fitting.have_strips.Goals as goal
+
+pub loop-from-preserved : goal.loop-from-preserved
+loop-from-preserved g c =
+    let layout = c.args.layout in
+    record {
+      within = omega arith;
+      values = values-more g.R.Row.index g.R.Row.cells c.args.rows.now layout.lg (matrix_of layout.min layout.width c.args.elements.now) c.loop-from.from c.min-cols.result
+          c.loop-from.invariant.values (c.have_columns.ensures c.if-not-have_columns.false);
+    }

@@ -1,0 +1,48 @@
+use Rattle.std.proofs.Common.{◌≤◌, ◌^◌, List, subst, arith}
+use Rattle.std.specs.Int.{IsNextPowerOfTwo}
+use Rattle.std.specs.List.{All}
+use Rattle.math_base.specs.declared.fields.goldilocks.F.{F}
+use Rattle.math_transforms.proofs.PresentIndices.{lg-only}
+use Rattle.math_transforms.specs.DomainValues.{matrix_of}
+use Rattle.math_shards.specs.Fitting.{AreDataOf, HasValuesOf}
+use Rattle.math_shards.proofs.JoinedRows.{rows_fit}
+use Rattle.math_shards.proofs.JoinedShards.{domain_is_small}
+use Rattle.math_shards.proofs.shards.joining.fitted_elements.Goals as goal
+
+pub have_values-requires-clause-domain : goal.have_values-requires-clause-domain
+have_values-requires-clause-domain g c =
+    let power = c.next_power_of_two.ensures in
+    let next : IsNextPowerOfTwo c.args.total (2 ^ c.lg_of.result) = subst (IsNextPowerOfTwo c.args.total) c.lg_of.ensures.value (power.power, power.lower_bound, power.upper_bound) in
+    domain_is_small c.args.total c.lg_of.result (omega (arith, c.requires.some, c.requires.within)) c.ranges.total.fits next
+
+pub returns-then-rows-min-2 : goal.returns-then-rows-min-2
+returns-then-rows-min-2 g c =
+    let elements = c.in-Some.elements.items in
+    let found = rw c.in-Some-data_count.is at c.data_count.ensures in
+    let are : AreDataOf found.0 c.args.min elements = subst (λ (xs : List F). AreDataOf found.0 c.args.min xs) c.deref.ensures.value found.2 in (
+      found.0,
+      found.1,
+      are,
+      rows_fit g.R.Row.index g.R.Row.cells found.0 c.args.min c.args.total c.args.width elements c.args.rows.now c.requires.some c.requires.within c.ranges.total.fits
+          (rw c.in-Some.is at c.in_ok-elements.ensures.size) are (rw c.in-Some.is at c.in_ok-elements.ensures.enough) c.requires.below c.requires.count
+          (rw c.in-Some.is at c.in_ok-elements.ensures.values c.if-rows-min-2.true),
+    )
+
+pub returns : goal.returns
+returns g c =
+    let elements = c.in-Some.elements.items in
+    let found = rw c.in-Some-data_count.is at c.data_count.ensures in
+    let are : AreDataOf found.0 c.args.min elements = subst (λ (xs : List F). AreDataOf found.0 c.args.min xs) c.deref.ensures.value found.2 in
+    let power = c.next_power_of_two.ensures in
+    let here : IsNextPowerOfTwo c.args.total (2 ^ c.lg_of.result) = subst (IsNextPowerOfTwo c.args.total) c.lg_of.ensures.value (power.power, power.lower_bound, power.upper_bound) in
+    let least : 1 ≤ c.args.total = omega (arith, c.requires.some, c.requires.within) in
+    let values = subst (λ (xs : List F). All (λ (row : g.row.R.Denot). HasValuesOf c.lg_of.result (matrix_of c.args.min c.args.width xs) (g.R.Row.index row) (g.R.Row.cells row)) c.args.rows.now)
+    c.deref-2.ensures.value (c.in_ok-have_values.ensures c.if-not-branch.false) in (
+      found.0,
+      found.1,
+      are,
+      rows_fit g.R.Row.index g.R.Row.cells found.0 c.args.min c.args.total c.args.width elements c.args.rows.now c.requires.some c.requires.within c.ranges.total.fits
+          (rw c.in-Some.is at c.in_ok-elements.ensures.size) are (rw c.in-Some.is at c.in_ok-elements.ensures.enough) c.requires.below c.requires.count
+          (λ lg next. subst (λ n. All (λ (row : g.row.R.Denot). HasValuesOf n (matrix_of c.args.min c.args.width elements) (g.R.Row.index row) (g.R.Row.cells row)) c.args.rows.now)
+          (lg-only c.args.total c.lg_of.result lg least here next) values),
+    )
