@@ -194,8 +194,9 @@ CWM_MUST_USE uint32_t cwm_split(const uint64_t *data, size_t n, uint32_t min, ui
  * more: CWM_WRONG_INDEX; unequal shards of one index: CWM_CONFLICT; fewer than `min` distinct indices:
  * CWM_TOO_FEW; shards of no data: CWM_INCONSISTENT. Where shards of more than `min` distinct indices are
  * there, damage to one is so found; where there are just `min`, it may not be.
- * Takes memory for 9 times N rows of a shard's words and of 64 more, where N is `total` rounded up to a power of
- * two: who takes shards from strangers bounds `total` first. */
+ * Where min is at most 256 and no more than a shard has words, shards of data take memory for `min` times the words of a
+ * shard, and for a few times N rows of `min` words, where N is `total` rounded up to a power of two. All other shards take it
+ * for 9 times N rows of a shard's words and of 64 more: who takes shards from strangers bounds `total` first. */
 CWM_MUST_USE uint32_t cwm_join(const uint32_t *indices, size_t k, uint32_t min, uint32_t total, const uint64_t *cells, size_t n,
                                uint64_t *data, size_t m, size_t *written);
 
@@ -205,8 +206,8 @@ CWM_MUST_USE uint32_t cwm_join(const uint32_t *indices, size_t k, uint32_t min, 
  * over the first of the `room` places of `left_out`, and how many they are into *many. The position of a shard is its
  * row. Where there are no such data: CWM_INCONSISTENT. Where more shards are wrong than that, they may have other
  * data, which are then given.
- * Sizes, words, memory and statuses as for cwm_join, but that there is no CWM_CONFLICT, and that CWM_TOO_FEW says that i
- * is below min. room is k or more, else CWM_WRONG_SIZE. Where it is not CWM_DONE, nothing is written. */
+ * Sizes, words and statuses as for cwm_join, memory as there for other shards; but there is no CWM_CONFLICT, and
+ * CWM_TOO_FEW says that i is below min. room is k or more, else CWM_WRONG_SIZE. Where it is not CWM_DONE, nothing is written. */
 CWM_MUST_USE uint32_t cwm_join_corrected(const uint32_t *indices, size_t k, uint32_t min, uint32_t total, const uint64_t *cells,
                                          size_t n, uint64_t *data, size_t m, size_t *written, size_t *left_out, size_t room,
                                          size_t *many);
@@ -230,7 +231,8 @@ CWM_MUST_USE uint32_t cwm_split_bytes(const uint8_t *data, size_t n, uint32_t mi
  * of the n bytes of `shards`, in k rows, is the shard whose index is indices[i]; the order does not matter, and a shard
  * that is there twice counts once. Fewer than min * (n / k) bytes are written; less room than needed: CWM_WRONG_SIZE.
  * n is a multiple of 8 k, and 0 where k is, else CWM_WRONG_SIZE. A word of P or more: CWM_OUT_OF_RANGE. Then as
- * cwm_join; shards of words that are those of no bytes: CWM_INCONSISTENT. Memory as for cwm_join, with 10 in place of 9. */
+ * cwm_join; shards of words that are those of no bytes: CWM_INCONSISTENT. Takes memory for 10 times N rows of a shard's
+ * words and of 64 more, where N is `total` rounded up to a power of two. */
 CWM_MUST_USE uint32_t cwm_join_bytes(const uint32_t *indices, size_t k, uint32_t min, uint32_t total, const uint8_t *shards,
                                      size_t n, uint8_t *data, size_t m, size_t *written);
 

@@ -1,5 +1,5 @@
 -- Words and the elements whose numbers they are.
-use Rattle.std.proofs.Common.{◌≡◌, ℕ, ◌+◌, ◌<◌, ◌%◌, List, [], ◌∷◌, ◌++◌, length, take, get_or, refl, ap₂, mod-eq_of_lt, suc, arith}
+use Rattle.std.proofs.Common.{◌≡◌, ℕ, ◌+◌, ◌<◌, ◌%◌, List, [], ◌∷◌, ◌++◌, length, take, get_or, refl, ap₂}
 use Rattle.std.proofs.Math.ListN.{set}
 use Rattle.std.proofs.lemmas.List.{take_more_set, map_more}
 use Rattle.std.proofs.lemmas.List.Elements.{All-map}
@@ -23,11 +23,6 @@ numbers_more words items i n d l m e h = rw (map_more number items i d m, take_m
 pub elements_of_numbers : (items : List F) → elements (numbers items) ≡ items
 elements_of_numbers [] = refl
 elements_of_numbers (a ∷ items) = ap₂ (λ x xs. x ∷ xs) (residue-number a) (elements_of_numbers items)
-
--- words below P are the numbers of their elements
-pub numbers_of_elements : (words : List ℕ) → AreElements words → numbers (elements words) ≡ words
-numbers_of_elements [] h = refl
-numbers_of_elements (w ∷ words) h = ap₂ (λ x xs. x ∷ xs) (mod-eq_of_lt (h 0 0 (omega arith))) (numbers_of_elements words (λ i d l. h (suc i) d (omega arith)))
 
 -- numbers of elements are below P
 pub numbers_below : (items : List F) → AreElements (numbers items)

@@ -1,12 +1,9 @@
 -- Shards as words, a shard a row.
-use Rattle.std.proofs.Common.{◌≡◌, ◌∙◌, ℕ, ◌+◌, ◌-◌, ◌*◌, ◌/◌, ◌<◌, ◌≤◌, ◌^◌, List, [], ◌∷◌, ◌++◌, length, map, take, drop, replicate, get_or, refl, sym, ap, ap₂, arith}
+use Rattle.std.proofs.Common.{◌≡◌, ◌∙◌, ℕ, ◌+◌, ◌-◌, ◌*◌, ◌/◌, ◌<◌, ◌^◌, List, [], ◌∷◌, ◌++◌, length, take, replicate, get_or, refl, sym, ap, arith}
 use Rattle.std.specs.List.{All, flat_map}
-use Rattle.std.proofs.Math.Seq.{take-add}
-use Rattle.std.proofs.Math.Nat.{mul-le-mul_right}
-use Rattle.std.proofs.lemmas.List.{length-append, length-drop, length-map, length-replicate, length-take-le, map-append, take_all, take_more, flat_map_more}
+use Rattle.std.proofs.lemmas.List.{length-append, length-map, length-replicate, map-append, take_more}
 use Rattle.std.proofs.lemmas.List.FromFn.{length-range_with_len}
-use Rattle.std.proofs.lemmas.List.Elements.{All-push, All-head, All-tail, All-take, All-drop}
-use Rattle.math_numbers.specs.Goldilocks.{P}
+use Rattle.std.proofs.lemmas.List.Elements.{All-head, All-tail}
 use Rattle.math_numbers.specs.Bits.{joined, piece_count, cut}
 use Rattle.math_numbers.proofs.BitPieces.{length-cut}
 use Rattle.math_numbers.proofs.BitLists.{length-joined}
@@ -14,9 +11,9 @@ use Rattle.math_base.specs.declared.fields.goldilocks.F.{F}
 use Rattle.math_base.specs.Elements.{number, residue}
 use Rattle.math_shards.specs.declared.shards.Shard.{Shard}
 use Rattle.math_shards.specs.Shards.{AreShardsOf, counted, width_for}
-use Rattle.commonware_math_c.specs.WordElements.{AreElements, elements, numbers}
-use Rattle.commonware_math_c.specs.WordShards.{AreWordShards, AreWordsOfShards, HaveShardSizes}
-use Rattle.commonware_math_c.proofs.WordElements.{numbers_of_elements}
+use Rattle.commonware_math_c.specs.WordElements.{numbers}
+use Rattle.commonware_math_c.specs.WordShards.{AreWordsOfShards, HaveShardSizes}
+use Rattle.math_shards.proofs.WordShards.{flat_map_push}
 
 -- how many cells the shards of so many words have
 abbrev pub width_of : ℕ → ℕ → ℕ
@@ -48,17 +45,6 @@ cells_of s = s.cells.items
 
 abbrev pub word_row : Shard → List ℕ
 word_row s = numbers s.cells.items
-
--- the shards of the rows before row i
-pub record AreSoFar (min total : ℕ) (indices cells : List ℕ) (cols i : ℕ) (shards : List Shard) : Type 0 where
-  pub keys : map (λ s. s.index) shards ≡ take i indices
-  pub least : All (λ s. s.min ≡ min) shards
-  pub most : All (λ s. s.total ≡ total) shards
-  pub count : All (λ s. length s.cells.items ≡ cols) shards
-  pub rows : flat_map (λ s. numbers s.cells.items) shards ≡ take (i * cols) cells
-
-flat_map_push : {A : Type 0} (f : Shard → List A) (shards : List Shard) (s : Shard) → flat_map f (shards ++ s ∷ []) ≡ flat_map f shards ++ f s
-flat_map_push f shards s = sym (flat_map_more f [] shards s)
 
 -- the cells of one shard more
 pub cells_more : (shards : List Shard) (i : ℕ) (s : Shard) (xs : List F) → i < length shards → s ≡ get_or shards i s → xs ≡ flat_map cells_of (take i shards)
@@ -103,39 +89,3 @@ words_of_split words min total shards cells h e =
         rows = sym (numbers_of_all shards) ∙ sym e;
       },
     )
-
--- the shard of one row more
-pub shards_more : (min total : ℕ) (indices cells : List ℕ) (cols i : ℕ) (shards : List Shard) (s : Shard) → length cells ≡ length indices * cols → i < length indices → AreElements cells
-    → s.index ≡ get_or indices i 0 → s.min ≡ min → s.total ≡ total → s.cells.items ≡ elements (take cols (drop (i * cols) cells))
-    → AreSoFar min total indices cells cols i shards → AreSoFar min total indices cells cols (i + 1) (shards ++ s ∷ [])
-shards_more min total indices cells cols i shards s count l below index least most row h =
-    let up : i + 1 ≤ length indices = omega arith in
-    let within : (i + 1) * cols ≤ length indices * cols = mul-le-mul_right cols up in
-    let after : i * cols + cols ≤ length indices * cols = omega (arith, within) in
-    let long : length s.cells.items ≡ cols =
-    ap length row ∙ length-map (take cols (drop (i * cols) cells)) residue ∙ length-take-le cols (drop (i * cols) cells) (omega (arith, after, count, length-drop (i * cols) cells)) in
-    let words : word_row s ≡ take cols (drop (i * cols) cells) =
-    ap numbers row ∙ numbers_of_elements (take cols (drop (i * cols) cells)) (All-take (λ w. w < P) cols (drop (i * cols) cells) (All-drop (λ w. w < P) (i * cols) cells below)) in
-    let next : i * cols + cols ≡ (i + 1) * cols = omega arith in
-    record {
-      keys = map-append (λ (t : Shard). t.index) shards (s ∷ []) ∙ ap₂ (λ xs x. xs ++ x ∷ []) h.keys index ∙ sym (take_more indices i 0 l);
-      least = All-push (λ (t : Shard). t.min ≡ min) shards s h.least least;
-      most = All-push (λ (t : Shard). t.total ≡ total) shards s h.most most;
-      count = All-push (λ (t : Shard). length t.cells.items ≡ cols) shards s h.count long;
-      rows = flat_map_push word_row shards s ∙ ap₂ (λ xs ys. xs ++ ys) h.rows words ∙ sym (take-add (i * cols) cols cells) ∙ ap (λ n. take n cells) next;
-    }
-
--- the shards of all rows
-pub shards_all : (min total : ℕ) (indices cells : List ℕ) (cols i : ℕ) (shards : List Shard) → length cells ≡ length indices * cols → length indices ≤ i
-    → AreSoFar min total indices cells cols i shards → i ≡ length indices → AreWordShards min total indices cells shards
-shards_all min total indices cells cols i shards count all h e =
-    let keys : map (λ (s : Shard). s.index) shards ≡ indices = h.keys ∙ take_all i indices all in
-    let many : length indices ≡ length shards = sym (ap length keys) ∙ length-map shards (λ (s : Shard). s.index) in
-    let whole : length cells ≤ i * cols = rw e (omega (arith, count)) in
-    record {
-      keys = keys;
-      least = h.least;
-      most = h.most;
-      count = λ k d l. count ∙ ap (λ n. n * cols) many ∙ ap (λ w. length shards * w) (sym (h.count k d l));
-      rows = h.rows ∙ take_all (i * cols) cells whole;
-    }

@@ -1,9 +1,10 @@
 -- Words as the coefficients of an encoded polynomial.
-use Rattle.std.specs.Prelude.{◌≡◌, ℕ, ◌<◌, ◌≤◌, ◌-◌, ◌^◌, ◌++◌, List, length, drop, Result}
+use Rattle.std.specs.Prelude.{◌≡◌, ℕ, ◌<◌, ◌-◌, ◌^◌, List, length, Result}
 use Rattle.std.specs.Int.{to_be_bytes, w64}
 use Rattle.math_codec.specs.Faults.{Fault, scan_exactly}
 use Rattle.math_codec.specs.Lists.{list_spelling, scan_list}
 use Rattle.math_base.specs.ElementEncoding.{scan_element}
+pub use Rattle.math_shards.specs.ShardRows.{StandInFront}
 use Rattle.commonware_math_c.specs.WordElements.{AreElements}
 
 -- a polynomial may have so many coefficients
@@ -19,10 +20,6 @@ pub record IsEncodedBy (coefficients bytes : List ℕ) : Type 0 where
   pub count : IsCoefficientCount (length coefficients)
   pub below : AreElements coefficients
   pub spelled : bytes ≡ polynomial_spelling coefficients
-
--- the items stand in place of as many first ones, and the further ones are as they were
-abbrev pub StandInFront : List ℕ → List ℕ → List ℕ → Type 0
-StandInFront items old new = (length items ≤ length old) × (new ≡ items ++ drop (length items) old)
 
 -- what reading the polynomial and nothing more meets: no fault, or the first one
 abbrev pub scan_polynomial : List ℕ → Result (Unit {0}) Fault

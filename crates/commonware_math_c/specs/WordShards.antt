@@ -1,12 +1,11 @@
 -- Words as shards of data, a shard a row.
-use Rattle.std.specs.Prelude.{◌≡◌, ℕ, ◌*◌, ◌<◌, ◌≤◌, ◌^◌, List, length, map, All}
-use Rattle.std.specs.List.{flat_map, range_with_len}
+use Rattle.std.specs.Prelude.{◌≡◌, ℕ, ◌*◌, ◌<◌, ◌≤◌, ◌^◌, List, length}
+use Rattle.std.specs.List.{range_with_len}
 use Rattle.math_shards.specs.declared.shards.Shard.{Shard}
 use Rattle.math_shards.specs.declared.shards.Error.{Error}
-use Rattle.math_shards.specs.Shards.{AreShardsOf, JoinTo, width_for}
+use Rattle.math_shards.specs.Shards.{AreShardsOf, width_for}
+pub use Rattle.math_shards.specs.ShardRows.{AreRefused, AreWordShards, DoJoinTo}
 use Rattle.math_shards.specs.Correcting.{AreCorrected, IsDueCorrecting}
-use Rattle.math_shards.specs.Joining.{IsDue}
-use Rattle.commonware_math_c.specs.WordElements.{numbers}
 
 -- `min` of `total` shards give data back
 abbrev pub IsSplit : ℕ → ℕ → Type 0
@@ -22,26 +21,10 @@ pub record HaveShardSizes (words min total cells : ℕ) : Type 0 where
 abbrev pub AreRowsOf : ℕ → ℕ → Type 0
 AreRowsOf n rows = (cols : ℕ) × (n ≡ rows * cols)
 
--- the shards have these indices, these numbers, and the same number of cells each; row by row the cells are these words
-pub record AreWordShards (min total : ℕ) (indices cells : List ℕ) (shards : List Shard) : Type 0 where
-  pub keys : map (λ s. s.index) shards ≡ indices
-  pub least : All (λ s. s.min ≡ min) shards
-  pub most : All (λ s. s.total ≡ total) shards
-  pub count : All (λ s. length cells ≡ length shards * length s.cells.items) shards
-  pub rows : flat_map (λ s. numbers s.cells.items) shards ≡ cells
-
 -- the words are, row by row, the shards of the data, in the order of their indices
 abbrev pub AreWordsOfShards : List ℕ → ℕ → ℕ → List ℕ → Type 0
 AreWordsOfShards words min total cells =
     (shards : List Shard) × AreShardsOf words min total shards × AreWordShards min total (range_with_len 0 total) cells shards
-
--- the shards that the words are join to the data
-abbrev pub DoJoinTo : List ℕ → ℕ → ℕ → List ℕ → List ℕ → Type 0
-DoJoinTo words min total indices cells = (shards : List Shard) × AreWordShards min total indices cells shards × JoinTo words shards
-
--- this is wrong with the shards that the words are
-abbrev pub AreRefused : Error → ℕ → ℕ → List ℕ → List ℕ → Type 0
-AreRefused e min total indices cells = (shards : List Shard) × AreWordShards min total indices cells shards × IsDue shards e
 
 -- the shards that the words are have these data, however some are wrong, and these positions are those of the wrong ones
 abbrev pub DoCorrectTo : List ℕ → List ℕ → ℕ → ℕ → List ℕ → List ℕ → Type 0

@@ -15,6 +15,7 @@ use crate::shards;
 use commonware_math::algebra::Mem;
 use commonware_math::codec::Read;
 use commonware_math::fields::goldilocks::F;
+use commonware_math::shards::shards_of_rows;
 use shard_blocks::{Error, cells_for, join_block, split_block};
 use std::alloc::Global;
 
@@ -146,7 +147,7 @@ pub fn write_block(
         → DoJoinToBlock block min total indices.now (word_bytes cells.now)
         → length block ≤ length out.old → MatchResult result (λ answer. IsSome answer) IsMemory }
 {
-    let shards = shards::shards_of(alloc, indices, min, total, cells, cols)?;
+    let shards = shards_of_rows(alloc, indices, min, total, cells, cols)?;
     let block = join_block(alloc, &shards)?;
     let n = block.len();
     if n > out.len() {

@@ -36,6 +36,7 @@ mod values;
 mod weights;
 
 use commonware_math::fields::goldilocks::MODULUS;
+use commonware_math::shards::join_rows;
 use corrections::correct_words;
 use decodings::{are_decoding_sizes, decode_words};
 use elements::{are_elements, elements_below};
@@ -419,7 +420,7 @@ pub extern "C" fn cwm_join(
     if !are_elements(cells) {
         return Status::OutOfRange.code();
     }
-    match shards::write_data(alloc, indices, min, total, cells, cols, out) {
+    match join_rows(alloc, indices, min, total, cells, cols, out) {
         Ok(Some(many)) => {
             *written = many;
             Status::Done.code()

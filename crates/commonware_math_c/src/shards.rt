@@ -7,12 +7,11 @@ ghost use Rattle.math_shards.specs.Shards.{AreShardsOf};
 ghost use Rattle.math_shards.specs.Joining.{IsMemory};
 ghost use Rattle.commonware_math_c.specs.WordElements.{AreElements};
 ghost use Rattle.commonware_math_c.specs.WordEncodings.{StandInFront};
-ghost use Rattle.commonware_math_c.specs.WordShards.{AreRefused, AreRefusedCorrecting, AreRowsOf, AreWordShards, AreWordsOfShards, DoCorrectTo, DoJoinTo, HaveShardSizes, IsSplit};
+ghost use Rattle.commonware_math_c.specs.WordShards.{AreRefusedCorrecting, AreRowsOf, AreWordsOfShards, DoCorrectTo, HaveShardSizes, IsSplit};
 
-use crate::elements::elements;
 use commonware_math::algebra::Mem;
 use commonware_math::fields::goldilocks::F;
-use commonware_math::shards::{Error, Shard, join, join_corrected, split_rows};
+use commonware_math::shards::{Error, Shard, join_corrected, shards_of_rows, split_rows};
 use std::alloc::Global;
 
 /// 2^57: there are fewer words of data, and fewer of shards.
@@ -97,66 +96,6 @@ pub fn write_shards(
     Ok(())
 }
 
-/// The shards whose cells the words are, a shard a row.
-pub fn shards_of(
-    alloc: Global,
-    indices: &[u32],
-    min: u32,
-    total: u32,
-    cells: &[u64],
-    cols: usize,
-) -> Mem<Vec<Shard>>
-    requires count { length cells.now ≡ length indices.now * cols }
-    requires below { AreElements cells.now }
-    ensures { IfOk result (λ shards. AreWordShards min total indices.now cells.now shards.items) }
-{
-    let mut out = Vec::new(alloc);
-    for i in 0..indices.len() {
-        let from = i * cols;
-        let cells = elements(alloc, &cells[from..from + cols])?;
-        out.push(Shard {
-            index: indices[i],
-            min,
-            total,
-            cells,
-        })?;
-    }
-    Ok(out)
-}
-
-/// Writes the data that the shards give back over the first words of `out`, and gives their number.
-///
-/// `None` where there is no room for them. It refuses as `join` does.
-pub fn write_data(
-    alloc: Global,
-    indices: &[u32],
-    min: u32,
-    total: u32,
-    cells: &[u64],
-    cols: usize,
-    out: &mut [u64],
-) -> Result<Option<usize>, Error>
-    requires count { length cells.now ≡ length indices.now * cols }
-    requires below { AreElements cells.now }
-    ensures some { IfOk result (λ answer. IfSome answer (λ n. (words : List ℕ)
-        × DoJoinTo words min total indices.now cells.now × (n ≡ length words)
-        × StandInFront words out.old out.new)) }
-    ensures none { IfOk result (λ answer. IfNone answer ((words : List ℕ)
-        × DoJoinTo words min total indices.now cells.now × (length out.old < length words))) }
-    ensures kept { IfOk result (λ answer. IfNone answer (out.new ≡ out.old)) }
-    ensures err { OnErr result (out.new ≡ out.old) }
-    ensures due { IfErr result (λ e. IsMemory e ⊎ AreRefused e min total indices.now cells.now) }
-{
-    let shards = shards_of(alloc, indices, min, total, cells, cols)?;
-    let words = join(alloc, &shards)?;
-    let n = words.len();
-    if n > out.len() {
-        return Ok(None);
-    }
-    out[..n].copy_from_slice(&words);
-    Ok(Some(n))
-}
-
 /// Writes the data of the shards, however some are wrong, over the first words of `out`, and the
 /// positions of the wrong ones over the first items of `left_out`, and gives the numbers of both.
 ///
@@ -187,7 +126,7 @@ pub fn write_corrected(
     ensures due { IfErr result
         (λ e. IsMemory e ⊎ AreRefusedCorrecting e min total indices.now cells.now) }
 {
-    let shards = shards_of(alloc, indices, min, total, cells, cols)?;
+    let shards = shards_of_rows(alloc, indices, min, total, cells, cols)?;
     let joined = join_corrected(alloc, &shards)?;
     let n = joined.words.len();
     let many = joined.left_out.len();
