@@ -83,8 +83,8 @@ module _ {A : Type 0} (R : CommutativeRing A) where
   abbrev pub HasProductValues : A → ℕ → List A → List A → List A → Type 0
   HasProductValues w n cells v g = RecoveryOnCoset.HasProductValues (λ (x y : A). x ≡ y) R.zero R.sum R.product R.one w n cells v g
 
-  abbrev pub DividesOnCoset : A → A → ℕ → List A → List A → List A → Type 0
-  DividesOnCoset w s n v g q = RecoveryOnCoset.DividesOnCoset (λ (x y : A). x ≡ y) R.zero R.sum R.product R.one w s n v g q
+  abbrev pub DividesOnCoset : A → A → ℕ → ℕ → List A → List A → List A → Type 0
+  DividesOnCoset w s d m v g q = RecoveryOnCoset.DividesOnCoset (λ (x y : A). x ≡ y) R.zero R.sum R.product R.one w s d m v g q
 
   abbrev pub IsDividedDownTo : ℕ → List A → List A → List A → List A → Type 0
   IsDividedDownTo i p d q left = Division.IsDividedDownTo (λ (x y : A). x ≡ y) R.zero R.sum R.product i p d q left

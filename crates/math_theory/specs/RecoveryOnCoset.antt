@@ -1,5 +1,5 @@
 -- The steps that recover a polynomial from some of its values on a domain of n points, the powers of w, by division on a coset of the domain.
-use Rattle.std.specs.Prelude.{◌<◌, ◌≤◌, ℕ, List, Bool, length, slice_index_or}
+use Rattle.std.specs.Prelude.{◌*◌, ◌<◌, ◌≤◌, ℕ, List, Bool, length, slice_index_or}
 use Rattle.math_theory.specs.Interpolation.{AreApart}
 use Rattle.math_theory.specs.Powers.{power, powers}
 use Rattle.math_theory.specs.Recovery.{missing_items}
@@ -29,10 +29,10 @@ pub record HasProductValues {A : Type 0} (same : A → A → Type 0) (zero : A) 
       → let x = power one product w i in
       same (value zero sum product one x g) (product (slice_index_or cells i zero) (value zero sum product one x v))
 
--- q has at most n coefficients, and its values on the coset times those of v are those of g
+-- q has at most m coefficients, and its values at s times the powers 0, d, 2 d and so on of w, m of them, times those of v are those of g
 pub record DividesOnCoset {A : Type 0} (same : A → A → Type 0) (zero : A) (sum : A → A → A) (product : A → A → A) (one : A)
-    (w s : A) (n : ℕ) (v g q : List A) : Type 0 where
-  pub short : length q ≤ n
-  pub values : (i : ℕ) → i < n
-      → let x = product s (power one product w i) in
+    (w s : A) (d m : ℕ) (v g q : List A) : Type 0 where
+  pub short : length q ≤ m
+  pub values : (i : ℕ) → i < m
+      → let x = product s (power one product w (d * i)) in
       same (product (value zero sum product one x q) (value zero sum product one x v)) (value zero sum product one x g)

@@ -1,5 +1,5 @@
 -- The theorems on recovery, up to a type's own equality.
-use Rattle.std.proofs.Common.{◌≡◌, ℕ, ◌<◌, List, Bool, length, map, sym, ◌∙◌, ap, ap₂, subst, arith}
+use Rattle.std.proofs.Common.{◌≡◌, ℕ, ◌*◌, ◌<◌, ◌≤◌, List, Bool, length, map, sym, ◌∙◌, ap, ap₂, subst, arith}
 use Rattle.math_theory.specs.Coefficients.{HaveSameCoefficients}
 use Rattle.math_theory.specs.Interpolation.{AreApart}
 use Rattle.math_theory.specs.Laws.{IsEquality, IsGroup, IsProduct, IsRing, IsField}
@@ -84,20 +84,21 @@ module _ {A : Type 0} {same : A → A → Type 0} {zero : A} {sum : A → A → 
       → OverRing.value classes.ring (classes.product (class E s) (OverRing.power classes.ring (class E w) i)) (classes_of p) ≡ class E (value_of (product s (power one product w i)) p)
   value-on_coset w s i p = ap (λ x. OverRing.value classes.ring (classes.product (class E s) x) (classes_of p)) (power-class E G P R w i) ∙ value-class E G P R (product s (power one product w i)) p
 
-  DividesOnCoset-classes : (w s : A) (n : ℕ) (v g q : List A)
-      → DividesOnCoset same zero sum product one w s n v g q → OverRing.DividesOnCoset classes.ring (class E w) (class E s) n (classes_of v) (classes_of g) (classes_of q)
-  DividesOnCoset-classes w s n v g q h = record {
+  DividesOnCoset-classes : (w s : A) (d m : ℕ) (v g q : List A)
+      → DividesOnCoset same zero sum product one w s d m v g q → OverRing.DividesOnCoset classes.ring (class E w) (class E s) d m (classes_of v) (classes_of g) (classes_of q)
+  DividesOnCoset-classes w s d m v g q h = record {
     short = omega (arith, h.short, length-classes E q);
-    values = λ i l. ap₂ classes.product (value-on_coset w s i q) (value-on_coset w s i v) ∙ class_same E _ _ (h.values i l) ∙ sym (value-on_coset w s i g);
+    values = λ i l. ap₂ classes.product (value-on_coset w s (d * i) q) (value-on_coset w s (d * i) v) ∙ class_same E _ _ (h.values i l) ∙ sym (value-on_coset w s (d * i) g);
   }
 
-  -- what division on a coset gives fits the filled cells, where there is one
-  pub division_on_coset-same : (w s u : A) (cells : List A) (filled : List Bool) (v g q : List A) → length filled ≡ length cells → 0 < count_true filled
+  -- what division on a coset gives fits the filled cells, where there is one, and no more than the points of the coset
+  pub division_on_coset-same : (w s u : A) (d m : ℕ) (cells : List A) (filled : List Bool) (v g q : List A) → length filled ≡ length cells → 0 < count_true filled → count_true filled ≤ m
+      → 0 < d → d * m ≤ length cells
       → HasCoset same zero product one w s (length cells) → VanishesAtMissing same zero sum negative product one w (length cells) filled u v
-      → HasProductValues same zero sum product one w (length cells) cells v g → DividesOnCoset same zero sum product one w s (length cells) v g q
+      → HasProductValues same zero sum product one w (length cells) cells v g → DividesOnCoset same zero sum product one w s d m v g q
       → Fits same zero sum product one w cells filled q
-  division_on_coset-same w s u cells filled v g q e some coset V H Q =
+  division_on_coset-same w s u d m cells filled v g q e some few step within coset V H Q =
       Fits-from_classes w cells filled q
-      (Fits-from_division classes (class E w) (class E s) (class E u) (length cells) (classes_of cells) filled (classes_of v) (classes_of g) (classes_of q) (length-classes E cells) e some
+      (Fits-from_division classes (class E w) (class E s) (class E u) (length cells) d m (classes_of cells) filled (classes_of v) (classes_of g) (classes_of q) (length-classes E cells) e some few step within
       (HasCoset-classes w s (length cells) coset) (VanishesAtMissing-classes w (length cells) filled u v V)
-      (HasProductValues-classes w (length cells) cells v g H) (DividesOnCoset-classes w s (length cells) v g q Q))
+      (HasProductValues-classes w (length cells) cells v g H) (DividesOnCoset-classes w s d m v g q Q))

@@ -1,5 +1,5 @@
 -- Polynomials on a domain and on its coset, up to a type's own equality: those that agree on the domain agree everywhere, and the steps of a recovery give what fits.
-use Rattle.std.proofs.Common.{◌≡◌, ℕ, suc, ◌+◌, ◌<◌, ◌≤◌, List, [], Bool, false, length, map, get_or, sym, ◌∙◌, ap, ap₂, subst, true≢false, arith}
+use Rattle.std.proofs.Common.{◌≡◌, ℕ, suc, ◌+◌, ◌*◌, ◌<◌, ◌≤◌, List, [], Bool, false, length, map, get_or, sym, ◌∙◌, ap, ap₂, subst, true≢false, arith}
 use Rattle.std.proofs.lemmas.List.{get_or-map, get_or_past}
 use Rattle.std.proofs.lemmas.List.FromFn.{length-map-range_with_len, get_or-map-range_with_len}
 use Rattle.std.specs.List.{All}
@@ -111,15 +111,17 @@ module _ {A : Type 0} {same : A → A → Type 0} {zero_of : A} {sum : A → A �
         (same_class E _ _ z))
         (sym (class_same E _ _ (a.gives r)) ∙ class_same E _ _ e)
 
-    -- v vanishes at the missing points, again has its values on the domain, those of g there are the cells times them, and q times again is g on the coset
-    pub recovered-fits : (cells v again g q : List A) → length cells ≡ n → length again ≡ n → length g ≡ n → length q ≡ n → 0 < count_true filled
+    -- v vanishes at the missing points, again has its values on the domain, those of g there are the cells times them, and q times again is g at every d-th point of
+    -- the coset, of which there are as many as filled cells, or more
+    pub recovered-fits : (d m : ℕ) (cells v again g q : List A) → length cells ≡ n → length again ≡ n → length g ≡ n → length q ≡ m → 0 < count_true filled → count_true filled ≤ m
+        → 0 < d → d * m ≤ n
         → VanishesAt same zero_of sum negative product one (missing_points one product w filled) (λ r. at r v)
         → ((i : ℕ) → i < n → same (at (point w i) again) (at (point w i) v))
         → ((i : ℕ) → i < n → same (at (point w i) g) (product (get_or cells i zero_of) (at (point w i) v)))
-        → ((i : ℕ) → i < n → same (product (at (product s (point w i)) q) (at (product s (point w i)) again)) (at (product s (point w i)) g))
+        → ((i : ℕ) → i < m → same (product (at (product s (point w (d * i))) q) (at (product s (point w (d * i))) again)) (at (product s (point w (d * i))) g))
         → Fits same zero_of sum product one w cells filled q
-    recovered-fits cells v again g q lc la lg lq some a ha hg hq =
-        division_on_coset-same E G P R F w s a.factor cells filled again g q (long ∙ sym lc) some (subst (HasCoset same zero_of product one w s) (sym lc) coset)
+    recovered-fits d m cells v again g q lc la lg lq some few step within a ha hg hq =
+        division_on_coset-same E G P R F w s a.factor d m cells filled again g q (long ∙ sym lc) some few step (omega (arith, within, lc)) (subst (HasCoset same zero_of product one w s) (sym lc) coset)
         (record {
           short = omega (arith, la, lc);
           factor_nonzero = a.factor_is_not_zero;
@@ -131,4 +133,4 @@ module _ {A : Type 0} {same : A → A → Type 0} {zero_of : A} {sum : A → A �
           short = omega (arith, lg, lc);
           values = λ i l. let b : i < n = omega (arith, l, lc) in E.transitive _ _ _ (hg i b) (P.respects _ _ _ _ (E.reflexive (get_or cells i zero_of)) (E.symmetric _ _ (ha i b)));
         })
-        (record { short = omega (arith, lq, lc); values = λ i l. hq i (omega (arith, l, lc)) })
+        (record { short = omega (arith, lq); values = hq })

@@ -1,10 +1,11 @@
 -- Recovery: on the domain of the powers of w, the polynomial that agrees with the filled cells is had from the cells times the values of a polynomial
 -- that vanishes at the missing points.
-use Rattle.std.proofs.Common.{◌≡◌, ◌≢◌, ℕ, suc, ◌+◌, ◌-◌, ◌<◌, ◌≤◌, List, ◌++◌, replicate, Bool, false, length, get_or, map, inl, inr, sym, ◌∙◌, ap, subst, arith}
+use Rattle.std.proofs.Common.{◌≡◌, ◌≢◌, ℕ, suc, ◌+◌, ◌-◌, ◌*◌, ◌<◌, ◌≤◌, List, ◌++◌, replicate, Bool, false, length, get_or, map, inl, inr, sym, ◌∙◌, ap, subst, arith}
 use Rattle.std.proofs.lemmas.Bool.{cases_Bool}
 use Rattle.std.proofs.lemmas.List.{length-append, length-map, length-replicate, get_or_past}
 use Rattle.std.proofs.lemmas.List.FromFn.{length-map-range_with_len, get_or-map-range_with_len}
 use Rattle.std.proofs.lemmas.List.Sums.{count_by-le-length}
+use Rattle.std.proofs.Math.Nat.{mul-lt-mul_of_pos_left}
 use Rattle.std.specs.List.{All, range_with_len}
 use Rattle.math_theory.specs.OverRing.{AreDistinct, power, powers, value, coefficient, HaveSameCoefficients, polynomial_multiple, polynomial_product, root_product, Fits, HasCoset, VanishesAtMissing, HasProductValues, DividesOnCoset}
 use Rattle.math_theory.specs.Recovery.{count_true, missing_items}
@@ -89,33 +90,39 @@ pub division : {A : Type 0} (F : Field A) (points p q v : List A) → AreDistinc
 division F points p q v d l m n h =
     agreement F points p q l m d (λ k e i. product-cancel_right F (value F.ring (get_or points k e) p) (value F.ring (get_or points k e) q) (value F.ring (get_or points k e) v) (n k e i) (h k e i))
 
-module _ {A : Type 0} (F : Field A) (w s : A) (n : ℕ) (coset : HasCoset F.ring w s n) where
+module _ {A : Type 0} (F : Field A) (w s : A) (n d m : ℕ) (coset : HasCoset F.ring w s n) (step : 0 < d) (within : d * m ≤ n) where
   open F use {product, ring as R}
 
+  -- s times every d-th power of w, m of them
   abbrev coset_points : List A
-  coset_points = map (λ i. product s (power R w i)) (range_with_len 0 n)
+  coset_points = map (λ i. product s (power R w (d * i))) (range_with_len 0 m)
 
-  length-coset_points : length coset_points ≡ n
-  length-coset_points = length-map-range_with_len (λ i. product s (power R w i)) 0 n
+  length-coset_points : length coset_points ≡ m
+  length-coset_points = length-map-range_with_len (λ i. product s (power R w (d * i))) 0 m
 
-  get_or-coset_points : (i : ℕ) (d : A) → i < n → get_or coset_points i d ≡ product s (power R w i)
-  get_or-coset_points i d l = get_or-map-range_with_len (λ i. product s (power R w i)) 0 n i i d l (omega arith)
+  get_or-coset_points : (i : ℕ) (e : A) → i < m → get_or coset_points i e ≡ product s (power R w (d * i))
+  get_or-coset_points i e l = get_or-map-range_with_len (λ i. product s (power R w (d * i))) 0 m i i e l (omega arith)
 
-  All-coset_points : (P : A → Type 0) → ((i : ℕ) → i < n → P (product s (power R w i))) → All P coset_points
-  All-coset_points P h k d l = let m : k < n = omega (arith, l, length-coset_points) in subst P (sym (get_or-coset_points k d m)) (h k m)
+  exponent-below : (i : ℕ) → i < m → d * i < n
+  exponent-below i l = let b : d * i < d * m = mul-lt-mul_of_pos_left l step in omega (arith, b, within)
+
+  All-coset_points : (P : A → Type 0) → ((i : ℕ) → i < m → P (product s (power R w (d * i)))) → All P coset_points
+  All-coset_points P h k e l = let b : k < m = omega (arith, l, length-coset_points) in subst P (sym (get_or-coset_points k e b)) (h k b)
 
   coset_points-distinct : AreDistinct coset_points
-  coset_points-distinct i j d l m e =
-      let below : j < n = omega (arith, m, length-coset_points) in
-      coset.distinct i j F.zero l (omega (arith, below, length-powers R w n))
-      (get_or-powers R w n i F.zero (omega (arith, l, below))
-      ∙ product-cancel_right F (power R w i) (power R w j) s coset.shift_nonzero
-      (F.product_comm (power R w i) s ∙ sym (get_or-coset_points i d (omega (arith, l, below))) ∙ e ∙ get_or-coset_points j d below ∙ F.product_comm s (power R w j))
-      ∙ sym (get_or-powers R w n j F.zero below))
+  coset_points-distinct i j e l b q =
+      let below : j < m = omega (arith, b, length-coset_points) in
+      let rises : d * i < d * j = mul-lt-mul_of_pos_left l step in
+      let inside : d * j < n = exponent-below j below in
+      coset.distinct (d * i) (d * j) F.zero rises (omega (arith, inside, length-powers R w n))
+      (get_or-powers R w n (d * i) F.zero (omega (arith, rises, inside))
+      ∙ product-cancel_right F (power R w (d * i)) (power R w (d * j)) s coset.shift_nonzero
+      (F.product_comm (power R w (d * i)) s ∙ sym (get_or-coset_points i e (omega (arith, l, below))) ∙ q ∙ get_or-coset_points j e below ∙ F.product_comm s (power R w (d * j)))
+      ∙ sym (get_or-powers R w n (d * j) F.zero inside))
 
-module _ {A : Type 0} (F : Field A) (w s u : A) (n : ℕ) (cells : List A) (filled : List Bool) (v g q : List A) (cells_long : length cells ≡ n) (filled_long : length filled ≡ n)
-    (some_filled : 1 ≤ count_true filled) (coset : HasCoset F.ring w s n) (V : VanishesAtMissing F.ring w n filled u v)
-    (G : HasProductValues F.ring w n cells v g) (Q : DividesOnCoset F.ring w s n v g q) where
+module _ {A : Type 0} (F : Field A) (w s u : A) (n d m : ℕ) (cells : List A) (filled : List Bool) (v g q : List A) (cells_long : length cells ≡ n) (filled_long : length filled ≡ n)
+    (some_filled : 1 ≤ count_true filled) (few_filled : count_true filled ≤ m) (step : 0 < d) (within : d * m ≤ n) (coset : HasCoset F.ring w s n) (V : VanishesAtMissing F.ring w n filled u v)
+    (G : HasProductValues F.ring w n cells v g) (Q : DividesOnCoset F.ring w s d m v g q) where
   open F use {sum, negative, product, ring as R}
 
   abbrev missing : List A
@@ -175,14 +182,17 @@ module _ {A : Type 0} (F : Field A) (w s u : A) (n : ℕ) (cells : List A) (fill
       (λ i l. product-values F w n cells filled cells_long filled_long f vanishing f-agrees vanishing-at_missing i l
       ∙ ap (product (get_or cells i F.zero)) (vanishing-v (power R w i)) ∙ sym (G.values i l)))
 
+  abbrev on_coset : ℕ → A
+  on_coset i = product s (power R w (d * i))
+
   q-f : HaveSameCoefficients R q f
   q-f =
-      division F (coset_points F w s n coset) q f v (coset_points-distinct F w s n coset) (omega (arith, Q.short, length-coset_points F w s n coset))
-      (omega (arith, length-f, count_missing, length-coset_points F w s n coset))
-      (All-coset_points F w s n coset (λ x. value R x v ≢ F.zero) v-on_coset)
-      (All-coset_points F w s n coset (λ x. product (value R x q) (value R x v) ≡ product (value R x f) (value R x v))
-      (λ i l. Q.values i l ∙ sym (product-g (product s (power R w i))) ∙ value-product R (product s (power R w i)) f vanishing
-      ∙ ap (product (value R (product s (power R w i)) f)) (vanishing-v (product s (power R w i)))))
+      division F (coset_points F w s n d m coset step within) q f v (coset_points-distinct F w s n d m coset step within)
+      (omega (arith, Q.short, length-coset_points F w s n d m coset step within)) (omega (arith, length-f, few_filled, length-coset_points F w s n d m coset step within))
+      (All-coset_points F w s n d m coset step within (λ x. value R x v ≢ F.zero) (λ i l. v-on_coset (d * i) (exponent-below F w s n d m coset step within i l)))
+      (All-coset_points F w s n d m coset step within (λ x. product (value R x q) (value R x v) ≡ product (value R x f) (value R x v))
+      (λ i l. Q.values i l ∙ sym (product-g (on_coset i)) ∙ value-product R (on_coset i) f vanishing
+      ∙ ap (product (value R (on_coset i) f)) (vanishing-v (on_coset i))))
 
   -- what division on the coset gives fits
   pub Fits-from_division : Fits R w cells filled q

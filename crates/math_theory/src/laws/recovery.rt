@@ -7,7 +7,7 @@
 //! divided by v on the domain, where both are zero at the missing points, but on a coset of the
 //! domain v is nowhere zero, and the quotients are the values of f.
 
-ghost use Rattle.std.specs.Prelude.{◌≡◌, ◌≢◌, ◌≤◌, ◌<◌, ◌+◌, ℕ, List, Bool, false, length, All, slice_index_or};
+ghost use Rattle.std.specs.Prelude.{◌≡◌, ◌≢◌, ◌≤◌, ◌<◌, ◌+◌, ◌*◌, ℕ, List, Bool, false, length, All, slice_index_or};
 ghost use Rattle.math_theory.specs.OverRing.{AreDistinct, power, powers, value, HaveSameCoefficients, polynomial_product, Fits, HasCoset, VanishesAtMissing, HasProductValues, DividesOnCoset};
 ghost use Rattle.math_theory.specs.Recovery.{count_true};
 ghost use Rattle.math_theory.specs.Rings.{Field};
@@ -52,14 +52,16 @@ pub fn division<T>()
         → HaveSameCoefficients F.ring p q }
 {}
 
-/// What division on a coset gives fits the filled cells, where there is one.
+/// What division on a coset, or on every d-th point of it, gives fits the filled cells, where there
+/// is one, and no more of them than points at which is divided.
 pub fn division_on_coset<T>()
-    ensures { (F : Field T) → (w s u : T) → (cells : List T) → (filled : List Bool)
+    ensures { (F : Field T) → (w s u : T) → (d m : ℕ) → (cells : List T) → (filled : List Bool)
         → (v g q : List T)
-        → length filled ≡ length cells → 0 < count_true filled
+        → length filled ≡ length cells → 0 < count_true filled → count_true filled ≤ m
+        → 0 < d → d * m ≤ length cells
         → HasCoset F.ring w s (length cells)
         → VanishesAtMissing F.ring w (length cells) filled u v
         → HasProductValues F.ring w (length cells) cells v g
-        → DividesOnCoset F.ring w s (length cells) v g q
+        → DividesOnCoset F.ring w s d m v g q
         → Fits F.ring w cells filled q }
 {}

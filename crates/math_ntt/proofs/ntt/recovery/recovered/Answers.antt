@@ -1,4 +1,4 @@
-use Rattle.std.proofs.Common.{◌≡◌, ◌∙◌, ◌^◌, length, sym, arith}
+use Rattle.std.proofs.Common.{◌≡◌, ◌∙◌, ◌*◌, ◌^◌, length, sym, arith}
 use Rattle.math_theory.proofs.polynomials.BuiltPolynomials.{value-respects}
 use Rattle.math_theory.proofs.domains.BuiltVanishing.{VanishesAt-respects}
 use Rattle.math_theory.proofs.domains.CarriedDomains.{HasCoset-of_order-same}
@@ -7,6 +7,7 @@ use Rattle.math_transforms.specs.DomainValues.{matrix_of}
 use Rattle.math_transforms.specs.Matrices.{column_of}
 use Rattle.math_transforms.proofs.DomainSteps.{column-cell}
 use Rattle.math_transforms.proofs.MatrixRows.{length-column}
+use Rattle.math_transforms.proofs.MissingPlaces.{count_both}
 use Rattle.math_transforms.proofs.PowersOfTwo.{power_of_two-same}
 use Rattle.math_transforms.proofs.TreeCounts.{within-part, within-transforms}
 use Rattle.math_ntt.proofs.RecoveryCounts.{whole-bound, whole-room}
@@ -58,7 +59,7 @@ returns-clause-fits g c = λ m k e b.
     let product = matrix_of n c.args.cols found.product in
     let quotient = matrix_of n c.args.cols c.divided.new.cells in
     rw (← power_of_two-same lg m e)
-    (recovered-fits E G P R f root shift n points c.requires.points coset (column_of zero cells k) v.items again (column_of zero product k) (column_of zero quotient k)
-    (length-column zero cells k) long (length-column zero product k) (length-column zero quotient k) c.requires.some vanishes on_domain
+    (recovered-fits E G P R f root shift n points c.requires.points coset 1 n (column_of zero cells k) v.items again (column_of zero product k) (column_of zero quotient k)
+    (length-column zero cells k) long (length-column zero product k) (length-column zero quotient k) c.requires.some (omega (arith, count_both points, c.requires.points)) (omega arith) (omega arith) vanishes on_domain
     (λ i l. rw (column-cell zero n c.args.cols k i c.args.cells.now l b) (products i k l b))
-    (λ i l. quotients i k l b))
+    (λ i l. let every : 1 * i ≡ i = omega arith in rw every (quotients i k l b)))
