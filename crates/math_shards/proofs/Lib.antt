@@ -29,6 +29,10 @@ pub mod WeightedColumns
 pub mod ChosenRows
 pub mod UnitShards
 pub mod WeighedRows
+pub mod FoldedColumns
+pub mod CosetParts
+pub mod DividedColumns
+pub mod MadeDivisions
 pub mod PutCoefficients
 pub mod JoinedRows
 pub mod WordShards

@@ -3,6 +3,7 @@ pub mod Strips
 pub mod Unpacking
 pub mod ShardRows
 pub mod Weights
+pub mod CosetDivisions
 pub mod Fitting
 pub mod Cosets
 pub mod Joining
