@@ -117,3 +117,16 @@ power-block x factor step from size hf hs = ap₂ product hf hs ∙ sym (same_nu
   where
     products : IsMonoid same (residue 1) product
     products = record { respects = commutes.respects; commutative = commutes.commutative; associative = commutes.associative; identity = ring.identity }
+
+-- items counted in two parts
+pub counted-parts : {A : Type 0} (word : A → ℕ) (items : List A) (from size above more : ℕ) → AreCounted word items from above → AreCounted word (drop from items) size more
+    → AreCounted word items (from + size) (above + more)
+counted-parts word items from size above more before behind = record {
+  none = λ z.
+      rw (← take-block items from size)
+      (All-append (IsBelow word) (take from items) (take size (drop from items)) (before.none (omega arith)) (behind.none (omega arith)));
+  all = λ hs.
+      let front = before.all hs in
+      let rest = behind.all (All-drop (IsBelow word) from items hs) in
+      omega (arith, front, rest);
+}

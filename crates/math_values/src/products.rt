@@ -1,7 +1,8 @@
 //! Sums of products of words and elements.
 //!
-//! Two sums take every second product each, so that no carry waits for the product before it; they
-//! are joined in the end.
+//! Two sums take the products of the lower and of the upper half, one of each in turn, so that no
+//! carry waits for the product before it, and a long list is read at two places at once: then more
+//! words are under way from the memory. The sums are joined in the end.
 
 ghost use Rattle.std.specs.Prelude.{◌≡◌, ◌↔◌, ◌<◌, ◌≤◌, IsTrue, All, length, map};
 ghost use Rattle.math_numbers.specs.Goldilocks.{P};
@@ -19,19 +20,21 @@ pub(crate) fn products<W: Word, const COUNTED: bool>(words: &[W], weights: &[F])
     ensures few { result.1 ≤ length words.now }
     ensures above { IsTrue COUNTED → (result.1 ≡ 0) ↔ All (λ w. W.word w < P) words.now }
 {
-    let mut even = WideSum::zero();
-    let mut odd = WideSum::zero();
-    let mut above = 0u64;
-    for pair in 0..words.len() / 2 {
-        let i = 2 * pair;
+    let half = words.len() / 2;
+    let mut lower = WideSum::zero();
+    let mut upper = WideSum::zero();
+    let mut lower_above = 0u64;
+    let mut upper_above = 0u64;
+    for i in 0..half {
         let first = words[i].word();
-        let second = words[i + 1].word();
-        even = even.plus_product(first, weights[i].word());
-        odd = odd.plus_product(second, weights[i + 1].word());
-        above += u64::from(COUNTED & (first >= MODULUS));
-        above += u64::from(COUNTED & (second >= MODULUS));
+        lower_above += u64::from(COUNTED & (first >= MODULUS));
+        lower = lower.plus_product(first, weights[i].word());
+        let second = words[half + i].word();
+        upper_above += u64::from(COUNTED & (second >= MODULUS));
+        upper = upper.plus_product(second, weights[half + i].word());
     }
-    let sum = even.joined(odd);
+    let sum = lower.joined(upper);
+    let above = lower_above + upper_above;
     if words.len() % 2 == 0 {
         (sum, above)
     } else {

@@ -5,7 +5,7 @@
 //! point. The products are summed as whole numbers, with the carries past 128 bits counted, so that
 //! only the sum is reduced modulo P, once a block. The value of each block is multiplied by the
 //! power of the point at which the block begins, and added to those before it: the words are gone
-//! over once, from the first to the last.
+//! over once, block after block.
 
 ghost use Rattle.std.specs.Prelude.{◌≡◌, ◌↔◌, ◌<◌, ◌≤◌, IfOk, IfSome, IsTrue, None, All, length, map};
 ghost use Rattle.math_numbers.specs.Goldilocks.{P};
@@ -21,7 +21,7 @@ use math_base::fields::goldilocks::F;
 use std::alloc::Global;
 
 /// The greatest number of powers in a table.
-pub const BLOCK: usize = 512;
+pub const BLOCK: usize = 2048;
 
 /// The first powers of a point: a table with which values at the point are had by sums that are
 /// reduced once a block.
@@ -67,7 +67,8 @@ impl PowerTable {
     }
 
     /// The table for one list of so many coefficients: a shorter one for a short list, since each
-    /// power takes a product too.
+    /// power takes a product too. In a long list the two halves of a block are to lie pages apart,
+    /// since both are read at once.
     pub fn for_list(alloc: Global, x: F, coefficients: usize) -> Mem<PowerTable>
         ensures { IfOk result (λ table. point table ≡ x) }
     {
@@ -75,6 +76,8 @@ impl PowerTable {
             64
         } else if coefficients < 0x8000 {
             128
+        } else if coefficients < 0x20000 {
+            512
         } else {
             BLOCK
         };
