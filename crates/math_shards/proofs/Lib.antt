@@ -40,6 +40,7 @@ pub mod RepackedElements
 pub mod UnpackedWords
 pub mod RowWords
 pub mod CosetSizes
+pub mod CosetTurns
 pub mod RootPowers
 pub mod CosetCells
 pub mod CosetRows

@@ -19,11 +19,11 @@ use Rattle.math_base.proofs.ElementNumbers.{residue-number}
 use Rattle.math_shards.proofs.SameCells.{nought}
 
 -- the ring of the classes of same elements
-abbrev C : CommutativeRing (Class equality)
+abbrev pub C : CommutativeRing (Class equality)
 C = ring_of_classes equality group commutes ring
 
 -- the class of an element
-abbrev class_of : F → Class equality
+abbrev pub class_of : F → Class equality
 class_of a = class equality a
 
 -- power n of an element

@@ -1,5 +1,5 @@
 -- Values of polynomials, the columns of rows of coefficients, on a coset, and rows that have these values.
-use Rattle.std.specs.Prelude.{◌≡◌, ℕ, ◌+◌, ◌*◌, ◌/◌, ◌%◌, ◌<◌, ◌^◌, List, length, take, drop, slice_index_or}
+use Rattle.std.specs.Prelude.{◌≡◌, ℕ, ◌+◌, ◌*◌, ◌/◌, ◌%◌, ◌<◌, ◌^◌, List, [], ◌∷◌, length, take, drop, slice_index_or}
 use Rattle.std.specs.List.{AllZip}
 use Rattle.math_theory.specs.Powers.{power}
 use Rattle.math_theory.specs.Values.{value}
@@ -12,6 +12,17 @@ use Rattle.math_shards.specs.Shards.{value_at}
 -- each cell is the item in its place times the factor
 abbrev pub AreMultiples : List F → F → List F → Type 0
 AreMultiples items factor cells = (k : ℕ) → k < length cells → same (slice_index_or cells k (residue 0)) (product (slice_index_or items k (residue 0)) factor)
+
+-- the ratio times power t of the turn
+abbrev pub turned : F → F → ℕ → F
+turned ratio turn t = product ratio (power (residue 1) product turn t)
+
+-- each cell is the value at x of the polynomial whose three coefficients are the items in its place
+abbrev pub AreValuesOfThree : List F → List F → List F → F → List F → Type 0
+AreValuesOfThree constants linears squares x cells =
+    (k : ℕ) → k < length cells
+    → same (slice_index_or cells k (residue 0))
+    (value (residue 0) sum product (residue 1) x (slice_index_or constants k (residue 0) ∷ slice_index_or linears k (residue 0) ∷ slice_index_or squares k (residue 0) ∷ []))
 
 -- cell k of row t, of 2^lg rows of c cells, is the value, at `ratio` times power t of the root of order 2^lg, of the polynomial whose coefficients are column from + k of m
 abbrev pub AreCosetValues : MatrixOf F → ℕ → ℕ → F → ℕ → List F → Type 0

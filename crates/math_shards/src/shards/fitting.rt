@@ -7,12 +7,18 @@
 //! for each coefficient and a transform of m rows, and where `min` is far below N that is far less
 //! than a transform of N rows. The columns are taken strip by strip, so that a coset stays in a
 //! cache near the processor.
+//!
+//! Three coefficients have four points in a coset, and no transform is needed. With i the root of
+//! order four, a + b x + c x^2 is (a + c x^2) + b x at x, (a - c x^2) + b i x at i x,
+//! (a + c x^2) - b x at -x, and (a - c x^2) - b i x at -i x. So three products make four values, in
+//! one pass over the columns.
 
 ghost use Rattle.std.specs.Prelude.{◌≡◌, ◌+◌, ◌-◌, ◌*◌, ◌/◌, ◌%◌, ◌<◌, ◌≤◌, ◌^◌, All, length};
 ghost use Rattle.std.specs.Prelude.{IfOk, IsTrue};
 ghost use Rattle.math_transforms.specs.DomainValues.{matrix_of};
-ghost use Rattle.math_shards.specs.Cosets.{AreCosetValues, AreMultiples};
-ghost use Rattle.math_shards.specs.Cosets.{HasCosetCells, HasValuesFrom};
+ghost use Rattle.math_base.specs.Elements.{negative, product, residue, root_of, same};
+ghost use Rattle.math_shards.specs.Cosets.{AreCosetValues, AreMultiples, AreValuesOfThree};
+ghost use Rattle.math_shards.specs.Cosets.{HasCosetCells, HasValuesFrom, turned};
 ghost use Rattle.math_shards.specs.Fitting.{HasValuesOf};
 ghost use Rattle.math_shards.specs.Strips.{IsTableOf};
 
@@ -66,6 +72,95 @@ fn write_multiples(cells: &mut [F], items: &[F], factor: F)
     }
 }
 
+/// Writes over four rows the values of polynomials of three coefficients, which are the items in
+/// one place of three lists: in row t those at `ratio` times power t of `turn`, a root of order
+/// four.
+fn write_turns(
+    constants: &[F],
+    linears: &[F],
+    squares: &[F],
+    ratio: F,
+    turn: F,
+    first: &mut [F],
+    second: &mut [F],
+    third: &mut [F],
+    fourth: &mut [F],
+)
+    requires turn { same (product turn turn) (negative (residue 1)) }
+    requires constants { length constants.now ≡ length first.old }
+    requires linears { length linears.now ≡ length first.old }
+    requires squares { length squares.now ≡ length first.old }
+    requires second { length second.old ≡ length first.old }
+    requires third { length third.old ≡ length first.old }
+    requires fourth { length fourth.old ≡ length first.old }
+    ensures first { AreValuesOfThree constants.now linears.now squares.now
+        (turned ratio turn 0) first.new }
+    ensures second { AreValuesOfThree constants.now linears.now squares.now
+        (turned ratio turn 1) second.new }
+    ensures third { AreValuesOfThree constants.now linears.now squares.now
+        (turned ratio turn 2) third.new }
+    ensures fourth { AreValuesOfThree constants.now linears.now squares.now
+        (turned ratio turn 3) fourth.new }
+{
+    let square = ratio * ratio;
+    let turned = ratio * turn;
+    let count = first.len();
+    let constants = &constants[..count];
+    let linears = &linears[..count];
+    let squares = &squares[..count];
+    let second = &mut second[..count];
+    let third = &mut third[..count];
+    let fourth = &mut fourth[..count];
+    for k in 0..count {
+        let even = squares[k] * square;
+        let odd = linears[k] * ratio;
+        let odd_turned = linears[k] * turned;
+        let more = constants[k] + even;
+        let less = constants[k] - even;
+        first[k] = more + odd;
+        second[k] = less + odd_turned;
+        third[k] = more - odd;
+        fourth[k] = less - odd_turned;
+    }
+}
+
+/// Writes over the cells the values of `cols` columns of three rows, from column `from` on, at
+/// `ratio` times the powers of `turn`, the root of order four: a row for each power.
+fn write_four(
+    elements: &[F],
+    layout: Layout,
+    from: usize,
+    cols: usize,
+    ratio: F,
+    turn: F,
+    cells: &mut [F],
+)
+    requires rows { layout.min ≡ 3 }
+    requires turn { same turn (root_of 2) }
+    requires elements { length elements.now ≡ layout.min * layout.width }
+    requires within { from + cols ≤ layout.width }
+    requires size { length cells.old ≡ 4 * cols }
+    ensures { AreCosetValues (matrix_of layout.min layout.width elements.now)
+        from cols ratio 2 cells.new }
+{
+    let linear = layout.width + from;
+    let square = 2 * layout.width + from;
+    let (low, high) = cells.split_at_mut(2 * cols);
+    let (first, second) = low.split_at_mut(cols);
+    let (third, fourth) = high.split_at_mut(cols);
+    write_turns(
+        &elements[from..from + cols],
+        &elements[linear..linear + cols],
+        &elements[square..square + cols],
+        ratio,
+        turn,
+        first,
+        second,
+        third,
+        fourth,
+    );
+}
+
 /// Writes over the cells the values of `cols` columns, from column `from` on, at `ratio` times the
 /// powers of the root of order 2^lg: a row for each power. The table is that of `evaluation_table`.
 /// Takes no memory.
@@ -90,6 +185,10 @@ fn write_coset(
     ensures { AreCosetValues (matrix_of layout.min layout.width elements.now)
         from cols ratio lg cells.new }
 {
+    if lg == 2 && layout.min == 3 {
+        write_four(elements, layout, from, cols, ratio, table[3], cells);
+        return;
+    }
     cells[..cols].copy_from_slice(&elements[from..from + cols]);
     let mut factor = ratio;
     for row in 1..layout.min {
