@@ -34,6 +34,8 @@ pub mod CosetParts
 pub mod DividedColumns
 pub mod MadeDivisions
 pub mod PutCoefficients
+pub mod PlacedRows
+pub mod RestoredColumns
 pub mod JoinedRows
 pub mod WordShards
 pub mod RepackedElements

@@ -4,6 +4,7 @@ pub mod Unpacking
 pub mod ShardRows
 pub mod Weights
 pub mod CosetDivisions
+pub mod Restored
 pub mod Fitting
 pub mod Cosets
 pub mod Joining

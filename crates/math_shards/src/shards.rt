@@ -21,6 +21,7 @@ mod fitting;
 mod joining;
 mod joining_rows;
 mod layout;
+mod restoring;
 mod rows;
 mod splitting;
 mod strips;
