@@ -36,6 +36,7 @@ pub mod MadeDivisions
 pub mod PutCoefficients
 pub mod PlacedRows
 pub mod RestoredColumns
+pub mod RestoredRows
 pub mod JoinedRows
 pub mod WordShards
 pub mod RepackedElements

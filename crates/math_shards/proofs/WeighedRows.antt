@@ -1,7 +1,6 @@
 -- Coefficients by weights: their polynomials have the cells of the rows as their values.
 use Rattle.std.proofs.Common.{◌≡◌, ◌∙◌, ℕ, ◌+◌, ◌*◌, ◌<◌, ◌≤◌, ◌^◌, List, [], length, map, take, get_or, sym, ap, arith}
 use Rattle.std.specs.Int.{IsNextPowerOfTwo}
-use Rattle.std.specs.List.{All, Contains}
 use Rattle.std.proofs.lemmas.List.{ext_get_or, get_or-map, get_or-take, length-map, length-take-le, take-map}
 use Rattle.math_theory.specs.Powers.{power}
 use Rattle.math_theory.specs.Sums.{weighted_sum}
@@ -12,21 +11,19 @@ use Rattle.math_ntt.proofs.MatrixPlaces.{columns_are_full, rows_are_full, rows_a
 use Rattle.math_transforms.specs.DomainValues.{matrix_of}
 use Rattle.math_transforms.specs.Matrices.{MatrixOf, row_of, rows_of}
 use Rattle.math_transforms.proofs.MatrixRows.{cell-of_column, length-pieces}
-use Rattle.math_shards.specs.Fitting.{HasValuesOf, distinct_among}
+use Rattle.math_shards.specs.Restored.{HaveCellsAsValues}
 use Rattle.math_shards.specs.Shards.{value_at}
-use Rattle.math_shards.specs.Weights.{AreChosen, AreCoefficients, AreWeightsOf, weight_polynomial}
-use Rattle.math_shards.proofs.ChosenRows.{cell-at, distinct-kept}
+use Rattle.math_shards.specs.Weights.{AreCoefficients, AreWeightsOf, weight_polynomial}
 use Rattle.math_shards.proofs.PutCoefficients.{column_in}
 use Rattle.math_shards.proofs.SameCells.{nought}
 use Rattle.math_shards.proofs.WeightedColumns.{HaveLength, column_at, value-at_place-same}
 
--- rows of which as many indices as `min` have weights have so many distinct indices
-pub enough_distinct : (min total : ℕ) (indices others : List ℕ) (weights : MatrixOf F) → length indices ≡ min → AreWeightsOf total indices weights → All (Contains others) indices
-    → min ≤ distinct_among total others
-enough_distinct min total indices others weights many w among = omega (arith, many, w.distinct, distinct-kept total indices others among)
+module _ (total width : ℕ) (indices : List ℕ) (weights : MatrixOf F) (old new : List F) (size : length old ≡ length indices * width)
+    (w : AreWeightsOf total indices weights) (c : AreCoefficients weights (length indices) width old new) where
+  -- how many rows there are
+  abbrev min : ℕ
+  min = length indices
 
-module _ (min total width : ℕ) (indices : List ℕ) (weights : MatrixOf F) (old new : List F) (many : length indices ≡ min) (size : length old ≡ min * width)
-    (w : AreWeightsOf total indices weights) (c : AreCoefficients weights min width old new) where
   -- the rows of weights, as many as there are indices
   abbrev weight_rows : List (List F)
   weight_rows = take (length indices) (rows_of weights)
@@ -38,7 +35,7 @@ module _ (min total width : ℕ) (indices : List ℕ) (weights : MatrixOf F) (ol
   row_at r l = get_or-take (length indices) (rows_of weights) r [] l ∙ rows_are_listed weights r [] (omega (arith, l, w.rows))
 
   tall : (cells : List F) (k : ℕ) → length (column_in min width cells k) ≡ length indices
-  tall cells k = columns_are_full (matrix_of min width cells) k nought ∙ sym many
+  tall cells k = columns_are_full (matrix_of min width cells) k nought
 
   rows_long : (k : ℕ) → HaveLength (length (column_in min width old k)) weight_rows
   rows_long k r l =
@@ -59,7 +56,7 @@ module _ (min total width : ℕ) (indices : List ℕ) (weights : MatrixOf F) (ol
       let long : length (map (weighed k) weight_rows) ≡ length indices = length-map weight_rows (weighed k) ∙ count_rows in
       ext_get_or nought (column_in min width new k) (map (weighed k) weight_rows) (tall new k ∙ sym long)
       (λ r b. let inside : r < length indices = omega (arith, b, tall new k) in
-      cell-of_column nought (matrix_of min width new) k r l c.size ∙ c.each r k (omega (arith, inside, many)) l ∙ ap (weighed k) (sym (row_at r inside))
+      cell-of_column nought (matrix_of min width new) k r l c.size ∙ c.each r k inside l ∙ ap (weighed k) (sym (row_at r inside))
       ∙ sym (get_or-map (weighed k) weight_rows r [] nought (omega (arith, inside, count_rows))))
 
   -- the polynomial in column k has at index t the old cell t of the column as its value
@@ -75,13 +72,6 @@ module _ (min total width : ℕ) (indices : List ℕ) (weights : MatrixOf F) (ol
       (λ j m apart. ap (λ p. number (value_at lg p i)) (columns_agree j) ∙ w.zero_at lg j t next (omega (arith, m, tall old k)) b apart)
       ∙ ap number (cell-of_column nought (matrix_of min width old) k t l size)
 
-  module _ {R : Type 0} (index : R → ℕ) (cells : R → List F) (rows : List R) (wide : All (λ row. length (cells row) ≡ width) rows)
-      (chosen : AreChosen index cells width rows indices old) where
-    -- where there are just so many rows, these polynomials have the cells of each as their values
-    pub values_of_rows : length rows ≡ min → (lg : ℕ) → IsNextPowerOfTwo total (2 ^ lg) → All (λ row. HasValuesOf lg (matrix_of min width new) (index row) (cells row)) rows
-    values_of_rows all lg next t d b k l =
-        let whole = chosen.whole (many ∙ sym all) in
-        let row : R = get_or rows t d in
-        let at : get_or indices t 0 ≡ index row = ap (λ xs. get_or xs t 0) whole.0 ∙ get_or-map index rows t d 0 b in
-        let cell : get_or old (t * width + k) nought ≡ get_or (cells row) k nought = ap (λ xs. get_or xs (t * width + k) nought) whole.1 ∙ cell-at index cells width rows wide t k d b l in
-        sym (ap number cell) ∙ sym (value_is_cell lg k t next l (omega (arith, b, all, many))) ∙ ap (λ i. number (value_at lg (column_in min width new k) i)) at
+  -- so the old cells are the values of the polynomials whose coefficients are the columns of the new ones
+  pub values_of_weighed : (lg : ℕ) → IsNextPowerOfTwo total (2 ^ lg) → HaveCellsAsValues lg indices width old new
+  values_of_weighed lg next t k b l = value_is_cell lg k t next l b

@@ -19,10 +19,10 @@ ghost use Rattle.math_shards.specs.declared.shards.Error.TheVariants.{Conflict, 
 
 use super::fitting::have_values;
 use super::layout::{laid_out, polynomials};
+use super::restoring::coefficients;
 use super::rows::Row;
 use super::strips::Layout;
 use super::unpacking::{data_count, leading_data, write_data};
-use super::weighing::{are_weights_taken, weighed_coefficients};
 use super::{Error, Shard};
 use math_base::algebra::Mem;
 use math_base::fields::goldilocks::F;
@@ -40,15 +40,16 @@ use std::alloc::{AllocError, Global};
 /// that are those of no data with `Inconsistent`. Where more than `min` shards are there, damage to
 /// one is so found, and where just `min` are there it is not.
 ///
-/// Where `min` is at most 256 and no more than a shard has cells, the first `min` shards of
-/// distinct indices are joined by weights: beside the data it then takes memory for as many
-/// elements as these shards have cells, and for a few times N rows of `min` cells, where N is
-/// `total` rounded up to a power of two. All shards are then compared with the data where there are
-/// further ones, in memory for a table and a strip of a coset of as many points as `min`, or more.
-/// Where one of them does not fit, and where `min` is greater, shards are joined by transforms,
-/// with memory for a few times N rows of as many cells as a shard has. Who takes shards from
-/// strangers bounds `total` first. Nothing is allocated by a number that a shard claims of its data
-/// before the cells are seen to be so many.
+/// The first `min` shards of distinct indices are joined: beside the data that takes memory for as
+/// many elements as these shards have cells. Where `min` is small, and no more than a shard has
+/// cells, it is done by weights, in memory for a few times N rows of `min` cells, where N is
+/// `total` rounded up to a power of two; and else by transforms of strips of columns, in memory for
+/// a few times N elements and for one strip of N rows. All shards are then compared with the data
+/// where there are further ones, in memory for a table and a strip of a coset of as many points as
+/// `min`, or more. Where one of them does not fit, all are joined again by transforms of all
+/// columns, with memory for a few times N rows of as many cells as a shard has. Who takes shards
+/// from strangers bounds `total` first. Nothing is allocated by a number that a shard claims of its
+/// data before the cells are seen to be so many.
 pub fn join(alloc: Global, shards: &[Shard]) -> Result<Vec<u64>, Error>
     ensures ok { IfOk result (λ words. JoinTo words.items shards.now) }
     ensures found { (words : List ℕ) → JoinTo words shards.now
@@ -85,11 +86,11 @@ fn recovered_data(alloc: Global, shards: &[Shard]) -> Result<Vec<u64>, Error>
     }
 }
 
-/// The elements of the data that the rows fit, by weights, and how many words these data are;
-/// `None` where no weights are taken or some row does not fit.
+/// The elements of the data that the rows fit, and how many words these data are; `None` where
+/// fewer than `min` rows have distinct indices, or some row does not fit.
 ///
-/// The first `min` rows of distinct indices have the values of the polynomials that their weights
-/// give. Where there are further rows, all are compared with these values.
+/// The first `min` rows of distinct indices have the values of one polynomial a column. Where there
+/// are further rows, all are compared with the values of these.
 pub(super) fn fitted_elements<R: Row>(
     alloc: Global,
     rows: &[R],
@@ -105,10 +106,10 @@ pub(super) fn fitted_elements<R: Row>(
         × (length words ≡ found.1) × AreDataOf words min found.0.items
         × DoRowsFit R.index R.cells words min total rows.now)) }
 {
-    if !are_weights_taken(min, width) || rows.len() < min as usize {
+    if rows.len() < min as usize {
         return Ok(None);
     }
-    let Some(elements) = weighed_coefficients(alloc, rows, min, total, width)? else {
+    let Some(elements) = coefficients(alloc, rows, min, total, width)? else {
         return Ok(None);
     };
     let Some(count) = data_count(&elements, min, width) else {
@@ -128,7 +129,8 @@ pub(super) fn fitted_elements<R: Row>(
     Ok(Some((elements, count)))
 }
 
-/// The data of the shards by weights; `None` where no weights are taken or some shard does not fit.
+/// The data that the shards fit; `None` where fewer than `min` have distinct indices, or some shard
+/// does not fit.
 fn weighed_data(alloc: Global, shards: &[Shard], first: &Shard) -> Mem<Option<Vec<u64>>>
     requires some { 0 < length shards.now }
     requires sound { All (IsSound first.now) shards.now }

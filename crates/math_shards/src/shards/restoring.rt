@@ -11,17 +11,23 @@
 //! strip, each in the same room: a strip stays in a cache near the processor through all levels of
 //! its transforms, and beside the cells there is but one strip.
 
-ghost use Rattle.std.specs.Prelude.{◌≡◌, ◌+◌, ◌*◌, ◌<◌, ◌≤◌, ◌^◌, All, IfOk, OnOk, length};
+ghost use Rattle.std.specs.Prelude.{◌≡◌, ◌+◌, ◌*◌, ◌<◌, ◌≤◌, ◌^◌, ℕ, All, IfOk, IfSome, OnOk, length};
+ghost use Rattle.std.specs.Prelude.{map};
+ghost use Rattle.std.specs.Int.{IsNextPowerOfTwo};
 ghost use Rattle.math_theory.specs.Recovery.{count_true};
+ghost use Rattle.math_transforms.specs.DomainValues.{matrix_of};
 ghost use Rattle.math_shards.specs.CosetDivisions.{IsCosetDivision};
+ghost use Rattle.math_shards.specs.Fitting.{HasValuesOf, distinct_among};
 ghost use Rattle.math_shards.specs.Restored.{AreFilled, ArePlaced, AreTaken, HaveCellsAsValues};
 ghost use Rattle.math_shards.specs.Weights.{AreDistinct};
 
 use super::dividing::{CosetDivision, coset_division, divide};
+use super::rows::Row;
 use super::strips::{Layout, strip_room};
+use super::weighing::{chosen, put_weighed};
 use math_base::algebra::Mem;
 use math_base::fields::goldilocks::F;
-use math_transforms::transform::size_of;
+use math_transforms::transform::{lg_of, size_of};
 use math_transforms::vanishing_points::VanishingPoints;
 use std::alloc::Global;
 
@@ -60,14 +66,7 @@ fn most_cols(width: usize, lg: u8) -> usize
 
 /// Puts `cols` cells of each row, from column `from` on, into the row of the room that its index
 /// says.
-fn place_rows(
-    indices: &[u32],
-    cells: &[F],
-    width: usize,
-    from: usize,
-    cols: usize,
-    room: &mut [F],
-)
+fn place_rows(indices: &[u32], cells: &[F], width: usize, from: usize, cols: usize, room: &mut [F])
     requires size { length cells.now ≡ length indices.now * width }
     requires within { from + cols ≤ width }
     requires room { All (λ i. (i + 1) * cols ≤ length room.old) indices.now }
@@ -82,14 +81,7 @@ fn place_rows(
 }
 
 /// Writes the first rows of the room over `cols` cells of each row, from column `from` on.
-fn take_rows(
-    room: &[F],
-    cols: usize,
-    count: usize,
-    cells: &mut [F],
-    width: usize,
-    from: usize,
-)
+fn take_rows(room: &[F], cols: usize, count: usize, cells: &mut [F], width: usize, from: usize)
     requires room { count * cols ≤ length room.now }
     requires within { from + cols ≤ width }
     requires size { length cells.old ≡ count * width }
@@ -172,4 +164,50 @@ pub(super) fn put_restored(
     let mut room = strip_room(alloc, layout, most)?;
     restore_strips(alloc, cells, width, indices, &division, most, &mut room)?;
     Ok(())
+}
+
+/// Whether the products that weights take are no more than some for each row and level of the
+/// transforms, in a column: there is a product for each pair of rows.
+fn are_weights_cheaper(min: usize, lg: u8, part: u8) -> bool
+    requires domain { lg < 64 }
+    requires part { part < 64 }
+{
+    let whole = (size_of(lg) / 2).saturating_mul(lg as usize);
+    let coset = size_of(part).saturating_mul(part as usize);
+    min.saturating_mul(min) <= whole.saturating_add(coset).saturating_mul(4)
+}
+
+/// The coefficients, row by row, of the polynomials of `min` coefficients that have the cells of
+/// the first `min` rows of distinct indices as their values; `None` where there are fewer.
+pub(super) fn coefficients<R: Row>(
+    alloc: Global,
+    rows: &[R],
+    min: u32,
+    total: u32,
+    width: usize,
+) -> Mem<Option<Vec<F>>>
+    requires some { 1 ≤ min }
+    requires within { min ≤ total }
+    requires below { All (λ row. R.index row < total) rows.now }
+    requires count { All (λ row. length (R.cells row) ≡ width) rows.now }
+    ensures size { IfOk result (λ answer. IfSome answer (λ v. length v.items ≡ min * width)) }
+    ensures enough { IfOk result
+        (λ answer. IfSome answer (λ _. min ≤ distinct_among total (map R.index rows.now))) }
+    ensures values { IfOk result (λ answer. IfSome answer (λ v. length rows.now ≡ min
+        → (lg : ℕ) → IsNextPowerOfTwo total (2 ^ lg)
+        → All (λ row. HasValuesOf lg (matrix_of min width v.items) (R.index row) (R.cells row))
+        rows.now)) }
+{
+    let (indices, mut cells) = chosen(alloc, rows, min as usize, width)?;
+    if indices.len() < min as usize {
+        return Ok(None);
+    }
+    let lg = lg_of((total as usize).next_power_of_two());
+    let part = lg_of((min as usize).next_power_of_two());
+    if min as usize <= width && are_weights_cheaper(min as usize, lg, part) {
+        put_weighed(alloc, &indices, &mut cells, min, total, width)?;
+    } else {
+        put_restored(alloc, &indices, &mut cells, width, lg, part)?;
+    }
+    Ok(Some(cells))
 }

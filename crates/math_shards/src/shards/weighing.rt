@@ -10,8 +10,8 @@
 //! coefficient then takes k products and one reduction, and the coefficients of a column are
 //! written over its cells.
 
-ghost use Rattle.std.specs.Prelude.{◌≡◌, ◌+◌, ◌*◌, ◌<◌, ◌≤◌, ◌^◌, ◌↔◌, ◌==◌, ℕ, All, length, map};
-ghost use Rattle.std.specs.Prelude.{IsTrue, IfOk, IfSome, OnOk, slice_index_or};
+ghost use Rattle.std.specs.Prelude.{◌≡◌, ◌+◌, ◌*◌, ◌<◌, ◌≤◌, ◌^◌, ◌==◌, ℕ, All, length, map};
+ghost use Rattle.std.specs.Prelude.{IfOk, OnOk, slice_index_or};
 ghost use Rattle.std.specs.Int.{IsNextPowerOfTwo};
 ghost use Rattle.std.specs.List.{list_any};
 ghost use Rattle.math_theory.specs.Recovery.{count_true};
@@ -19,8 +19,8 @@ ghost use Rattle.math_theory.specs.Sums.{weighted_sum};
 ghost use Rattle.math_base.specs.Elements.{residue, sum, product};
 ghost use Rattle.math_transforms.specs.DomainValues.{matrix_of};
 ghost use Rattle.math_transforms.specs.Matrices.{column_of, row_of};
-ghost use Rattle.math_shards.specs.Fitting.{HasValuesOf, distinct_among};
 ghost use Rattle.math_shards.specs.Joining.{HoldsShards, IsSound};
+ghost use Rattle.math_shards.specs.Restored.{HaveCellsAsValues};
 ghost use Rattle.math_shards.specs.Weights.{AreChosen, AreCoefficients, AreDistinct};
 ghost use Rattle.math_shards.specs.Weights.{AreUnitShards, AreWeightsOf};
 
@@ -33,17 +33,6 @@ use math_ntt::ntt::{EvaluationVector, Matrix};
 use math_transforms::weights::one_at;
 use math_values::sums::sum_of_products;
 use std::alloc::{AllocError, Global};
-
-/// The greatest number of shards whose weights are taken: beyond it transforms are faster.
-const MOST_WEIGHED: u32 = 256;
-
-/// Whether so few shards give the data back that their weights are taken: at most 256, and no more
-/// than a shard has cells, so that the weights are fewer than the cells.
-pub(super) fn are_weights_taken(min: u32, width: usize) -> bool
-    ensures { IsTrue result ↔ (min ≤ 256) × (min ≤ width) }
-{
-    min <= MOST_WEIGHED && min as usize <= width
-}
 
 /// Whether the number is one of these.
 fn is_among(indices: &[u32], index: u32) -> bool
@@ -59,7 +48,12 @@ fn is_among(indices: &[u32], index: u32) -> bool
 
 /// The indices of the first `min` rows of distinct indices, or of all such rows where they are
 /// fewer, and the cells of these rows, one row after the other.
-fn chosen<R: Row>(alloc: Global, rows: &[R], min: usize, width: usize) -> Mem<(Vec<u32>, Vec<F>)>
+pub(super) fn chosen<R: Row>(
+    alloc: Global,
+    rows: &[R],
+    min: usize,
+    width: usize,
+) -> Mem<(Vec<u32>, Vec<F>)>
     requires count { All (λ row. length (R.cells row) ≡ width) rows.now }
     ensures few { IfOk result (λ answer. length answer.0.items ≤ min) }
     ensures rows { IfOk result
@@ -182,32 +176,29 @@ fn put_columns(
     Ok(())
 }
 
-/// The coefficients, row by row, of the polynomials of `min` coefficients that have the cells of
-/// the first `min` rows of distinct indices as their values; `None` where there are fewer.
-pub(super) fn weighed_coefficients<R: Row>(
+/// Writes the coefficients of all columns over their cells, by weights: row t of the cells has the
+/// values at the power of the root that is index t.
+///
+/// Takes memory for a few times N rows of as many cells as there are indices, where N is `total`
+/// rounded up to a power of two.
+pub(super) fn put_weighed(
     alloc: Global,
-    rows: &[R],
+    indices: &[u32],
+    cells: &mut [F],
     min: u32,
     total: u32,
     width: usize,
-) -> Mem<Option<Vec<F>>>
-    requires some { 1 ≤ min }
+) -> Mem<()>
+    requires some { 0 < length indices.now }
+    requires least { 1 ≤ min }
     requires within { min ≤ total }
-    requires below { All (λ row. R.index row < total) rows.now }
-    requires count { All (λ row. length (R.cells row) ≡ width) rows.now }
-    ensures size { IfOk result (λ answer. IfSome answer (λ v. length v.items ≡ min * width)) }
-    ensures enough { IfOk result
-        (λ answer. IfSome answer (λ _. min ≤ distinct_among total (map R.index rows.now))) }
-    ensures values { IfOk result (λ answer. IfSome answer (λ v. length rows.now ≡ min
-        → (lg : ℕ) → IsNextPowerOfTwo total (2 ^ lg)
-        → All (λ row. HasValuesOf lg (matrix_of min width v.items) (R.index row) (R.cells row))
-        rows.now)) }
+    requires below { All (λ i. i < total) indices.now }
+    requires distinct { AreDistinct indices.now }
+    requires size { length cells.old ≡ length indices.now * width }
+    ensures { OnOk result ((lg : ℕ) → IsNextPowerOfTwo total (2 ^ lg)
+        → HaveCellsAsValues lg indices.now width cells.old cells.new) }
 {
-    let (indices, mut cells) = chosen(alloc, rows, min as usize, width)?;
-    if indices.len() < min as usize {
-        return Ok(None);
-    }
-    let weights = weights_of(alloc, &indices, min, total)?;
-    put_columns(alloc, &mut cells, width, min as usize, &weights)?;
-    Ok(Some(cells))
+    let weights = weights_of(alloc, indices, min, total)?;
+    put_columns(alloc, cells, width, indices.len(), &weights)?;
+    Ok(())
 }

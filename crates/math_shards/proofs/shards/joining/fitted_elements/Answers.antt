@@ -5,8 +5,9 @@ use Rattle.math_base.specs.declared.fields.goldilocks.F.{F}
 use Rattle.math_transforms.proofs.PresentIndices.{lg-only}
 use Rattle.math_transforms.specs.DomainValues.{matrix_of}
 use Rattle.math_shards.specs.Fitting.{AreDataOf, HasValuesOf}
-use Rattle.math_shards.proofs.JoinedRows.{rows_fit}
+use Rattle.math_shards.proofs.JoinedRows.{rows_fit, width_of_data}
 use Rattle.math_shards.proofs.JoinedShards.{domain_is_small}
+use Rattle.math_shards.proofs.StripSizes.{wide_rows}
 use Rattle.math_shards.proofs.shards.joining.fitted_elements.Goals as goal
 
 pub have_values-requires-clause-domain : goal.have_values-requires-clause-domain
@@ -14,6 +15,14 @@ have_values-requires-clause-domain g c =
     let power = c.next_power_of_two.ensures in
     let next : IsNextPowerOfTwo c.args.total (2 ^ c.lg_of.result) = subst (IsNextPowerOfTwo c.args.total) c.lg_of.ensures.value (power.power, power.lower_bound, power.upper_bound) in
     domain_is_small c.args.total c.lg_of.result (omega (arith, c.requires.some, c.requires.within)) c.ranges.total.fits next
+
+pub have_values-requires-clause-wide : goal.have_values-requires-clause-wide
+have_values-requires-clause-wide g c =
+    let elements = c.in-Some.elements.items in
+    let found = rw c.in-Some-data_count.is at c.data_count.ensures in
+    let are : AreDataOf found.0 c.args.min elements = subst (λ (xs : List F). AreDataOf found.0 c.args.min xs) c.deref.ensures.value found.2 in
+    let size = rw c.in-Some.is at c.in_ok-elements.ensures.size in
+    omega (arith, width_of_data found.0 c.args.min c.args.width elements c.requires.some size are, wide_rows c.args.min found.0 c.requires.some)
 
 pub returns-then-rows-min-2 : goal.returns-then-rows-min-2
 returns-then-rows-min-2 g c =
