@@ -11,8 +11,8 @@
 //! strip, each in the same room: a strip stays in a cache near the processor through all levels of
 //! its transforms, and beside the cells there is but one strip.
 
-ghost use Rattle.std.specs.Prelude.{◌≡◌, ◌+◌, ◌*◌, ◌<◌, ◌≤◌, ◌^◌, ℕ, All, IfOk, IfSome, OnOk, length};
-ghost use Rattle.std.specs.Prelude.{map};
+ghost use Rattle.std.specs.Prelude.{◌≡◌, ◌+◌, ◌*◌, ◌<◌, ◌≤◌, ◌^◌, ℕ, All, length, map};
+ghost use Rattle.std.specs.Prelude.{IfOk, IfSome, OnOk};
 ghost use Rattle.std.specs.Int.{IsNextPowerOfTwo};
 ghost use Rattle.math_theory.specs.Recovery.{count_true};
 ghost use Rattle.math_transforms.specs.DomainValues.{matrix_of};
