@@ -1,12 +1,15 @@
 -- Rows of distinct indices that are chosen one by one, and how many indices are distinct.
-use Rattle.std.proofs.Common.{◌≡◌, ◌∙◌, inl, inr, ℕ, ◌+◌, ◌*◌, ◌<◌, ◌≤◌, ◌==◌, List, [], ◌∷◌, ◌++◌, Bool, true, false, length, map, take, get_or, sym, ap, ap₂, subst, true≢false, arith}
+use Rattle.std.proofs.Common.{◌≡◌, ◌∙◌, inl, inr, ℕ, ◌+◌, ◌*◌, ◌<◌, ◌≤◌, ◌==◌, ◌||◌, List, [], ◌∷◌, ◌++◌, Bool, true, false, length, map, replicate, take, get_or, sym, ap, ap₂, subst, true≢false, arith}
 use Rattle.std.specs.List.{All, Contains, count_by, flat_map, list_any, range_with_len}
 use Rattle.std.proofs.Math.Seq.{get_or-append_seam}
-use Rattle.std.proofs.lemmas.Bool.{cases_lt, eq-eqb, eqb-true}
-use Rattle.std.proofs.lemmas.List.{flat_map_more, get_or_append_left, get_or_default, length-append, length-take-le, length_push, map-append, take_more}
+use Rattle.std.proofs.Math.Bool.{or-false}
+use Rattle.std.proofs.Math.ListN.{set}
+use Rattle.std.proofs.lemmas.Bool.{cases_eq, cases_lt, eq-eqb, eqb-true, ne_eqb}
+use Rattle.std.proofs.lemmas.Grind.{get_or-set_at}
+use Rattle.std.proofs.lemmas.List.{flat_map_more, get_or-replicate, get_or-set_other, get_or_append_left, get_or_default, length-append, length-replicate, length-set, length-take-le, length_push, map-append, take_more}
 use Rattle.std.proofs.lemmas.List.Concat.{get_or-flat_map}
 use Rattle.std.proofs.lemmas.List.Elements.{All-contains, All-head, All-map, All-push, All-tail, All-take, All-weaker, Contains-append_left, Contains-push}
-use Rattle.std.proofs.lemmas.List.Folds.{Any-from_list_any, list_any_at}
+use Rattle.std.proofs.lemmas.List.Folds.{Any-from_list_any, list_any-append, list_any_at}
 use Rattle.std.proofs.lemmas.List.Sums.{sum_by-cons}
 use Rattle.math_base.specs.declared.fields.goldilocks.F.{F}
 use Rattle.math_shards.specs.Fitting.{distinct_among}
@@ -30,6 +33,32 @@ distinct-push numbers x none h i j before l e = elim (cases_lt j (length numbers
       sym (get_or_append_left numbers (x ∷ []) 0 i inside) ∙ e ∙ ap (λ k. get_or (numbers ++ x ∷ []) k 0) last ∙ get_or-append_seam numbers x [] 0 in
       true≢false (sym (list_any_at (λ n. n == x) numbers i 0 inside (eq-eqb (get_or numbers i 0) x is)) ∙ none)
 ]
+
+-- there are n points, and those are filled that are among the numbers
+pub record AreMarked (n : ℕ) (numbers : List ℕ) (points : List Bool) : Type 0 where
+  pub size : length points ≡ n
+  pub marks : (i : ℕ) → i < n → get_or points i false ≡ is_one_of numbers i
+
+-- no number yet
+pub marked-none : (n : ℕ) → AreMarked n [] (replicate n false)
+marked-none n = record { size = length-replicate n false; marks = λ i l. get_or-replicate n i false false l }
+
+-- one number more
+pub marked-more : (n x : ℕ) (numbers : List ℕ) (points : List Bool) → x < n → AreMarked n numbers points → AreMarked n (numbers ++ x ∷ []) (set points x true)
+marked-more n x numbers points l h = record {
+  size = length-set points x true ∙ h.size;
+  marks = λ i b.
+      let both : is_one_of (numbers ++ x ∷ []) i ≡ (is_one_of numbers i || is_one_of (x ∷ []) i) = list_any-append (λ m. m == i) numbers (x ∷ []) in
+      elim (cases_eq i x) as (λ _. get_or (set points x true) i false ≡ is_one_of (numbers ++ x ∷ []) i) [
+        | inl same ↦
+            let last : get_or (numbers ++ x ∷ []) (length numbers) 0 ≡ i = get_or-append_seam numbers x [] 0 ∙ sym same in
+            get_or-set_at points x i true false same (omega (arith, l, h.size))
+            ∙ sym (list_any_at (λ m. m == i) (numbers ++ x ∷ []) (length numbers) 0 (omega (arith, length_push numbers x)) (eq-eqb (get_or (numbers ++ x ∷ []) (length numbers) 0) i last))
+        | inr other ↦
+            let none : is_one_of (x ∷ []) i ≡ false = ap (λ b. b || false) (ne_eqb x i (λ e. other (sym e))) in
+            get_or-set_other points x i true false other ∙ h.marks i b ∙ sym (both ∙ ap (λ c. is_one_of numbers i || c) none ∙ or-false (is_one_of numbers i))
+      ];
+}
 
 module _ {R : Type 0} (index : R → ℕ) (cells : R → List F) (width : ℕ) where
   -- an index of a row stays one with a further row

@@ -1,11 +1,11 @@
 -- Division of columns of values on part of a coset: what it gives fits the cells that are there.
-use Rattle.std.proofs.Common.{◌≡◌, ◌∙◌, ℕ, ◌+◌, ◌-◌, ◌*◌, ◌<◌, ◌≤◌, ◌^◌, List, [], ◌∷◌, length, get_or, refl, sym, ap, ap₂, subst, pow-add, arith}
+use Rattle.std.proofs.Common.{◌≡◌, ◌∙◌, ℕ, ◌+◌, ◌-◌, ◌*◌, ◌<◌, ◌≤◌, ◌^◌, List, [], ◌∷◌, length, get_or, refl, sym, ap, pow-add, arith}
 use Rattle.std.proofs.lemmas.Nat.{pow_pos}
 use Rattle.math_theory.specs.Recovery.{Fits}
 use Rattle.math_theory.specs.RecoveryOnCoset.{HasCoset}
 use Rattle.math_theory.proofs.classes.RingUpToSame.{combine_same, combine2_same, ring_same}
 use Rattle.math_theory.proofs.domains.CarriedDomains.{HasCoset-of_order-same}
-use Rattle.math_theory.proofs.recovery.RecoveredColumns.{coset_nonzero, recovered-fits}
+use Rattle.math_theory.proofs.recovery.RecoveredColumns.{recovered-fits}
 use Rattle.math_theory.proofs.rings.Normal.{◌⊗◌, 𝟙, v0, v1, v2, v3, v4}
 use Rattle.math_base.specs.declared.fields.goldilocks.F.{F}
 use Rattle.math_base.specs.ElementLaws.{equality, group, commutes, ring}
@@ -19,7 +19,7 @@ use Rattle.math_transforms.specs.Matrices.{column_of}
 use Rattle.math_transforms.specs.RowProducts.{AreRowProducts}
 use Rattle.math_transforms.proofs.DomainSteps.{column-cell}
 use Rattle.math_transforms.proofs.MatrixRows.{length-column}
-use Rattle.math_values.specs.Values.{goldilocks, ArePowersOf}
+use Rattle.math_values.specs.Values.{goldilocks}
 use Rattle.math_shards.specs.declared.shards.dividing.CosetDivision.{CosetDivision}
 use Rattle.math_shards.specs.CosetDivisions.{IsCosetDivision, twos}
 use Rattle.math_shards.specs.Cosets.{AreCosetValues}

@@ -5,7 +5,7 @@ use Rattle.std.proofs.lemmas.Nat.{mul-add-lt, mul-le}
 use Rattle.math_theory.specs.OverRing as OverRing
 use Rattle.math_theory.specs.Rings.{CommutativeRing}
 use Rattle.math_theory.proofs.classes.Classes.{Class, class, class_same, same_class, ring_of_classes}
-use Rattle.math_theory.proofs.classes.ClassesOfLists.{coefficient-class, length-classes, power-class, value-class}
+use Rattle.math_theory.proofs.classes.ClassesOfLists.{coefficient-class, power-class, value-class}
 use Rattle.math_theory.proofs.domains.RootOrders.{power_of_two-suc}
 use Rattle.math_theory.proofs.polynomials.Coefficients.{coefficient-sum, length-sum}
 use Rattle.math_theory.proofs.polynomials.Values.{value-sum}
@@ -15,7 +15,7 @@ use Rattle.math_theory.proofs.transforms.EvenOddItems.{value-append}
 use Rattle.math_base.specs.declared.fields.goldilocks.F.{F}
 use Rattle.math_base.specs.ElementLaws as Laws
 use Rattle.math_base.specs.ElementLaws.{equality, group, commutes}
-use Rattle.math_base.specs.Elements.{number, residue, same, sum}
+use Rattle.math_base.specs.Elements.{residue, same, sum}
 use Rattle.math_base.specs.Polynomials.{value_in_ring}
 use Rattle.math_transforms.specs.DomainValues.{matrix_of}
 use Rattle.math_transforms.specs.Matrices.{column_of}

@@ -1,14 +1,14 @@
 -- What a division on part of a coset is made of: powers, values of a polynomial that vanishes, and their inverses.
-use Rattle.std.proofs.Common.{◌≡◌, ◌∙◌, ℕ, ◌+◌, ◌-◌, ◌*◌, ◌<◌, ◌≤◌, ◌^◌, List, [], ◌∷◌, Bool, length, get_or, refl, sym, ap, arith}
+use Rattle.std.proofs.Common.{◌≡◌, ◌∙◌, ℕ, ◌+◌, ◌-◌, ◌*◌, ◌<◌, ◌≤◌, ◌^◌, List, [], ◌∷◌, Bool, length, get_or, refl, sym, arith}
 use Rattle.std.proofs.Math.Nat.{mul-lt-mul_of_pos_left}
 use Rattle.std.proofs.lemmas.Nat.{pow_pos}
 use Rattle.math_theory.proofs.classes.RingUpToSame.{combine2_same, ring_same}
 use Rattle.math_theory.proofs.recovery.RecoveredColumns.{coset_nonzero}
-use Rattle.math_theory.proofs.rings.Normal.{◌⊗◌, 𝟙, v0, v1, v2, v3, v4}
+use Rattle.math_theory.proofs.rings.Normal.{◌⊗◌, 𝟙, v0, v1, v2, v3}
 use Rattle.math_base.specs.declared.fields.goldilocks.F.{F}
 use Rattle.math_base.specs.ElementLaws.{equality, group, commutes, ring}
 use Rattle.math_base.specs.ElementRootLaws.{field}
-use Rattle.math_base.specs.Elements.{number, product, residue, root_of, same, shift_of}
+use Rattle.math_base.specs.Elements.{product, residue, root_of, same, shift_of}
 use Rattle.math_base.specs.Polynomials.{value_in_ring}
 use Rattle.math_base.proofs.ElementNumbers.{same_number}
 use Rattle.math_transforms.specs.DomainValues.{AreValuesAtPowers, matrix_of}

@@ -199,8 +199,14 @@ pub(super) fn coset_division(
     let shift_back = F::coset_shift_inv(alloc)?;
     let back = powers_of(alloc, &shift_back, size_of(part))?;
     let mut work = Work::new();
-    let mut values =
-        vanishing_coefficients(alloc, &points, lg, &evaluation, &whole_table, &mut work)?;
+    let mut values = vanishing_coefficients(
+        alloc,
+        &points,
+        lg,
+        &evaluation,
+        &whole_table,
+        &mut work,
+    )?;
     let mut divisors = copies(alloc, &values)?;
     let inverses = divided_inverses(alloc, &mut divisors, &points, lg, part, &shifts, &table)?;
     write_divided_values(alloc, &mut values, lg, &evaluation)?;
@@ -241,7 +247,15 @@ pub(super) fn divide(
         &division.whole_table,
         &mut Work::new(),
     )?;
-    write_values(alloc, cells, cols, lg, part, &division.shifts, &division.table)?;
+    write_values(
+        alloc,
+        cells,
+        cols,
+        lg,
+        part,
+        &division.shifts,
+        &division.table,
+    )?;
     let first = &mut cells[..size_of(part) * cols];
     multiply_rows(alloc, first, cols, &division.inverses)?;
     interpolate_multiples(

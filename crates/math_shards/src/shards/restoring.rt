@@ -198,11 +198,11 @@ pub(super) fn coefficients<R: Row>(
         → All (λ row. HasValuesOf lg (matrix_of min width v.items) (R.index row) (R.cells row))
         rows.now)) }
 {
-    let (indices, mut cells) = chosen(alloc, rows, min as usize, width)?;
+    let lg = lg_of((total as usize).next_power_of_two());
+    let (indices, mut cells) = chosen(alloc, rows, min as usize, width, lg)?;
     if indices.len() < min as usize {
         return Ok(None);
     }
-    let lg = lg_of((total as usize).next_power_of_two());
     let part = lg_of((min as usize).next_power_of_two());
     if min as usize <= width && are_weights_cheaper(min as usize, lg, part) {
         put_weighed(alloc, &indices, &mut cells, min, total, width)?;

@@ -13,7 +13,6 @@
 ghost use Rattle.std.specs.Prelude.{◌≡◌, ◌+◌, ◌*◌, ◌<◌, ◌≤◌, ◌^◌, ◌==◌, ℕ, All, length, map};
 ghost use Rattle.std.specs.Prelude.{IfOk, OnOk, slice_index_or};
 ghost use Rattle.std.specs.Int.{IsNextPowerOfTwo};
-ghost use Rattle.std.specs.List.{list_any};
 ghost use Rattle.math_theory.specs.Recovery.{count_true};
 ghost use Rattle.math_theory.specs.Sums.{weighted_sum};
 ghost use Rattle.math_base.specs.Elements.{residue, sum, product};
@@ -30,30 +29,23 @@ use super::rows::Row;
 use math_base::algebra::Mem;
 use math_base::fields::goldilocks::F;
 use math_ntt::ntt::{EvaluationVector, Matrix};
+use math_transforms::vanishing_points::VanishingPoints;
 use math_transforms::weights::one_at;
 use math_values::sums::sum_of_products;
 use std::alloc::{AllocError, Global};
 
-/// Whether the number is one of these.
-fn is_among(indices: &[u32], index: u32) -> bool
-    ensures { result ≡ list_any (λ other. other == index) indices.now }
-{
-    for other in indices {
-        if *other == index {
-            return true;
-        }
-    }
-    false
-}
-
 /// The indices of the first `min` rows of distinct indices, or of all such rows where they are
-/// fewer, and the cells of these rows, one row after the other.
+/// fewer, and the cells of these rows, one row after the other. There is a bit for each point of
+/// the domain: it says whether a row of that index is chosen.
 pub(super) fn chosen<R: Row>(
     alloc: Global,
     rows: &[R],
     min: usize,
     width: usize,
+    lg: u8,
 ) -> Mem<(Vec<u32>, Vec<F>)>
+    requires domain { lg < 64 }
+    requires below { All (λ row. R.index row < 2 ^ lg) rows.now }
     requires count { All (λ row. length (R.cells row) ≡ width) rows.now }
     ensures few { IfOk result (λ answer. length answer.0.items ≤ min) }
     ensures rows { IfOk result
@@ -62,11 +54,14 @@ pub(super) fn chosen<R: Row>(
     let Some(count) = min.checked_mul(width) else {
         return Err(AllocError);
     };
+    let mut points = VanishingPoints::new(alloc, lg as u32)?;
     let mut indices = Vec::with_capacity(alloc, min)?;
     let mut cells = Vec::with_capacity(alloc, count)?;
     for row in rows {
-        if indices.len() < min && !is_among(&indices, row.index()) {
-            indices.push(row.index())?;
+        let index = row.index();
+        if indices.len() < min && !points.get(index as u64) {
+            points.set_non_vanishing(index as u64);
+            indices.push(index)?;
             row.append_to(&mut cells)?;
         }
     }

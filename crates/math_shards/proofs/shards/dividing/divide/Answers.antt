@@ -1,4 +1,4 @@
-use Rattle.std.proofs.Common.{rules, ◌≡◌, ◌∙◌, ◌*◌, ◌≤◌, ◌^◌, ◌++◌, length, take, drop, sym, ap, arith}
+use Rattle.std.proofs.Common.{rules, ◌≡◌, ◌∙◌, ◌*◌, ◌≤◌, ◌^◌, ◌++◌, length, take, drop, sym, ap}
 use Rattle.std.proofs.lemmas.List.{length-take-le}
 use Rattle.math_shards.proofs.CosetParts.{column-taken, rows-within, taken-front}
 use Rattle.math_shards.proofs.DividedColumns.{divided-fits}

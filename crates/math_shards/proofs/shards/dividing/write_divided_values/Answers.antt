@@ -1,4 +1,3 @@
-use Rattle.std.proofs.Common.{rules, ◌≡◌}
 use Rattle.math_shards.proofs.MadeDivisions.{values_made}
 use Rattle.math_shards.proofs.shards.dividing.write_divided_values.Goals as goal
 

@@ -1,4 +1,4 @@
-use Rattle.std.proofs.Common.{rules, ◌≡◌, ◌∙◌, ◌*◌, ◌≤◌, ◌^◌, length, take, sym, ap, arith}
+use Rattle.std.proofs.Common.{rules, ◌≡◌, ◌∙◌, ◌*◌, ◌≤◌, ◌^◌, length, take, sym, ap}
 use Rattle.std.proofs.lemmas.List.{length-take-le}
 use Rattle.math_shards.proofs.CosetParts.{part-values, rows-within, taken-front}
 use Rattle.math_shards.proofs.shards.dividing.write_values.Goals as goal

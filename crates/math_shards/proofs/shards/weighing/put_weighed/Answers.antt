@@ -1,5 +1,3 @@
-use Rattle.std.proofs.Common.{List, subst}
-use Rattle.math_base.specs.declared.fields.goldilocks.F.{F}
 use Rattle.math_shards.proofs.WeighedRows.{values_of_weighed}
 use Rattle.math_shards.proofs.shards.weighing.put_weighed.Goals as goal
 
