@@ -72,7 +72,7 @@ fn recovered_data(alloc: Global, shards: &[Shard]) -> Result<Vec<u64>, Error>
         return Err(Error::TooFew);
     };
     check_numbers(shards, first)?;
-    if let Some(words) = weighed_data(alloc, shards, first)? {
+    if let Some(words) = fitted_data(alloc, shards, first)? {
         return Ok(words);
     }
     let values = gathered(alloc, shards, first)?;
@@ -131,7 +131,7 @@ pub(super) fn fitted_elements<R: Row>(
 
 /// The data that the shards fit; `None` where fewer than `min` have distinct indices, or some shard
 /// does not fit.
-fn weighed_data(alloc: Global, shards: &[Shard], first: &Shard) -> Mem<Option<Vec<u64>>>
+fn fitted_data(alloc: Global, shards: &[Shard], first: &Shard) -> Mem<Option<Vec<u64>>>
     requires some { 0 < length shards.now }
     requires sound { All (IsSound first.now) shards.now }
     ensures { IfOk result (λ answer. IfSome answer (λ words. JoinTo words.items shards.now)) }

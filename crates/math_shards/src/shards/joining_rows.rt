@@ -1,7 +1,7 @@
 //! Shards that are rows of words to data.
 //!
-//! Where weights are taken and all rows fit, no shards are made of the words: beside one list of
-//! elements the data are written where they are wanted.
+//! Where all rows fit, no shards are made of the words: beside one list of elements the data are
+//! written where they are wanted.
 
 ghost use Rattle.std.specs.Prelude.{◌≡◌, ◌↔◌, ◌+◌, ◌*◌, ◌<◌, ◌≤◌, ◌⊎◌, ℕ, List, All, length, map};
 ghost use Rattle.std.specs.Prelude.{take, drop, slice_index};
@@ -90,9 +90,8 @@ fn are_below(numbers: &[u32], bound: u32) -> bool
 }
 
 /// Writes the data of the rows over the first words of `out`, and gives their number, or `None`
-/// within, where there is no room for them. `None` where no weights are taken or the rows do not
-/// fit.
-fn write_weighed(
+/// within, where there is no room for them. `None` where the rows do not fit.
+fn write_fitted(
     alloc: Global,
     indices: &[u32],
     min: u32,
@@ -133,8 +132,8 @@ fn write_weighed(
 ///
 /// Row i holds the cells of the shard with index `indices[i]`, each as the number of an element,
 /// below P; a row has `cols` words. It refuses as `join` does, and then, and where there is no
-/// room, nothing is written. Where `join` takes weights and all rows fit, it takes memory for as
-/// many elements as `min` rows have words, for the weights, and beside further rows for a strip of
+/// room, nothing is written. Where all rows fit, it takes memory for as many elements as `min` rows
+/// have words, for the weights or the transforms of a strip, and beside further rows for a strip of
 /// a coset; else as `join` does, and for as many elements as there are words.
 pub fn join_rows(
     alloc: Global,
@@ -156,7 +155,7 @@ pub fn join_rows(
     ensures err { OnErr result (out.new ≡ out.old) }
     ensures due { IfErr result (λ e. IsMemory e ⊎ AreRefused e min total indices.now cells.now) }
 {
-    if let Some(answer) = write_weighed(alloc, indices, min, total, cells, cols, out)? {
+    if let Some(answer) = write_fitted(alloc, indices, min, total, cells, cols, out)? {
         return Ok(answer);
     }
     let shards = shards_of_rows(alloc, indices, min, total, cells, cols)?;

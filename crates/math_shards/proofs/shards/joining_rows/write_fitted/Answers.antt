@@ -7,7 +7,7 @@ use Rattle.math_values.specs.Values.{elements}
 use Rattle.math_shards.specs.declared.shards.rows.WordRow.{WordRow}
 use Rattle.math_shards.specs.Fitting.{AreDataOf, DoRowsFit}
 use Rattle.math_shards.proofs.WordShards.{join_of_words, rows_below, rows_wide, some_item}
-use Rattle.math_shards.proofs.shards.joining_rows.write_weighed.Goals as goal
+use Rattle.math_shards.proofs.shards.joining_rows.write_fitted.Goals as goal
 
 pub fitted_elements-requires-clause-below : goal.fitted_elements-requires-clause-below
 fitted_elements-requires-clause-below c =

@@ -5,7 +5,7 @@ use Rattle.math_shards.specs.declared.shards.Shard.{Shard}
 use Rattle.math_shards.specs.Fitting.{AreDataOf}
 use Rattle.math_shards.specs.Shards.{JoinTo}
 use Rattle.math_shards.proofs.JoinedRows.{join_of_rows}
-use Rattle.math_shards.proofs.shards.joining.weighed_data.Goals as goal
+use Rattle.math_shards.proofs.shards.joining.fitted_data.Goals as goal
 
 pub returns : goal.returns
 returns c =
