@@ -99,7 +99,7 @@ uint32_t cwm_status_text(uint32_t status, char *text, size_t m);
 
 /* Writes the value at x of the polynomial with these n coefficients into *out.
  * n is 1 to 2^32 - 1, else CWM_WRONG_SIZE. A word of P or more: CWM_OUT_OF_RANGE. Takes memory for 512 words at
- * most. */
+ * most, and for 2,048 where n is 2^17 or more. */
 CWM_MUST_USE uint32_t cwm_eval(const uint64_t *coefficients, size_t n, uint64_t x, uint64_t *out);
 
 /* Row i of the cells holds coefficient i of each polynomial. Puts in its place the values at point i.
@@ -194,9 +194,9 @@ CWM_MUST_USE uint32_t cwm_split(const uint64_t *data, size_t n, uint32_t min, ui
  * more: CWM_WRONG_INDEX; unequal shards of one index: CWM_CONFLICT; fewer than `min` distinct indices:
  * CWM_TOO_FEW; shards of no data: CWM_INCONSISTENT. Where shards of more than `min` distinct indices are
  * there, damage to one is so found; where there are just `min`, it may not be.
- * Where min is at most 256 and no more than a shard has words, shards of data take memory for `min` times the words of a
- * shard, and for a few times N rows of `min` words, where N is `total` rounded up to a power of two. All other shards take it
- * for 9 times N rows of a shard's words and of 64 more: who takes shards from strangers bounds `total` first. */
+ * Shards of data take memory for `min` times the words of a shard, for 9 times N rows of `min` words and of 64 more, for 3 words
+ * a row and for 16,384, where N is `total` rounded up to a power of two. Others take it for 9 times N rows of a shard's words and
+ * of 64 more too: who takes shards from strangers bounds `total` first. */
 CWM_MUST_USE uint32_t cwm_join(const uint32_t *indices, size_t k, uint32_t min, uint32_t total, const uint64_t *cells, size_t n,
                                uint64_t *data, size_t m, size_t *written);
 
@@ -206,8 +206,9 @@ CWM_MUST_USE uint32_t cwm_join(const uint32_t *indices, size_t k, uint32_t min, 
  * over the first of the `room` places of `left_out`, and how many they are into *many. The position of a shard is its
  * row. Where there are no such data: CWM_INCONSISTENT. Where more shards are wrong than that, they may have other
  * data, which are then given.
- * Sizes, words and statuses as for cwm_join, memory as there for other shards; but there is no CWM_CONFLICT, and
- * CWM_TOO_FEW says that i is below min. room is k or more, else CWM_WRONG_SIZE. Where it is not CWM_DONE, nothing is written. */
+ * Sizes, words and statuses as for cwm_join; but there is no CWM_CONFLICT, and CWM_TOO_FEW says that i is below min. room is k or
+ * more, else CWM_WRONG_SIZE. Where it is not CWM_DONE, nothing is written. Takes memory for 9 times N rows of a shard's words and
+ * of 64 more, with N as there. */
 CWM_MUST_USE uint32_t cwm_join_corrected(const uint32_t *indices, size_t k, uint32_t min, uint32_t total, const uint64_t *cells,
                                          size_t n, uint64_t *data, size_t m, size_t *written, size_t *left_out, size_t room,
                                          size_t *many);

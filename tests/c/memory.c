@@ -67,7 +67,7 @@ static void *block(size_t size) {
   return at;
 }
 
-enum { LG = 12, ROWS = 1 << LG, MOST_COLS = 16, CELLS = ROWS * MOST_COLS, POINTS = 256, BLOCK = 1 << 16, ROOM = 1 << 22 };
+enum { LG = 12, ROWS = 1 << LG, MOST_COLS = 16, CELLS = ROWS * MOST_COLS, POINTS = 256, LONG = 1 << 17, BLOCK = 1 << 16, ROOM = 1 << 22 };
 
 static uint64_t *a, *b, *c;
 static uint8_t *filled;
@@ -118,12 +118,16 @@ static void points(void) {
     for (size_t n = 1; n <= ROWS; n *= 2) count("cwm_weights_at_roots", cwm_weights_at_roots(ROWS, indices, n, 5 * x, b, n), 7, ROWS);
   for (size_t n = 64; n <= CELLS; n *= 4) {
     fill(a, n);
-    count("cwm_eval", cwm_eval(a, n, 5, b), 0.5, 1024);
+    count("cwm_eval", cwm_eval(a, n, 5, b), 1, 512);
     uint8_t *bytes = block(8 * n + 5);
     count("cwm_encode_poly", cwm_encode_poly(a, n, bytes, 8 * n + 5, &written), 1, 64);
     count("cwm_decode_poly", cwm_decode_poly(bytes, written, b, n, &written), 0, 64);
     __real_free(bytes);
   }
+  uint64_t *many = block(8 * LONG);
+  fill(many, LONG);
+  count("cwm_eval, long", cwm_eval(many, LONG, 5, b), 1, 2048);
+  __real_free(many);
 }
 
 /* Shards of BLOCK bytes, of which `min` of `total` give them back; N is `total` rounded up to a power of two. */
@@ -141,7 +145,9 @@ static void shards(uint32_t min, uint32_t total) {
   count("cwm_split", cwm_split(a, BLOCK / 8, min, total, cells, total * cols), 1, rows * (cols < strip ? cols : strip) + rows);
   count("cwm_split_bytes", cwm_split_bytes(back, BLOCK, min, total, bytes, total * size), 4, words);
   for (uint32_t k = min; k <= total; k += total > min ? total - min : 1) {
-    count("cwm_join", cwm_join(indices, k, min, total, cells, k * cols, b, CELLS, &written), 9, words);
+    /* one list as long as the data, the weights or the tables, a strip of the transforms and of a coset, and the rows as they stand */
+    count("cwm_join", cwm_join(indices, k, min, total, cells, k * cols, b, CELLS, &written), 1,
+          min * cols + 9 * (rows * min + 64 * rows) + 3 * k + 16384);
     count("cwm_join_bytes", cwm_join_bytes(indices, k, min, total, bytes, k * size, back, ROOM, &written), 10, words);
   }
   for (uint32_t i = 0; i < (total - min) / 2; i++) cells[i * cols] = 1;
