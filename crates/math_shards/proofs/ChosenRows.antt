@@ -1,12 +1,12 @@
 -- Rows of distinct indices that are chosen one by one, and how many indices are distinct.
-use Rattle.std.proofs.Common.{◌≡◌, ◌∙◌, inl, inr, ℕ, ◌+◌, ◌*◌, ◌<◌, ◌≤◌, ◌==◌, ◌||◌, List, [], ◌∷◌, ◌++◌, Bool, true, false, length, map, replicate, take, get_or, sym, ap, ap₂, subst, true≢false, arith}
+use Rattle.std.proofs.Common.{◌≡◌, ◌∙◌, inl, inr, ℕ, ◌+◌, ◌*◌, ◌<◌, ◌≤◌, ◌==◌, ◌||◌, List, [], ◌∷◌, ◌++◌, Bool, true, false, length, map, take, get_or, sym, ap, ap₂, subst, true≢false, arith}
 use Rattle.std.specs.List.{All, Contains, count_by, flat_map, list_any, range_with_len}
 use Rattle.std.proofs.Math.Seq.{get_or-append_seam}
 use Rattle.std.proofs.Math.Bool.{or-false}
 use Rattle.std.proofs.Math.ListN.{set}
 use Rattle.std.proofs.lemmas.Bool.{cases_eq, cases_lt, eq-eqb, eqb-true, ne_eqb}
 use Rattle.std.proofs.lemmas.Grind.{get_or-set_at}
-use Rattle.std.proofs.lemmas.List.{flat_map_more, get_or-replicate, get_or-set_other, get_or_append_left, get_or_default, length-append, length-replicate, length-set, length-take-le, length_push, map-append, take_more}
+use Rattle.std.proofs.lemmas.List.{flat_map_more, get_or-set_other, get_or_append_left, get_or_default, length-append, length-set, length-take-le, length_push, map-append, take_more}
 use Rattle.std.proofs.lemmas.List.Concat.{get_or-flat_map}
 use Rattle.std.proofs.lemmas.List.Elements.{All-contains, All-head, All-map, All-push, All-tail, All-take, All-weaker, Contains-append_left, Contains-push}
 use Rattle.std.proofs.lemmas.List.Folds.{Any-from_list_any, list_any-append, list_any_at}
@@ -38,10 +38,6 @@ distinct-push numbers x none h i j before l e = elim (cases_lt j (length numbers
 pub record AreMarked (n : ℕ) (numbers : List ℕ) (points : List Bool) : Type 0 where
   pub size : length points ≡ n
   pub marks : (i : ℕ) → i < n → get_or points i false ≡ is_one_of numbers i
-
--- no number yet
-pub marked-none : (n : ℕ) → AreMarked n [] (replicate n false)
-marked-none n = record { size = length-replicate n false; marks = λ i l. get_or-replicate n i false false l }
 
 -- one number more
 pub marked-more : (n x : ℕ) (numbers : List ℕ) (points : List Bool) → x < n → AreMarked n numbers points → AreMarked n (numbers ++ x ∷ []) (set points x true)

@@ -3,7 +3,7 @@ use Rattle.std.proofs.Common.{◌≡◌, ◌≢◌, ◌∙◌, inl, inr, ℕ, ze
 use Rattle.std.proofs.Math.ListN.{set}
 use Rattle.std.proofs.lemmas.Bool.{cases_lt}
 use Rattle.std.proofs.lemmas.Grind.{get_or-set_at}
-use Rattle.std.proofs.lemmas.List.{get_or-set_other, length-drop, length-replicate, length-set, length-take-le}
+use Rattle.std.proofs.lemmas.List.{get_or-set_other, length-drop, length-set, length-take-le}
 use Rattle.std.proofs.lemmas.Nat.{mul-add-lt}
 use Rattle.math_theory.specs.Recovery.{count_true}
 use Rattle.math_base.specs.declared.fields.goldilocks.F.{F}
@@ -12,7 +12,7 @@ use Rattle.math_transforms.proofs.WrittenRows.{part-read, put-after, put-before,
 use Rattle.math_shards.specs.Restored.{AreTaken}
 use Rattle.math_shards.specs.Weights.{AreDistinct}
 use Rattle.math_shards.proofs.SameCells.{nought}
-use Rattle.math_shards.proofs.UnitShards.{count_true-none, count_true-set}
+use Rattle.math_shards.proofs.UnitShards.{count_true-set}
 
 -- at first no point is filled
 unfilled : (n i : ℕ) → get_or (replicate n false) i false ≡ false
@@ -26,15 +26,6 @@ pub record AreFilledBefore (lg : ℕ) (indices : List ℕ) (n : ℕ) (points : L
   pub filled : (t : ℕ) → t < n → get_or points (get_or indices t 0) false ≡ true
   pub others : (i : ℕ) → ((t : ℕ) → t < n → get_or indices t 0 ≢ i) → get_or points i false ≡ false
   pub count : count_true points ≡ n
-
--- none yet
-pub filled-none : (lg : ℕ) (indices : List ℕ) → AreFilledBefore lg indices 0 (replicate (2 ^ lg) false)
-filled-none lg indices = record {
-  size = length-replicate (2 ^ lg) false;
-  filled = λ t b. absurd (omega (arith, b));
-  others = λ i apart. unfilled (2 ^ lg) i;
-  count = count_true-none (2 ^ lg);
-}
 
 -- one more
 pub filled-more : (lg : ℕ) (indices : List ℕ) (n : ℕ) (points : List Bool) → AreDistinct indices → n < length indices → get_or indices n 0 < 2 ^ lg → AreFilledBefore lg indices n points
