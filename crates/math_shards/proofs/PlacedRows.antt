@@ -1,5 +1,5 @@
 -- Points that are filled one by one, rows that are placed by their indices, and columns that are taken from the first rows of a room.
-use Rattle.std.proofs.Common.{◌≡◌, ◌≢◌, ◌∙◌, inl, inr, ℕ, zero, suc, ◌+◌, ◌*◌, ◌<◌, ◌≤◌, ◌^◌, List, ◌++◌, Bool, true, false, length, take, drop, replicate, get_or, refl, sym, ap, arith}
+use Rattle.std.proofs.Common.{◌≡◌, ◌≢◌, ◌∙◌, inl, inr, ℕ, ◌+◌, ◌*◌, ◌<◌, ◌≤◌, ◌^◌, List, ◌++◌, Bool, true, false, length, take, drop, get_or, sym, ap, arith}
 use Rattle.std.proofs.Math.ListN.{set}
 use Rattle.std.proofs.lemmas.Bool.{cases_lt}
 use Rattle.std.proofs.lemmas.Grind.{get_or-set_at}
@@ -13,12 +13,6 @@ use Rattle.math_shards.specs.Restored.{AreTaken}
 use Rattle.math_shards.specs.Weights.{AreDistinct}
 use Rattle.math_shards.proofs.SameCells.{nought}
 use Rattle.math_shards.proofs.UnitShards.{count_true-set}
-
--- at first no point is filled
-unfilled : (n i : ℕ) → get_or (replicate n false) i false ≡ false
-unfilled zero i = refl
-unfilled (suc n) zero = refl
-unfilled (suc n) (suc i) = unfilled n i
 
 -- of 2^lg points those of the first n indices are filled, and no others
 pub record AreFilledBefore (lg : ℕ) (indices : List ℕ) (n : ℕ) (points : List Bool) : Type 0 where
