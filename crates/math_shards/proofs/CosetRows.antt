@@ -12,7 +12,7 @@ use Rattle.math_base.proofs.ElementNumbers.{same_number}
 use Rattle.math_ntt.proofs.MatrixPlaces.{rows_are_full, rows_hold_cells}
 use Rattle.math_transforms.specs.DomainValues.{matrix_of}
 use Rattle.math_transforms.specs.Matrices.{MatrixOf, column_of}
-use Rattle.math_shards.specs.Cosets.{AreCosetValues, HasCosetCells, HasValuesFrom}
+use Rattle.math_shards.specs.Cosets.{AreCosetValues, AreOnlyRows, HasCosetCells, HasValuesFrom, HaveRowsOfFour}
 use Rattle.math_shards.specs.Shards.{value_at}
 use Rattle.math_shards.proofs.RootPowers.{coset_point, raised}
 use Rattle.math_shards.proofs.SameCells.{nought}
@@ -39,21 +39,44 @@ row_valued lg s start m from c ratio strip i row small is count values below her
     ∙ ap (λ x. number (value nought sum product (residue 1) x p)) point
 
 module _ {R : Type 0} (index : R → ℕ) (cells_of : R → List F) (rows : List R) where
-  -- rows of which those of one coset more have its cells
-  pub coset-more : (lg s total start : ℕ) (m : MatrixOf F) (from c : ℕ) (ratio : F) (strip : List F) → lg + s ≡ total → total ≤ 32
+  -- rows of a coset that have its cells have the values
+  pub coset-valued : (lg s total start : ℕ) (m : MatrixOf F) (from c : ℕ) (ratio : F) (strip : List F) → lg + s ≡ total → total ≤ 32
       → same ratio (raised (root_of total) start) → length strip ≡ 2 ^ lg * c → AreCosetValues m from c ratio lg strip
       → All (λ row. index row < 2 ^ total) rows
       → All (λ row. HasCosetCells strip c from start s (index row) (cells_of row)) rows
+      → All (λ row. index row % 2 ^ s ≡ start → HasValuesFrom total m from c (index row) (cells_of row)) rows
+  coset-valued lg s total start m from c ratio strip e small is count values below has = λ k d l here.
+      let row : R = get_or rows k d in
+      subst (λ n. HasValuesFrom n m from c (index row) (cells_of row)) e
+      (row_valued lg s start m from c ratio strip (index row) (cells_of row) (omega (arith, e, small)) (rw (← e) at is) count values (rw (← e) at (below k d l)) here (has k d l))
+
+  -- and so have those of a coset of four points of which just one of each is there
+  pub four-valued : (s total start : ℕ) (m : MatrixOf F) (from c : ℕ) (ratio : F) (places : List ℕ) → 2 + s ≡ total → total ≤ 32
+      → same ratio (raised (root_of total) start) → AreOnlyRows index rows start s (length rows) places → HaveRowsOfFour cells_of rows places m from c ratio
+      → All (λ row. index row < 2 ^ total) rows
+      → All (λ row. index row % 2 ^ s ≡ start → HasValuesFrom total m from c (index row) (cells_of row)) rows
+  four-valued s total start m from c ratio places e small is only has below = λ k d l here j b.
+      let row : R = get_or rows k d in
+      let i = index row in
+      let t = i / 2 ^ s in
+      let inside : t < 4 = shr_below i 2 s (rw (← e) at (below k d l)) in
+      let at : start + 2 ^ s * t ≡ i = omega (arith, here, shr_split i s) in
+      let point : product ratio (raised (root_of 2) t) ≡ raised (root_of total) i =
+      same_number (product ratio (raised (root_of 2) t)) (raised (root_of (2 + s)) (start + 2 ^ s * t)) (coset_point 2 s start t ratio (omega (arith, e, small)) (rw (← e) at is))
+      ∙ ap (λ n. raised (root_of n) (start + 2 ^ s * t)) e ∙ ap (raised (root_of total)) at in
+      let place : get_or places t 0 ≡ k = only k d l here in
+      let held = has t j d inside b in
+      rw place at held ∙ ap (λ x. number (value nought sum product (residue 1) x (column_of nought m (from + j)))) point
+
+  -- rows of cosets of which one more has the values
+  pub coset-more : (s total start : ℕ) (m : MatrixOf F) (from c : ℕ)
+      → All (λ row. index row % 2 ^ s ≡ start → HasValuesFrom total m from c (index row) (cells_of row)) rows
       → All (λ row. index row % 2 ^ s < start → HasValuesFrom total m from c (index row) (cells_of row)) rows
       → All (λ row. index row % 2 ^ s < start + 1 → HasValuesFrom total m from c (index row) (cells_of row)) rows
-  coset-more lg s total start m from c ratio strip e small is count values below has before = λ k d l less.
-      let row : R = get_or rows k d in
-      elim (cases_lt (index row % 2 ^ s) start) [
+  coset-more s total start m from c here before = λ k d l less.
+      elim (cases_lt (index (get_or rows k d) % 2 ^ s) start) [
         | inl b ↦ before k d l b
-        | inr b ↦
-            subst (λ n. HasValuesFrom n m from c (index row) (cells_of row)) e
-            (row_valued lg s start m from c ratio strip (index row) (cells_of row) (omega (arith, e, small)) (rw (← e) at is) count values (rw (← e) at (below k d l))
-            (omega (arith, less, b)) (has k d l))
+        | inr b ↦ here k d l (omega (arith, less, b))
       ]
 
   -- rows whose first values are those of the columns, and the next ones too

@@ -1,6 +1,6 @@
 -- Values of polynomials of three coefficients at a ratio times the powers of a root of order four.
 use Rattle.std.proofs.Common.{◌≡◌, ◌∙◌, ℕ, zero, suc, ◌+◌, ◌*◌, ◌<◌, ◌≤◌, List, [], ◌∷◌, ◌++◌, length, take, drop, get_or, refl, sym, ap, ap₂, arith}
-use Rattle.std.proofs.lemmas.List.{get_or-append-add, get_or_append_left, get_or-drop, get_or-take, length-append}
+use Rattle.std.proofs.lemmas.List.{get_or-append-add, get_or_append_left, get_or-drop, get_or-take, length-append, length-drop, length-take-le}
 use Rattle.math_theory.specs.Values.{value}
 use Rattle.math_theory.proofs.classes.ClassesOfLists.{value-class}
 use Rattle.math_theory.proofs.classes.RingUpToSame.{combine_same, ring_same}
@@ -115,7 +115,7 @@ column-three elements width j l =
     rw (get_or-take width elements j nought l, second, third) refl
 
 -- what holds of 0, 1, 2 and 3 holds below four
-below-four : (P : ℕ → Type 0) → P 0 → P 1 → P 2 → P 3 → (t : ℕ) → t < 4 → P t
+pub below-four : (P : ℕ → Type 0) → P 0 → P 1 → P 2 → P 3 → (t : ℕ) → t < 4 → P t
 below-four P a b c d zero l = a
 below-four P a b c d (suc zero) l = b
 below-four P a b c d (suc (suc zero)) l = c
@@ -145,6 +145,13 @@ module _ (elements : List F) (width from cols n m o : ℕ) (ratio turn : F) (wit
       ∙ ap (λ x. get_or elements (from + k) nought ∷ get_or elements (width + (from + k)) nought ∷ x ∷ []) c
       ∙ sym (column-three elements width (from + k) (omega (arith, l, within))) in
       h k (omega (arith, l, long)) ∙ ap₂ (λ x p. number (value nought sum product (residue 1) x p)) point items
+
+  -- so a row of which a part has the values has them from the first column on
+  pub part-value : (t k r : ℕ) (row : List F) → r ≡ cols → from + cols ≤ length row → HasRow t (take r (drop from row)) → k < cols
+      → same (get_or row (from + k) nought) (value nought sum product (residue 1) (turned ratio (root_of 2) t) (column_of nought (matrix_of 3 width elements) (from + k)))
+  part-value t k r row e long h l =
+      let part : length (take r (drop from row)) ≡ cols = length-take-le r (drop from row) (omega (arith, e, long, length-drop from row)) ∙ e in
+      sym (ap number (part-read nought row from r k (omega (arith, l, e)))) ∙ row-value t k (take r (drop from row)) h part l
 
   -- four rows of values are those of a coset
   pub coset-of_rows : (first second third fourth cells : List F) → length first ≡ cols → length second ≡ cols → length third ≡ cols → length fourth ≡ cols

@@ -45,5 +45,6 @@ pub mod RowWords
 pub mod CosetSizes
 pub mod CosetTurns
 pub mod RootPowers
+pub mod ComparedTurns
 pub mod CosetCells
 pub mod CosetRows

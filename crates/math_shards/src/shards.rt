@@ -25,6 +25,7 @@ mod restoring;
 mod rows;
 mod splitting;
 mod strips;
+mod turns;
 mod unpacking;
 mod weighing;
 

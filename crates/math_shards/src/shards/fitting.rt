@@ -8,22 +8,22 @@
 //! than a transform of N rows. The columns are taken strip by strip, so that a coset stays in a
 //! cache near the processor.
 //!
-//! Three coefficients have four points in a coset, and no transform is needed. With i the root of
-//! order four, a + b x + c x^2 is (a + c x^2) + b x at x, (a - c x^2) + b i x at i x,
-//! (a + c x^2) - b x at -x, and (a - c x^2) - b i x at -i x. So three products make four values, in
-//! one pass over the columns.
+//! Three coefficients have four points in a coset (`turns`): where just one row of each is there, its
+//! cells are compared as its values are made.
 
 ghost use Rattle.std.specs.Prelude.{◌≡◌, ◌+◌, ◌-◌, ◌*◌, ◌/◌, ◌%◌, ◌<◌, ◌≤◌, ◌^◌, All, length};
-ghost use Rattle.std.specs.Prelude.{IfOk, IsTrue};
+ghost use Rattle.std.specs.Prelude.{IfOk, IfSome, IsTrue};
 ghost use Rattle.math_transforms.specs.DomainValues.{matrix_of};
-ghost use Rattle.math_base.specs.Elements.{negative, product, residue, root_of, same};
-ghost use Rattle.math_shards.specs.Cosets.{AreCosetValues, AreMultiples, AreValuesOfThree};
-ghost use Rattle.math_shards.specs.Cosets.{HasCosetCells, HasValuesFrom, turned};
+ghost use Rattle.math_theory.specs.Powers.{power};
+ghost use Rattle.math_base.specs.Elements.{product, residue, root_of, same};
+ghost use Rattle.math_shards.specs.Cosets.{AreCosetValues, AreMultiples, AreOnlyRows};
+ghost use Rattle.math_shards.specs.Cosets.{HasCosetCells, HasValuesFrom, HaveRowsOfFour};
 ghost use Rattle.math_shards.specs.Fitting.{HasValuesOf};
 ghost use Rattle.math_shards.specs.Strips.{IsTableOf};
 
 use super::rows::Row;
 use super::strips::{Layout, strip_room};
+use super::turns::write_four;
 use math_base::algebra::Mem;
 use math_base::fields::goldilocks::F;
 use math_transforms::transform::{evaluate_rows, evaluation_table, lg_of, size_of};
@@ -70,95 +70,6 @@ fn write_multiples(cells: &mut [F], items: &[F], factor: F)
     for k in 0..cells.len() {
         cells[k] = items[k] * factor;
     }
-}
-
-/// Writes over four rows the values of polynomials of three coefficients, which are the items in
-/// one place of three lists: in row t those at `ratio` times power t of `turn`, a root of order
-/// four.
-fn write_turns(
-    constants: &[F],
-    linears: &[F],
-    squares: &[F],
-    ratio: F,
-    turn: F,
-    first: &mut [F],
-    second: &mut [F],
-    third: &mut [F],
-    fourth: &mut [F],
-)
-    requires turn { same (product turn turn) (negative (residue 1)) }
-    requires constants { length constants.now ≡ length first.old }
-    requires linears { length linears.now ≡ length first.old }
-    requires squares { length squares.now ≡ length first.old }
-    requires second { length second.old ≡ length first.old }
-    requires third { length third.old ≡ length first.old }
-    requires fourth { length fourth.old ≡ length first.old }
-    ensures first { AreValuesOfThree constants.now linears.now squares.now
-        (turned ratio turn 0) first.new }
-    ensures second { AreValuesOfThree constants.now linears.now squares.now
-        (turned ratio turn 1) second.new }
-    ensures third { AreValuesOfThree constants.now linears.now squares.now
-        (turned ratio turn 2) third.new }
-    ensures fourth { AreValuesOfThree constants.now linears.now squares.now
-        (turned ratio turn 3) fourth.new }
-{
-    let square = ratio * ratio;
-    let turned = ratio * turn;
-    let count = first.len();
-    let constants = &constants[..count];
-    let linears = &linears[..count];
-    let squares = &squares[..count];
-    let second = &mut second[..count];
-    let third = &mut third[..count];
-    let fourth = &mut fourth[..count];
-    for k in 0..count {
-        let even = squares[k] * square;
-        let odd = linears[k] * ratio;
-        let odd_turned = linears[k] * turned;
-        let more = constants[k] + even;
-        let less = constants[k] - even;
-        first[k] = more + odd;
-        second[k] = less + odd_turned;
-        third[k] = more - odd;
-        fourth[k] = less - odd_turned;
-    }
-}
-
-/// Writes over the cells the values of `cols` columns of three rows, from column `from` on, at
-/// `ratio` times the powers of `turn`, the root of order four: a row for each power.
-fn write_four(
-    elements: &[F],
-    layout: Layout,
-    from: usize,
-    cols: usize,
-    ratio: F,
-    turn: F,
-    cells: &mut [F],
-)
-    requires rows { layout.min ≡ 3 }
-    requires turn { same turn (root_of 2) }
-    requires elements { length elements.now ≡ layout.min * layout.width }
-    requires within { from + cols ≤ layout.width }
-    requires size { length cells.old ≡ 4 * cols }
-    ensures { AreCosetValues (matrix_of layout.min layout.width elements.now)
-        from cols ratio 2 cells.new }
-{
-    let linear = layout.width + from;
-    let square = 2 * layout.width + from;
-    let (low, high) = cells.split_at_mut(2 * cols);
-    let (first, second) = low.split_at_mut(cols);
-    let (third, fourth) = high.split_at_mut(cols);
-    write_turns(
-        &elements[from..from + cols],
-        &elements[linear..linear + cols],
-        &elements[square..square + cols],
-        ratio,
-        turn,
-        first,
-        second,
-        third,
-        fourth,
-    );
 }
 
 /// Writes over the cells the values of `cols` columns, from column `from` on, at `ratio` times the
@@ -266,6 +177,113 @@ fn have_coset<R: Row>(
     true
 }
 
+/// The places among the rows of those of a coset of four points, where just one row of each point is
+/// there: the points are those whose index is `start` and a multiple of 2^stride.
+fn rows_of_four<R: Row>(rows: &[R], start: usize, stride: u8) -> Option<[usize; 4]>
+    requires small { stride ≤ 32 }
+    requires four { All (λ row. R.index row / 2 ^ stride < 4) rows.now }
+    ensures there { IfSome result (λ places. All (λ place. place < length rows.now) places) }
+    ensures count { IfSome result (λ places. length places ≡ 4) }
+    ensures only { IfSome result (λ places. AreOnlyRows R.index rows.now start stride
+        (length rows.now) places) }
+{
+    let count = rows.len();
+    let mut places = [count; 4];
+    for i in 0..count {
+        let (coset, place) = place_of(rows[i].index() as usize, stride);
+        if coset == start {
+            if places[place] < count {
+                return None;
+            }
+            places[place] = i;
+        }
+    }
+    for place in places {
+        if place == count {
+            return None;
+        }
+    }
+    Some(places)
+}
+
+/// Whether the rows at four places have the values of `cols` columns of three rows, from column
+/// `from` on: the row at place t those at `ratio` times power t of `turn`, the root of order four.
+fn have_four<R: Row>(
+    rows: &[R],
+    places: [usize; 4],
+    elements: &[F],
+    layout: Layout,
+    from: usize,
+    cols: usize,
+    ratio: F,
+    turn: F,
+) -> bool
+    requires rows { layout.min ≡ 3 }
+    requires turn { same turn (root_of 2) }
+    requires elements { length elements.now ≡ layout.min * layout.width }
+    requires within { from + cols ≤ layout.width }
+    requires four { length places ≡ 4 }
+    requires there { All (λ place. place < length rows.now) places }
+    requires count { All (λ row. length (R.cells row) ≡ layout.width) rows.now }
+    ensures { IsTrue result → HaveRowsOfFour R.cells rows.now places
+        (matrix_of layout.min layout.width elements.now) from cols ratio }
+{
+    let linear = layout.width + from;
+    let square = 2 * layout.width + from;
+    rows[places[0]].have_turns(
+        &rows[places[1]],
+        &rows[places[2]],
+        &rows[places[3]],
+        from,
+        &elements[from..from + cols],
+        &elements[linear..linear + cols],
+        &elements[square..square + cols],
+        ratio,
+        turn,
+    )
+}
+
+/// Whether each row whose index is `start` and a multiple of 2^stride has the values of `cols`
+/// columns from column `from` on, where `ratio` is power `start` of the root: a coset has 2^lg
+/// points, and room for its values.
+fn have_coset_values<R: Row>(
+    alloc: Global,
+    rows: &[R],
+    elements: &[F],
+    layout: Layout,
+    from: usize,
+    cols: usize,
+    start: usize,
+    ratio: F,
+    lg: u8,
+    table: &[F],
+    cells: &mut [F],
+) -> bool
+    requires some { 1 ≤ layout.min }
+    requires points { layout.min ≤ 2 ^ lg }
+    requires part { lg ≤ layout.lg }
+    requires domain { layout.lg ≤ 32 }
+    requires elements { length elements.now ≡ layout.min * layout.width }
+    requires within { from + cols ≤ layout.width }
+    requires size { length cells.old ≡ 2 ^ lg * cols }
+    requires ratio { same ratio (power (residue 1) product (root_of layout.lg) start) }
+    requires table { IsTableOf lg table.now }
+    requires below { All (λ row. R.index row < 2 ^ layout.lg) rows.now }
+    requires count { All (λ row. length (R.cells row) ≡ layout.width) rows.now }
+    ensures { IsTrue result → All (λ row. R.index row % 2 ^ (layout.lg - lg) ≡ start
+        → HasValuesFrom layout.lg (matrix_of layout.min layout.width elements.now) from cols
+        (R.index row) (R.cells row)) rows.now }
+{
+    let stride = layout.lg - lg;
+    if lg == 2 && layout.min == 3 {
+        if let Some(places) = rows_of_four(rows, start, stride) {
+            return have_four(rows, places, elements, layout, from, cols, ratio, table[3]);
+        }
+    }
+    write_coset(alloc, elements, layout, from, cols, ratio, lg, table, cells);
+    have_coset(rows, cells, cols, from, start, stride)
+}
+
 /// Whether the rows have the values of `cols` columns from column `from` on, coset by coset.
 fn have_columns<R: Row>(
     alloc: Global,
@@ -298,8 +316,9 @@ fn have_columns<R: Row>(
     let stride = layout.lg - lg;
     let mut ratio = F::from(1);
     for start in 0..size_of(stride) {
-        write_coset(alloc, elements, layout, from, cols, ratio, lg, table, cells);
-        if !have_coset(rows, cells, cols, from, start, stride) {
+        if !have_coset_values(
+            alloc, rows, elements, layout, from, cols, start, ratio, lg, table, cells,
+        ) {
             return false;
         }
         ratio = ratio * root;

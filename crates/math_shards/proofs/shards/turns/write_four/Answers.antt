@@ -1,6 +1,6 @@
 use Rattle.std.proofs.Common.{◌≡◌, ◌+◌, ◌-◌, ◌*◌, length, refl, arith}
 use Rattle.math_shards.proofs.CosetTurns.{coset-of_rows, root-four}
-use Rattle.math_shards.proofs.shards.fitting.write_four.Goals as goal
+use Rattle.math_shards.proofs.shards.turns.write_four.Goals as goal
 
 pub write_turns-requires-clause-turn : goal.write_turns-requires-clause-turn
 write_turns-requires-clause-turn c = root-four c.args.turn c.requires.turn

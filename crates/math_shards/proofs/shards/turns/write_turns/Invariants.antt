@@ -1,7 +1,7 @@
 use Rattle.std.proofs.Common.{ℕ, ◌<◌, get_or}
 use Rattle.math_base.specs.Elements.{negative, product, same, sum}
 use Rattle.math_shards.proofs.SameCells.{nought}
-use Rattle.math_shards.proofs.shards.fitting.write_turns.Given as goal
+use Rattle.math_shards.proofs.shards.turns.write_turns.Given as goal
 
 -- the sums and differences so far
 abbrev pub invariant-loop-k : goal.invariant-loop-k

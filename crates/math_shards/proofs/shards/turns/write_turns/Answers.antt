@@ -1,7 +1,7 @@
 use Rattle.std.proofs.Common.{length, append-nil, arith}
 use Rattle.std.proofs.lemmas.List.{drop_all, length-take-le, take_all}
 use Rattle.math_shards.proofs.CosetTurns.{first-row, second-row, third-row, fourth-row}
-use Rattle.math_shards.proofs.shards.fitting.write_turns.Goals as goal
+use Rattle.math_shards.proofs.shards.turns.write_turns.Goals as goal
 
 pub returns-clause-first : goal.returns-clause-first
 returns-clause-first c =
