@@ -5,7 +5,6 @@ use Rattle.std.proofs.lemmas.List.{get_or-map, get_or_default}
 use Rattle.std.proofs.lemmas.List.Folds.{map_fixed}
 use Rattle.math_base.specs.declared.fields.goldilocks.F.{F}
 use Rattle.math_base.specs.Elements.{number, same}
-use Rattle.math_base.proofs.ElementNumbers.{same_number}
 use Rattle.math_shards.specs.Cosets.{AreValuesOfThree, HaveTurns, turned}
 use Rattle.math_shards.proofs.SameCells.{nought}
 

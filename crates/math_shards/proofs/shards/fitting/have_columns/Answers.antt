@@ -1,4 +1,4 @@
-use Rattle.std.proofs.Common.{◌≡◌, ◌∙◌, ◌+◌, ◌-◌, ◌*◌, sym, ap, arith}
+use Rattle.std.proofs.Common.{◌∙◌, ◌-◌, sym, ap, arith}
 use Rattle.math_base.specs.Elements.{number, product, root_of}
 use Rattle.math_transforms.specs.DomainValues.{matrix_of}
 use Rattle.math_shards.proofs.CosetRows.{coset-more}

@@ -1,6 +1,5 @@
-use Rattle.std.proofs.Common.{◌≡◌, ◌+◌, ◌<◌, ◌≤◌, List, length, map, take, arith}
+use Rattle.std.proofs.Common.{◌<◌, length, map, take, arith}
 use Rattle.std.proofs.lemmas.List.{length-map, length-take-le, take_all}
-use Rattle.math_base.specs.declared.fields.goldilocks.F.{F}
 use Rattle.math_base.specs.Elements.{negative, product, sum}
 use Rattle.math_shards.proofs.ComparedTurns.{value-next}
 use Rattle.math_shards.proofs.CosetTurns.{first-row, second-row, third-row, fourth-row}
