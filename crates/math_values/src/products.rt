@@ -1,11 +1,13 @@
 //! Sums of products of words and elements.
 //!
-//! Two sums take the products of the lower and of the upper half, one of each in turn, so that no
-//! carry waits for the product before it, and a long list is read at two places at once: then more
-//! words are under way from the memory. The sums are joined in the end.
+//! Two sums take one product each in turn, so that no carry waits for the product before it, and are
+//! joined in the end. In a block of a long list they take the products of the lower and of the upper
+//! half: it is read at two places at once, and more words are under way from the memory. In a short
+//! list they take two products that are one behind the other: then one place is counted on.
 
 ghost use Rattle.std.specs.Prelude.{◌≡◌, ◌↔◌, ◌<◌, ◌≤◌, IsTrue, All, length, map};
 ghost use Rattle.math_numbers.specs.Goldilocks.{P};
+ghost use Rattle.math_base.specs.Elements.{number};
 ghost use Rattle.math_values.specs.Products.{total, products};
 
 use crate::wide::WideSum;
@@ -43,4 +45,24 @@ pub(crate) fn products<W: Word, const COUNTED: bool>(words: &[W], weights: &[F])
         let more = u64::from(COUNTED & (word >= MODULUS));
         (sum.plus_product(word, weights[last].word()), above + more)
     }
+}
+
+/// The sum of each element times its weight.
+pub(crate) fn paired_products(elements: &[F], weights: &[F]) -> WideSum
+    requires { length elements.now ≤ length weights.now }
+    ensures { total result ≡ products (map number elements.now) weights.now }
+{
+    let mut even = WideSum::zero();
+    let mut odd = WideSum::zero();
+    for pair in 0..elements.len() / 2 {
+        let i = 2 * pair;
+        even = even.plus_product(elements[i].word(), weights[i].word());
+        odd = odd.plus_product(elements[i + 1].word(), weights[i + 1].word());
+    }
+    let sum = even.joined(odd);
+    if elements.len() % 2 == 0 {
+        return sum;
+    }
+    let last = elements.len() - 1;
+    sum.plus_product(elements[last].word(), weights[last].word())
 }

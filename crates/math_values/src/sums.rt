@@ -7,7 +7,7 @@ ghost use Rattle.std.specs.Prelude.{◌≡◌, ◌≤◌, length};
 ghost use Rattle.math_base.specs.Elements.{residue, sum, product};
 ghost use Rattle.math_theory.specs.Sums.{weighted_sum};
 
-use crate::products::products;
+use crate::products::paired_products;
 use math_base::fields::goldilocks::F;
 
 /// The sum of each element times its weight: the first element times the first weight, and so on.
@@ -17,5 +17,5 @@ pub fn sum_of_products(elements: &[F], weights: &[F]) -> F
     requires { length elements.now ≤ length weights.now }
     ensures { result ≡ weighted_sum (residue 0) sum product elements.now weights.now }
 {
-    products::<F, false>(elements, weights).0.remainder()
+    paired_products(elements, weights).remainder()
 }
