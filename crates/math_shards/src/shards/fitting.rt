@@ -31,7 +31,7 @@ use math_transforms::work::Work;
 use std::alloc::Global;
 
 /// How many cells a strip of a coset has at most, where eight columns have no more.
-const COSET_CELLS: usize = 8192;
+const COSET_CELLS: usize = 16384;
 
 /// How many columns a strip has at least, where so many are left.
 const LEAST_COLS: usize = 8;
