@@ -1,9 +1,9 @@
 //! Sums of products of words and elements.
 //!
-//! Two sums take one product each in turn, so that no carry waits for the product before it, and are
-//! joined in the end. In a block of a long list they take the products of the lower and of the upper
-//! half: it is read at two places at once, and more words are under way from the memory. In a short
-//! list they take two products that are one behind the other: then one place is counted on.
+//! Two sums take one product each in turn, so that no carry waits for the product before it, and
+//! are joined in the end. In a block of a long list they take the products of the lower and of the
+//! upper half: it is read at two places at once, and more words are under way from the memory. In a
+//! short list they take two products that are one behind the other: then one place is counted on.
 
 ghost use Rattle.std.specs.Prelude.{◌≡◌, ◌↔◌, ◌<◌, ◌≤◌, IsTrue, All, length, map};
 ghost use Rattle.math_numbers.specs.Goldilocks.{P};

@@ -8,8 +8,8 @@
 //! than a transform of N rows. The columns are taken strip by strip, so that a coset stays in a
 //! cache near the processor.
 //!
-//! Three coefficients have four points in a coset (`turns`): where just one row of each is there, its
-//! cells are compared as its values are made.
+//! Three coefficients have four points in a coset (`turns`): where just one row of each is there,
+//! its cells are compared as its values are made.
 
 ghost use Rattle.std.specs.Prelude.{◌≡◌, ◌+◌, ◌-◌, ◌*◌, ◌/◌, ◌%◌, ◌<◌, ◌≤◌, ◌^◌, All, length};
 ghost use Rattle.std.specs.Prelude.{IfOk, IfSome, IsTrue};
@@ -177,8 +177,8 @@ fn have_coset<R: Row>(
     true
 }
 
-/// The places among the rows of those of a coset of four points, where just one row of each point is
-/// there: the points are those whose index is `start` and a multiple of 2^stride.
+/// The places among the rows of those of a coset of four points, where just one row of each point
+/// is there: the points are those whose index is `start` and a multiple of 2^stride.
 fn rows_of_four<R: Row>(rows: &[R], start: usize, stride: u8) -> Option<[usize; 4]>
     requires small { stride ≤ 32 }
     requires four { All (λ row. R.index row / 2 ^ stride < 4) rows.now }

@@ -1,8 +1,8 @@
 //! Values of three coefficients on a coset of four points.
 //!
 //! With i the root of order four, a + b x + c x^2 is (a + c x^2) + b x at x, (a - c x^2) + b i x at
-//! i x, (a + c x^2) - b x at -x, and (a - c x^2) - b i x at -i x. So three products make four values,
-//! in one pass over the columns, and no transform is needed.
+//! i x, (a + c x^2) - b x at -x, and (a - c x^2) - b i x at -i x. So three products make four
+//! values, in one pass over the columns, and no transform is needed.
 
 ghost use Rattle.std.specs.Prelude.{◌≡◌, ◌+◌, ◌*◌, ◌≤◌, IsTrue, length, map};
 ghost use Rattle.math_transforms.specs.DomainValues.{matrix_of};
