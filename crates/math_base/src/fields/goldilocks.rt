@@ -96,6 +96,25 @@ impl F {
         F::sum_of_words(F::difference_of_words(a, c), (b << 32) - b)
     }
 
+    /// The remainder of x + y, which may be 2^128 or more: 2^128 is 2^32 times 2^96.
+    fn reduce_sum(x: u128, y: u128) -> F
+        ensures { number result ≡ (x + y) % P }
+    {
+        let (sum, carry) = x.overflowing_add(y);
+        let a = (sum & 0xffff_ffff_ffff_ffff) as u64;
+        let b = ((sum >> 64) & 0xffff_ffff) as u64;
+        let c = (sum >> 96) as u64 + (u64::from(carry) << 32);
+        F::sum_of_words(F::difference_of_words(a, c), (b << 32) - b)
+    }
+
+    /// a x + b y, reduced once.
+    pub fn sum_of_products(a: F, x: F, b: F, y: F) -> F
+        ensures { number result ≡ (number a * number x + number b * number y) % P }
+    {
+        let first = u128::from(a.value) * u128::from(x.value);
+        F::reduce_sum(first, u128::from(b.value) * u128::from(y.value))
+    }
+
     /// The remainder of x by P.
     fn reduce_64(x: u64) -> F
         ensures { number result ≡ x % P }
