@@ -1,0 +1,4 @@
+pub mod CosetDivisions
+pub mod Quarters
+pub mod Restored
+pub mod RootTrees
