@@ -31,9 +31,9 @@ AreSumsOf inverses lg c old new =
     → (low high : List F) × (length low ≡ 2 ^ (lg - 1)) × (length high ≡ 2 ^ (lg - 1))
     × ((x : F) → same (column_value (lg - 1) c new k x) (sum (value_in_ring goldilocks low x) (value_in_ring goldilocks high x)))
     × ((t : ℕ) (x : F) → t < 2 ^ (lg - 1) → same (product x (class_at inverses (2 ^ lg + t))) (residue 1)
-        → same (value_in_ring goldilocks low x) (product (item old (t * c + k)) (twos (lg - 1))))
+    → same (value_in_ring goldilocks low x) (product (item old (t * c + k)) (twos (lg - 1))))
     × ((t : ℕ) (x : F) → t < 2 ^ (lg - 1) → same (product x (class_at inverses (2 ^ lg + (2 ^ (lg - 1) + t)))) (residue 1)
-        → same (value_in_ring goldilocks high x) (product (item old ((2 ^ (lg - 1) + t) * c + k)) (twos (lg - 1))))
+    → same (value_in_ring goldilocks high x) (product (item old ((2 ^ (lg - 1) + t) * c + k)) (twos (lg - 1))))
 
 -- point t of the domain of 2^lg, in the order of the tree
 abbrev pub domain_point : ℕ → ℕ → F

@@ -33,6 +33,7 @@ ghost use Rattle.math_cosets.specs.CosetDivisions.{AreSumsOf, DoColumnsFit, IsCo
 ghost use Rattle.math_cosets.specs.Quarters.{item};
 ghost use Rattle.math_cosets.specs.RootTrees.{AreInverseTrees, IsRootTree, IsTreeOf};
 
+use crate::quarters::split_two;
 use crate::transforms::{evaluate_below, interpolate_below};
 use crate::trees::{inverse_tree, root_tree, squared};
 use math_base::algebra::{FieldNTT, Mem};
@@ -132,6 +133,7 @@ fn write_sums(cells: &mut [F], cols: usize, lg: u8, inverses: &[F])
 /// tree, and where 2^part is less than 2^lg, times 1 + c at those of even index and 1 - c at those of
 /// odd index, c being the power 2^(lg - 1) of the shift.
 fn write_factors(alloc: Global, cells: &mut [F], lg: u8, part: u8, step: F, roots: &[F]) -> Mem<()>
+    requires some { 1 ≤ lg }
     requires part { part ≤ lg }
     requires domain { lg ≤ 32 }
     requires size { length cells.old ≡ 2 ^ lg }
@@ -144,9 +146,8 @@ fn write_factors(alloc: Global, cells: &mut [F], lg: u8, part: u8, step: F, root
         multiply_rows(alloc, cells, size_of(lg), &[factor])?;
     } else {
         let power = squared(step, lg - 1 - part);
-        let even = factor + factor * power;
-        let odd = factor - factor * power;
-        multiply_rows(alloc, cells, size_of(lg - 1), &[even, odd])?;
+        let weights = split_two(factor, factor, power);
+        multiply_rows(alloc, cells, size_of(lg - 1), &[weights.0, weights.1])?;
     }
     Ok(())
 }

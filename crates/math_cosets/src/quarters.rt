@@ -16,7 +16,7 @@ ghost use Rattle.math_cosets.specs.Quarters.{AreQuartersJoined, AreQuartersSplit
 use math_base::fields::goldilocks::F;
 
 /// The sum and the difference of a cell and another one times a factor.
-fn split_two(a: F, b: F, r: F) -> (F, F)
+pub(crate) fn split_two(a: F, b: F, r: F) -> (F, F)
     ensures first { same result.0 (sum a (product b r)) }
     ensures second { same result.1 (sum a (negative (product b r))) }
 {

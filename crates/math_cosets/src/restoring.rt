@@ -199,6 +199,8 @@ pub fn put_restored(
     let division = coset_division(alloc, points, lg, part)?;
     let most = most_cols(width, lg);
     let mut room = strip_room(alloc, lg, most)?;
-    restore_strips(alloc, cells, width, indices, &places, &division, most, &mut room)?;
+    restore_strips(
+        alloc, cells, width, indices, &places, &division, most, &mut room,
+    )?;
     Ok(())
 }

@@ -71,5 +71,13 @@ pub fn interpolate_below(cells: &mut [F], cols: usize, lg: u8, place: usize, inv
     interpolate_below(b, cols, lg - 2, 2 * below + 1, inverses);
     interpolate_below(c, cols, lg - 2, 2 * below + 2, inverses);
     interpolate_below(d, cols, lg - 2, 2 * below + 3, inverses);
-    join_quarters(a, b, c, d, inverses[below], inverses[below + 1], inverses[place]);
+    join_quarters(
+        a,
+        b,
+        c,
+        d,
+        inverses[below],
+        inverses[below + 1],
+        inverses[place],
+    );
 }

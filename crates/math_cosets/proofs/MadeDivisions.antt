@@ -1,0 +1,125 @@
+-- What a division on a coset is made of: factors of the values, and inverses of the values of the polynomial that vanishes at the missing points.
+use Rattle.std.proofs.Common.{◌≡◌, ◌∙◌, ℕ, ◌+◌, ◌-◌, ◌*◌, ◌<◌, ◌≤◌, ◌^◌, List, [], ◌∷◌, Bool, length, take, get_or, refl, sym, ap, pow-add, arith}
+use Rattle.std.proofs.Math.Nat.{mul-lt-mul_of_pos_left}
+use Rattle.std.proofs.lemmas.List.{get_or-take}
+use Rattle.std.proofs.lemmas.Nat.{pow_pos}
+use Rattle.math_theory.specs.BitReversal.{bit_reversed}
+use Rattle.math_theory.proofs.classes.RingUpToSame.{combine_same, combine2_same, ring_same}
+use Rattle.math_theory.proofs.recovery.RecoveredColumns.{coset_nonzero}
+use Rattle.math_theory.proofs.rings.Normal.{◌⊕◌, ◌⊖◌, ◌⊗◌, 𝟙, v0, v1, v2, v3}
+use Rattle.math_theory.proofs.transforms.BitOrder.{bit_reversed-below}
+use Rattle.math_base.specs.declared.fields.goldilocks.F.{F}
+use Rattle.math_base.specs.ElementLaws.{equality, group, commutes, ring}
+use Rattle.math_base.specs.ElementRootLaws.{field}
+use Rattle.math_base.specs.Elements.{negative, number, product, residue, root_of, same, shift_of, sum}
+use Rattle.math_base.specs.Polynomials.{value_in_ring}
+use Rattle.math_base.proofs.ElementNumbers.{same_number}
+use Rattle.math_transforms.specs.MissingPoints.{VanishesAtFalse}
+use Rattle.math_transforms.specs.RowProducts.{AreRowProducts}
+use Rattle.math_transforms.proofs.DomainSteps.{column_of-one}
+use Rattle.math_transforms.proofs.PowersOfTwo.{power_of_two-double}
+use Rattle.math_values.specs.Values.{goldilocks}
+use Rattle.math_cosets.specs.CosetDivisions.{AreFactors, AreFolded, coset_point, domain_point, power_below, raised}
+use Rattle.math_cosets.specs.Quarters.{item}
+use Rattle.math_cosets.specs.RootTrees.{AreValuesBelow, IsTreeOf, class_at, twos}
+use Rattle.math_cosets.proofs.BlockColumns.{columns-equal, nought}
+use Rattle.math_cosets.proofs.CosetPowers.{coset-power, lower_root, one-product, shift_coset}
+
+-- so many lower powers are within the domain
+steps_within : (lg part : ℕ) → part ≤ lg → 2 ^ (lg - part) * 2 ^ part ≤ 2 ^ lg
+steps_within lg part within =
+    let whole : lg - part + part ≡ lg = omega (arith, within) in
+    let all : 2 ^ lg ≡ 2 ^ (lg - part) * 2 ^ part = ap (λ n. 2 ^ n) (sym whole) ∙ pow-add 2 (lg - part) part in
+    omega (arith, all)
+
+-- The values of v on the domain, and the factors made of them.
+module _ (lg part : ℕ) (step : F) (some : 1 ≤ lg) (v values roots : List F) (size : length v ≡ 2 ^ lg) (tree : IsTreeOf (residue 1) lg roots)
+    (evaluated : AreValuesBelow roots lg 1 1 v values) where
+  value-at : (t : ℕ) → t < 2 ^ lg → same (item values t) (value_in_ring goldilocks v (domain_point lg t))
+  value-at t l =
+      let place : t * 1 + 0 ≡ t = omega arith in
+      let below : 2 ^ lg * 1 + t ≡ 2 ^ lg + t = omega arith in
+      let point : class_at roots (2 ^ lg + t) ≡ domain_point lg t =
+      same_number (class_at roots (2 ^ lg + t)) (product (residue 1) (domain_point lg t)) (tree.points t (omega (arith, some)) l) ∙ one-product (domain_point lg t) in
+      rw (place, below, point, column_of-one nought (2 ^ lg) v size) at (evaluated t 0 l (omega arith))
+
+  -- divided by 2^lg
+  pub whole-factors : (factor : F) (new : List F) → same (product factor (twos lg)) (residue 1) → AreRowProducts goldilocks 1 (2 ^ lg) (λ i. get_or (factor ∷ []) i nought) values new
+      → (t : ℕ) → t < 2 ^ lg → same (product (item new t) (twos lg)) (value_in_ring goldilocks v (domain_point lg t))
+  whole-factors factor new half times t l =
+      let x = item values t in
+      let y = item new t in
+      let place : 0 * 2 ^ lg + t ≡ t = omega arith in
+      let here : same y (product x factor) = rw place at (times 0 t (omega arith) l) in
+      combine2_same equality group commutes ring (x ∷ factor ∷ y ∷ twos lg ∷ []) (v2 ⊗ v3) v0 v3 v2 (v0 ⊗ v1) v0 (v1 ⊗ v3) 𝟙 here half refl ∙ value-at t l
+
+  module _ (factor power even odd : F) (new : List F) (half : same (product factor (twos lg)) (residue 1)) (power_is : same power (power_below lg part step))
+      (even_is : same even (sum factor (product factor power))) (odd_is : same odd (sum factor (negative (product factor power))))
+      (times : AreRowProducts goldilocks 2 (2 ^ (lg - 1)) (λ i. get_or (even ∷ odd ∷ []) i nought) values new) where
+    -- times one and the power
+    pub low-factors : (t : ℕ) → t < 2 ^ (lg - 1)
+        → same (product (item new t) (twos lg)) (product (value_in_ring goldilocks v (domain_point lg t)) (sum (residue 1) (power_below lg part step)))
+    low-factors t l =
+        let x = item values t in
+        let y = item new t in
+        let c = power_below lg part step in
+        let place : 0 * 2 ^ (lg - 1) + t ≡ t = omega arith in
+        let here : same y (product x even) = rw place at (times 0 t (omega arith) l) in
+        let weight : even ≡ sum factor (product factor c) = same_number even (sum factor (product factor power)) even_is ∙ ap (λ p. sum factor (product factor p)) (same_number power c power_is) in
+        ap (λ e. number (product e (twos lg))) (same_number y (product x even) here ∙ ap (product x) weight)
+        ∙ combine_same equality group commutes ring (x ∷ factor ∷ c ∷ twos lg ∷ []) ((v0 ⊗ (v1 ⊕ (v1 ⊗ v2))) ⊗ v3) (v0 ⊗ (𝟙 ⊕ v2)) (v0 ⊗ (𝟙 ⊕ v2)) (v1 ⊗ v3) 𝟙 half refl
+        ∙ ap (λ a. number (product a (sum (residue 1) c)))
+        (same_number x (value_in_ring goldilocks v (domain_point lg t)) (value-at t (omega (arith, l, power_of_two-double lg some))))
+
+    -- times one less the power
+    pub high-factors : (t : ℕ) → t < 2 ^ (lg - 1)
+        → same (product (item new (2 ^ (lg - 1) + t)) (twos lg))
+        (product (value_in_ring goldilocks v (domain_point lg (2 ^ (lg - 1) + t))) (sum (residue 1) (negative (power_below lg part step))))
+    high-factors t l =
+        let at = 2 ^ (lg - 1) + t in
+        let x = item values at in
+        let y = item new at in
+        let c = power_below lg part step in
+        let place : 1 * 2 ^ (lg - 1) + t ≡ at = omega arith in
+        let here : same y (product x odd) = rw place at (times 1 t (omega arith) l) in
+        let weight : odd ≡ sum factor (negative (product factor c)) =
+        same_number odd (sum factor (negative (product factor power))) odd_is ∙ ap (λ p. sum factor (negative (product factor p))) (same_number power c power_is) in
+        ap (λ e. number (product e (twos lg))) (same_number y (product x odd) here ∙ ap (product x) weight)
+        ∙ combine_same equality group commutes ring (x ∷ factor ∷ c ∷ twos lg ∷ []) ((v0 ⊗ (v1 ⊖ (v1 ⊗ v2))) ⊗ v3) (v0 ⊗ (𝟙 ⊖ v2)) (v0 ⊗ (𝟙 ⊖ v2)) (v1 ⊗ v3) 𝟙 half refl
+        ∙ ap (λ a. number (product a (sum (residue 1) (negative c))))
+        (same_number x (value_in_ring goldilocks v (domain_point lg at)) (value-at at (omega (arith, l, power_of_two-double lg some))))
+
+-- The values of v on the coset, and their inverses.
+module _ (lg part : ℕ) (some : 1 ≤ part) (small : lg ≤ 32) (within : part ≤ lg) (filled : List Bool) (long : length filled ≡ 2 ^ lg) (step : F) (v folded divisors roots : List F)
+    (size : length v ≡ 2 ^ lg) (vanishes : VanishesAtFalse goldilocks (root_of lg) filled (value_in_ring goldilocks v)) (is : same step (raised shift_of (2 ^ part)))
+    (tree : IsTreeOf shift_of part roots) (fold : AreFolded lg part 1 step v folded) (evaluated : AreValuesBelow roots part 1 1 (take (2 ^ part) folded) divisors) where
+  divisor-at : (t : ℕ) → t < 2 ^ part → same (item divisors t) (value_in_ring goldilocks v (coset_point part t))
+  divisor-at t l =
+      let x = coset_point part t in
+      let place : t * 1 + 0 ≡ t = omega arith in
+      let below : 2 ^ part * 1 + t ≡ 2 ^ part + t = omega arith in
+      let one : 2 ^ part * 1 ≡ 2 ^ part = omega arith in
+      let point : class_at roots (2 ^ part + t) ≡ x = same_number (class_at roots (2 ^ part + t)) x (tree.points t (omega (arith, some)) l) in
+      let power : same (raised x (2 ^ part)) step = ap number (coset-power part t (omega (arith, within, small))) ∙ sym is in
+      let taken = columns-equal (2 ^ part) 1 0 (take (2 ^ part) folded) folded (omega arith) (λ j b. get_or-take (2 ^ part) folded j nought (omega (arith, b, one))) in
+      rw (place, below, point, taken) at (evaluated t 0 l (omega arith)) ∙ rw (column_of-one nought (2 ^ lg) v size) at (fold x 0 (omega arith) power)
+
+  -- no divisor is zero
+  pub divisor-nonzero : (t : ℕ) → t < 2 ^ part → ¬ (same (item divisors t) nought)
+  divisor-nonzero t l z =
+      let r = bit_reversed part t in
+      let i = 2 ^ (lg - part) * r in
+      let rises : i < 2 ^ (lg - part) * 2 ^ part = mul-lt-mul_of_pos_left (bit_reversed-below part t) (pow_pos (lg - part)) in
+      let inside : i < 2 ^ lg = omega (arith, rises, steps_within lg part within) in
+      coset_nonzero equality group commutes ring field (root_of lg) shift_of (2 ^ lg) filled long (shift_coset lg small) (value_in_ring goldilocks v) vanishes i inside
+      (rw (lower_root lg part r small within) at (sym (divisor-at t l) ∙ z))
+
+  -- the quotients of what divides by 2^part are the inverses
+  pub inverses_made : (numerator : F) (inverses : List F) → same (product numerator (twos part)) (residue 1)
+      → ((t : ℕ) → t < 2 ^ part → same (product (item inverses t) (item divisors t)) numerator)
+      → (t : ℕ) → t < 2 ^ part → same (product (product (item inverses t) (value_in_ring goldilocks v (coset_point part t))) (twos part)) (residue 1)
+  inverses_made numerator inverses half each t l =
+      let i = item inverses t in
+      let x = value_in_ring goldilocks v (coset_point part t) in
+      let is : item divisors t ≡ x = same_number (item divisors t) x (divisor-at t l) in
+      combine2_same equality group commutes ring (i ∷ x ∷ numerator ∷ twos part ∷ []) ((v0 ⊗ v1) ⊗ v3) 𝟙 v3 (v0 ⊗ v1) v2 𝟙 (v2 ⊗ v3) 𝟙 (rw is at (each t l)) half refl

@@ -1,0 +1,52 @@
+use Rattle.std.proofs.Common.{◌≡◌, ◌∙◌, ◌++◌, ◌^◌, List, length, take, drop, ap, arith}
+use Rattle.math_base.specs.declared.fields.goldilocks.F.{F}
+use Rattle.math_base.specs.Elements.{residue, shift_of}
+use Rattle.math_base.proofs.ElementNumbers.{same_number}
+use Rattle.math_base.proofs.WholeWrites.{take-written}
+use Rattle.math_cosets.specs.CosetDivisions.{AreDividedInverses, AreFactors}
+use Rattle.math_cosets.specs.RootTrees.{IsTreeOf}
+use Rattle.math_cosets.proofs.SameItems.{same_are_equal}
+use Rattle.math_cosets.proofs.dividing.coset_division.Goals as goal
+
+pub divided_inverses-requires-clause-vanishes : goal.divided_inverses-requires-clause-vanishes
+divided_inverses-requires-clause-vanishes c =
+    let copied : c.deref_mut.result.now ≡ c.in_ok-factors.factors.items =
+    c.deref_mut.ensures.value ∙ same_are_equal c.in_ok-divisors.divisors.items c.deref.result.now c.in_ok-divisors.ensures ∙ c.deref.ensures.value in
+    rw copied c.in_ok-factors.ensures.vanishes
+
+pub divided_inverses-requires-clause-step : goal.divided_inverses-requires-clause-step
+divided_inverses-requires-clause-step c = rw (same_number c.in_ok-shift.shift shift_of c.in_ok-shift.ensures.ok) at c.squared-step.ensures
+
+pub returns-clause-division : goal.returns-clause-division
+returns-clause-division c =
+    let v = c.in_ok-factors.factors.items in
+    let shift : c.in_ok-shift.shift ≡ shift_of = same_number c.in_ok-shift.shift shift_of c.in_ok-shift.ensures.ok in
+    let copied : c.deref_mut.result.now ≡ v =
+    c.deref_mut.ensures.value ∙ same_are_equal c.in_ok-divisors.divisors.items c.deref.result.now c.in_ok-divisors.ensures ∙ c.deref.ensures.value in
+    let new = c.write_factors.new.cells in
+    let p = c.in_ok-factors.factors in
+    let long : length new ≡ 2 ^ c.args.lg = c.write_factors.auto.cells ∙ ap length c.deref_mut-2.ensures.value ∙ c.in_ok-factors.ensures.count in
+    let written : take p.len (new ++ drop (length new) p.items) ≡ new = take-written p.len p.items new p.ok.0 (c.write_factors.auto.cells ∙ ap length c.deref_mut-2.ensures.value) in
+    let factors : AreFactors c.args.lg c.args.part c.squared-step.result v new = rw c.deref_mut-2.ensures.value at c.in_ok-write_factors.ensures in
+    let inverses : AreDividedInverses c.args.part v c.in_ok-inverses.inverses.items = rw copied at c.in_ok-inverses.ensures.inverses in
+    record {
+      domain = c.requires.domain;
+      least = c.requires.least;
+      part = c.requires.part;
+      points = c.requires.points;
+      some = c.requires.some;
+      few = c.requires.few;
+      v = v;
+      size = c.in_ok-factors.ensures.count;
+      vanishes = c.in_ok-factors.ensures.vanishes;
+      step = rw shift at c.squared-step.ensures;
+      factor_count = rw written long;
+      factors = rw written factors;
+      roots = c.in_ok-roots.roots.items;
+      domain_tree = rw (same_number c.from.result (residue 1) c.from.ensures) at c.in_ok-roots.ensures.tree;
+      domain_inverses = c.in_ok-roots.ensures.inverses;
+      coset_tree = rw shift at c.in_ok-coset.ensures.tree;
+      coset_inverses = c.in_ok-coset.ensures.inverses;
+      inverse_count = c.in_ok-inverses.ensures.count;
+      inverses = inverses;
+    }
