@@ -29,13 +29,7 @@ pub mod WeightedColumns
 pub mod ChosenRows
 pub mod UnitShards
 pub mod WeighedRows
-pub mod FoldedColumns
-pub mod CosetParts
-pub mod DividedColumns
-pub mod MadeDivisions
 pub mod PutCoefficients
-pub mod PlacedRows
-pub mod RestoredColumns
 pub mod RestoredRows
 pub mod JoinedRows
 pub mod WordShards

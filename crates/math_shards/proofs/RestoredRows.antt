@@ -11,9 +11,9 @@ use Rattle.math_base.specs.declared.fields.goldilocks.F.{F}
 use Rattle.math_base.specs.Elements.{number}
 use Rattle.math_transforms.specs.DomainValues.{matrix_of}
 use Rattle.math_shards.specs.Fitting.{HasValuesOf, distinct_among}
-use Rattle.math_shards.specs.Restored.{HaveCellsAsValues}
+use Rattle.math_cosets.specs.Restored.{AreDistinct, HaveCellsAsValues}
 use Rattle.math_shards.specs.Shards.{value_at}
-use Rattle.math_shards.specs.Weights.{AreChosen, AreDistinct}
+use Rattle.math_shards.specs.Weights.{AreChosen}
 use Rattle.math_shards.proofs.ChosenRows.{cell-at, count-kept, distinct-kept, is_one_of}
 use Rattle.math_shards.proofs.CountedIndices.{weight, weight_kept}
 use Rattle.math_shards.proofs.PutCoefficients.{column_in}

@@ -15,10 +15,11 @@ use Rattle.math_ntt.proofs.MatrixPlaces.{columns_are_full}
 use Rattle.math_transforms.specs.Matrices.{IsOfSize, MatrixOf, column_of}
 use Rattle.math_transforms.proofs.MissingPlaces.{count_both}
 use Rattle.math_transforms.proofs.PresentIndices.{lg-only}
+use Rattle.math_cosets.specs.Restored.{AreDistinct}
 use Rattle.math_shards.specs.declared.shards.Shard.{Shard}
 use Rattle.math_shards.specs.Joining.{HoldsShards, IsSound}
 use Rattle.math_shards.specs.Shards.{has_index, value_at}
-use Rattle.math_shards.specs.Weights.{AreDistinct, AreUnitShards, AreWeightsOf, weight_polynomial}
+use Rattle.math_shards.specs.Weights.{AreUnitShards, AreWeightsOf, weight_polynomial}
 use Rattle.math_shards.proofs.ChosenRows.{count-kept, is_one_of}
 use Rattle.math_shards.proofs.FilledShards.{count_filled, index_there}
 use Rattle.math_shards.proofs.RecoveredShards.{FitColumns, cell_of_shard}

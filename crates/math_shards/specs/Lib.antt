@@ -3,8 +3,6 @@ pub mod Strips
 pub mod Unpacking
 pub mod ShardRows
 pub mod Weights
-pub mod CosetDivisions
-pub mod Restored
 pub mod Fitting
 pub mod Cosets
 pub mod Joining

@@ -8,13 +8,10 @@ use Rattle.math_base.specs.declared.fields.goldilocks.F.{F}
 use Rattle.math_base.specs.Elements.{residue, same, sum, product}
 use Rattle.math_transforms.specs.DomainValues.{matrix_of}
 use Rattle.math_transforms.specs.Matrices.{MatrixOf, column_of, row_of}
+use Rattle.math_cosets.specs.Restored.{AreDistinct}
 use Rattle.math_shards.specs.declared.shards.Shard.{Shard}
 use Rattle.math_shards.specs.Fitting.{distinct_among}
 use Rattle.math_shards.specs.Shards.{value_at}
-
--- no number stands twice
-abbrev pub AreDistinct : List ℕ → Type 0
-AreDistinct numbers = (i j : ℕ) → i < j → j < length numbers → slice_index_or numbers i 0 ≢ slice_index_or numbers j 0
 
 -- each index is that of one of the rows, none stands twice, and `width` cells are found for each; where there are as many indices as rows, they are the
 -- indices of all rows, in order, and the cells found are the cells of these

@@ -15,7 +15,6 @@ ghost use Rattle.std.specs.Prelude.{◌≡◌, alloc_error};
 ghost use Rattle.math_shards.specs.declared.shards.Error.TheVariants.{Memory};
 
 mod correcting;
-mod dividing;
 mod encoding;
 mod fitting;
 mod joining;

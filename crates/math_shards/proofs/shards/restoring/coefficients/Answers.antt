@@ -5,7 +5,7 @@ use Rattle.math_base.specs.declared.fields.goldilocks.F.{F}
 use Rattle.math_transforms.specs.DomainValues.{matrix_of}
 use Rattle.math_transforms.proofs.PresentIndices.{lg-only}
 use Rattle.math_shards.specs.Fitting.{HasValuesOf}
-use Rattle.math_shards.specs.Restored.{HaveCellsAsValues}
+use Rattle.math_cosets.specs.Restored.{HaveCellsAsValues}
 use Rattle.math_shards.proofs.ChosenRows.{below-kept}
 use Rattle.math_shards.proofs.CosetSizes.{least_lg}
 use Rattle.math_shards.proofs.JoinedShards.{domain_is_small}
