@@ -1,137 +1,47 @@
 -- Values of columns whose coefficients are sums of multiples, and blocks of rows of which one is added to another.
-use Rattle.std.proofs.Common.{◌≡◌, ◌∙◌, ℕ, suc, ◌+◌, ◌-◌, ◌*◌, ◌<◌, ◌≤◌, ◌^◌, List, [], ◌∷◌, ◌++◌, length, map, take, drop, get_or, refl, sym, ap, ap₂, pow-add, arith}
-use Rattle.std.proofs.lemmas.List.{ext_get_or, get_or-drop, get_or-take, get_or_append_left, length-append, length-map, length-take-le, length-drop, map-append}
+use Rattle.std.proofs.Common.{◌≡◌, ◌∙◌, ℕ, suc, ◌+◌, ◌-◌, ◌*◌, ◌<◌, ◌≤◌, ◌^◌, List, [], ◌∷◌, ◌++◌, length, take, drop, refl, sym, ap, pow-add, arith}
+use Rattle.std.proofs.lemmas.List.{ext_get_or, get_or-drop, get_or-take, get_or_append_left, length-append, length-take-le, length-drop}
 use Rattle.std.proofs.lemmas.Nat.{mul-add-lt, mul-le}
 use borrow.Rule.Slice.PartMut.{put_mid}
-use Rattle.math_theory.specs.OverRing as OverRing
-use Rattle.math_theory.specs.Rings.{CommutativeRing}
-use Rattle.math_theory.proofs.classes.Classes.{Class, class, class_same, same_class, ring_of_classes}
-use Rattle.math_theory.proofs.classes.ClassesOfLists.{coefficient-class, power-class, value-class}
-use Rattle.math_theory.proofs.classes.RingUpToSame.{ring_same}
-use Rattle.math_theory.proofs.polynomials.Coefficients.{coefficient-multiple, coefficient-sum, length-sum}
-use Rattle.math_theory.proofs.polynomials.Values.{value-multiple, value-sum}
-use Rattle.math_theory.proofs.rings.Normal.{◌⊕◌, ◌⊗◌, 𝟙, v0, v1, v2, v3, v4}
+use Rattle.math_theory.proofs.rings.Normal.{ring, ◌⊕◌, ◌⊗◌, 𝟙, v0, v1, v2, v3, v4}
 use Rattle.math_theory.proofs.transforms.EvenOddItems.{value-append}
 use Rattle.math_base.specs.declared.fields.goldilocks.F.{F}
-use Rattle.math_base.specs.ElementLaws.{equality, group, commutes, ring}
-use Rattle.math_base.specs.Elements.{product, residue, same, sum}
-use Rattle.math_base.specs.Polynomials.{value_in_ring}
+use Rattle.math_base.specs.Elements.{number, product, residue, same, sum}
 use Rattle.math_base.proofs.ElementNumbers.{same_number}
 use Rattle.math_transforms.specs.DomainValues.{matrix_of}
-use Rattle.math_transforms.specs.Matrices.{column_of}
 use Rattle.math_transforms.proofs.ColumnHalves.{column-halves}
 use Rattle.math_transforms.proofs.DomainSteps.{column-cell}
 use Rattle.math_transforms.proofs.MatrixRows.{length-column}
 use Rattle.math_transforms.proofs.PowersOfTwo.{power_of_two-rises}
 use Rattle.math_transforms.proofs.WrittenRows.{part-read, put-before, put-within}
-use Rattle.math_values.specs.Values.{goldilocks}
 use Rattle.math_cosets.specs.CosetDivisions.{raised}
 use Rattle.math_cosets.specs.Quarters.{item}
+use Rattle.math_cosets.proofs.CombinedColumns.{at, column, columns-equal, combined, combined-item, combined-length, combined-value, nought}
+use Rattle.math_cosets.proofs.ElementRing.{elements}
 
--- the ring of the classes of same elements
-abbrev pub C : CommutativeRing (Class equality)
-C = ring_of_classes equality group commutes ring
-
--- the class of an element
-abbrev pub class_of : F → Class equality
-class_of a = class equality a
-
--- the classes of the items of a list
-abbrev classes : List F → List (Class equality)
-classes p = map (class equality) p
-
-abbrev pub nought : F
-nought = residue 0
-
--- column k of n rows of c cells
-abbrev pub column : ℕ → ℕ → ℕ → List F → List F
-column n c k cells = column_of nought (matrix_of n c cells) k
-
--- the value of a list of coefficients
-abbrev pub at : F → List F → F
-at x p = value_in_ring goldilocks p x
-
--- the value of two lists one after the other
-pub at-append : (x : F) (p q : List F) → at x (p ++ q) ≡ sum (at x p) (product (raised x (length p)) (at x q))
-at-append x p q =
-    let X = class_of x in
-    same_number (at x (p ++ q)) (sum (at x p) (product (raised x (length p)) (at x q)))
-    (same_class equality _ _
-    (sym (value-class equality group commutes ring x (p ++ q))
-    ∙ ap (OverRing.value C X) (map-append (class equality) p q)
-    ∙ value-append C X (classes p) (classes q)
-    ∙ ap₂ C.sum (value-class equality group commutes ring x p)
-    (ap₂ C.product (ap (OverRing.power C X) (length-map p (class equality)) ∙ power-class equality group commutes ring x (length p)) (value-class equality group commutes ring x q))))
-
-module _ (x u v : F) (p q s : List F) (second : length q ≡ length p) (third : length s ≡ length p)
-    (sums : (i : ℕ) → i < length p → same (item s i) (sum (product (item p i) u) (product (item q i) v))) where
-  -- the sum of the multiples, in the ring of classes
-  abbrev total : List (Class equality)
-  total = OverRing.polynomial_sum C (OverRing.polynomial_multiple C (classes p) (class_of u)) (OverRing.polynomial_multiple C (classes q) (class_of v))
-
-  multiple-length : (r : List F) (w : F) → length (OverRing.polynomial_multiple C (classes r) (class_of w)) ≡ length r
-  multiple-length r w = length-map (classes r) (λ a. C.product a (class_of w)) ∙ length-map r (class equality)
-
-  multiple-item : (r : List F) (w : F) (i : ℕ) → get_or (OverRing.polynomial_multiple C (classes r) (class_of w)) i C.zero ≡ class_of (product (item r i) w)
-  multiple-item r w i = coefficient-multiple C (classes r) (class_of w) i ∙ ap (λ a. C.product a (class_of w)) (coefficient-class equality group commutes ring r i)
-
-  total-item : (i : ℕ) → i < length p → get_or (classes s) i C.zero ≡ get_or total i C.zero
-  total-item i b =
-      coefficient-class equality group commutes ring s i ∙ class_same equality _ _ (sums i b)
-      ∙ sym (coefficient-sum C (OverRing.polynomial_multiple C (classes p) (class_of u)) (OverRing.polynomial_multiple C (classes q) (class_of v)) i
-      ∙ ap₂ C.sum (multiple-item p u i) (multiple-item q v i))
-
-  classes-total : classes s ≡ total
-  classes-total =
-      let long : length (classes s) ≡ length s = length-map s (class equality) in
-      ext_get_or C.zero (classes s) total
-      (omega (
-        arith,
-        long,
-        second,
-        third,
-        multiple-length p u,
-        multiple-length q v,
-        length-sum C.sum (OverRing.polynomial_multiple C (classes p) (class_of u)) (OverRing.polynomial_multiple C (classes q) (class_of v)),
-      ))
-      (λ i b. total-item i (omega (arith, b, long, third)))
-
-  -- where each coefficient is a sum of multiples, the value is that of the values
-  pub at-total : at x s ≡ sum (product (at x p) u) (product (at x q) v)
-  at-total =
-      let X = class_of x in
-      same_number (at x s) (sum (product (at x p) u) (product (at x q) v))
-      (same_class equality _ _
-      (sym (value-class equality group commutes ring x s)
-      ∙ ap (OverRing.value C X) classes-total
-      ∙ value-sum C X (OverRing.polynomial_multiple C (classes p) (class_of u)) (OverRing.polynomial_multiple C (classes q) (class_of v))
-      ∙ ap₂ C.sum (value-multiple C X (classes p) (class_of u) ∙ ap (λ a. C.product a (class_of u)) (value-class equality group commutes ring x p))
-      (value-multiple C X (classes q) (class_of v) ∙ ap (λ a. C.product a (class_of v)) (value-class equality group commutes ring x q))))
+-- where each coefficient is a sum of multiples, the value is that of the values
+at-total : (x u v : F) (p q s : List F) → length q ≡ length p → length s ≡ length p → ((i : ℕ) → i < length p → same (item s i) (sum (product (item p i) u) (product (item q i) v)))
+    → at x s ≡ sum (product (at x p) u) (product (at x q) v)
+at-total x u v p q s second third sums =
+    ap (at x)
+    (ext_get_or nought s (combined u v p q) (third ∙ sym (combined-length u v p q second))
+    (λ i b. same_number _ _ (sums i (omega (arith, b, third))) ∙ sym (combined-item u v p q i)))
+    ∙ combined-value u v x p q
 
 -- where each coefficient is a sum with a multiple, the value is that of the values
 pub at-multiple : (x r : F) (p q s : List F) → length q ≡ length p → length s ≡ length p → ((i : ℕ) → i < length p → same (item s i) (sum (item p i) (product (item q i) r)))
     → at x s ≡ sum (at x p) (product (at x q) r)
 at-multiple x r p q s second third sums =
     at-total x (residue 1) r p q s second third
-    (λ i b. sums i b ∙ ring_same equality group commutes ring (item p i ∷ item q i ∷ r ∷ []) (v0 ⊕ (v1 ⊗ v2)) ((v0 ⊗ 𝟙) ⊕ (v1 ⊗ v2)) refl)
-    ∙ same_number (sum (product (at x p) (residue 1)) (product (at x q) r)) (sum (at x p) (product (at x q) r))
-    (ring_same equality group commutes ring (at x p ∷ at x q ∷ r ∷ []) ((v0 ⊗ 𝟙) ⊕ (v1 ⊗ v2)) (v0 ⊕ (v1 ⊗ v2)) refl)
+    (λ i b. sums i b ∙ ap number (ring elements (item p i ∷ item q i ∷ r ∷ []) (v0 ⊕ (v1 ⊗ v2)) ((v0 ⊗ 𝟙) ⊕ (v1 ⊗ v2)) refl))
+    ∙ ring elements (at x p ∷ at x q ∷ r ∷ []) ((v0 ⊗ 𝟙) ⊕ (v1 ⊗ v2)) (v0 ⊕ (v1 ⊗ v2)) refl
 
 -- where each coefficient is a sum, the value is that of the values
 pub at-sum : (x : F) (p q s : List F) → length q ≡ length p → length s ≡ length p → ((i : ℕ) → i < length p → same (item s i) (sum (item p i) (item q i))) → at x s ≡ sum (at x p) (at x q)
 at-sum x p q s second third sums =
     at-multiple x (residue 1) p q s second third
-    (λ i b. sums i b ∙ ring_same equality group commutes ring (item p i ∷ item q i ∷ []) (v0 ⊕ v1) (v0 ⊕ (v1 ⊗ 𝟙)) refl)
-    ∙ same_number (sum (at x p) (product (at x q) (residue 1))) (sum (at x p) (at x q)) (ring_same equality group commutes ring (at x p ∷ at x q ∷ []) (v0 ⊕ (v1 ⊗ 𝟙)) (v0 ⊕ v1) refl)
-
--- columns of cells that are the same ones are one
-pub columns-equal : (n c k : ℕ) (xs ys : List F) → k < c → ((j : ℕ) → j < n * c → item xs j ≡ item ys j) → column n c k xs ≡ column n c k ys
-columns-equal n c k xs ys l h =
-    let long : length (column n c k xs) ≡ n = length-column nought (matrix_of n c xs) k in
-    ext_get_or nought (column n c k xs) (column n c k ys) (long ∙ sym (length-column nought (matrix_of n c ys) k))
-    (λ i b. let inside : i < n = omega (arith, b, long) in
-    let place : i * c + k < c * n = mul-add-lt i c k n inside l in
-    column-cell nought n c k i xs inside l ∙ h (i * c + k) (omega (arith, place)) ∙ sym (column-cell nought n c k i ys inside l))
+    (λ i b. sums i b ∙ ap number (ring elements (item p i ∷ item q i ∷ []) (v0 ⊕ v1) (v0 ⊕ (v1 ⊗ 𝟙)) refl))
+    ∙ ring elements (at x p ∷ at x q ∷ []) (v0 ⊕ (v1 ⊗ 𝟙)) (v0 ⊕ v1) refl
 
 module _ (a m c k : ℕ) (x step : F) (old new : List F) (l : k < c) (before : (j : ℕ) → j < a * c → item new j ≡ item old j)
     (sums : (j : ℕ) → j < m * c → same (item new (a * c + j)) (sum (item old (a * c + j)) (product (item old (a * c + (m * c + j))) step))) (power : same (raised x m) step) where
@@ -178,7 +88,7 @@ module _ (a m c k : ℕ) (x step : F) (old new : List F) (l : k < c) (before : (
 
   value-new : at x (column (a + m) c k new) ≡ sum (at x first) (product (raised x (length first)) (sum (at x block) (product (at x behind) step)))
   value-new =
-      ap (at x) (column-halves nought a m c k new ∙ ap (λ p. p ++ added) first-new) ∙ at-append x first added
+      ap (at x) (column-halves nought a m c k new ∙ ap (λ p. p ++ added) first-new) ∙ value-append elements x first added
       ∙ ap (λ y. sum (at x first) (product (raised x (length first)) y)) value-added
 
   value-old : at x (column (a + (m + m)) c k old) ≡ sum (at x first) (product (raised x (length first)) (sum (at x block) (product step (at x behind))))
@@ -186,14 +96,14 @@ module _ (a m c k : ℕ) (x step : F) (old new : List F) (l : k < c) (before : (
       let long : length block ≡ m = length-column nought (matrix_of m c (take (m * c) (drop (a * c) old))) k in
       let turn : raised x (length block) ≡ step = ap (raised x) long ∙ same_number (raised x m) step power in
       ap (at x) (column-halves nought a (m + m) c k old ∙ ap (λ p. first ++ p) (column-halves nought m m c k (drop (a * c) old)))
-      ∙ at-append x first (block ++ behind)
-      ∙ ap (λ y. sum (at x first) (product (raised x (length first)) y)) (at-append x block behind ∙ ap (λ w. sum (at x block) (product w (at x behind))) turn)
+      ∙ value-append elements x first (block ++ behind)
+      ∙ ap (λ y. sum (at x first) (product (raised x (length first)) y)) (value-append elements x block behind ∙ ap (λ w. sum (at x block) (product w (at x behind))) turn)
 
   -- a block of rows, times the step, added to the one before it
   pub block-added : same (at x (column (a + m) c k new)) (at x (column (a + (m + m)) c k old))
   block-added =
       rw (value-new, value-old)
-      (ring_same equality group commutes ring (at x first ∷ raised x (length first) ∷ at x block ∷ at x behind ∷ step ∷ []) (v0 ⊕ (v1 ⊗ (v2 ⊕ (v3 ⊗ v4)))) (v0 ⊕ (v1 ⊗ (v2 ⊕ (v4 ⊗ v3)))) refl)
+      (ap number (ring elements (at x first ∷ raised x (length first) ∷ at x block ∷ at x behind ∷ step ∷ []) (v0 ⊕ (v1 ⊗ (v2 ⊕ (v3 ⊗ v4)))) (v0 ⊕ (v1 ⊗ (v2 ⊕ (v4 ⊗ v3)))) refl))
 
 -- the last block of those that are left, times the step, added to the one before it, and dropped
 pub block-folded : (left n m c k : ℕ) (x step : F) (cells front back sums : List F) → 1 < left → k < c → n ≡ m → same (raised x m) step
@@ -234,18 +144,16 @@ block-folded left n m c k x step cells front back sums some l e power front_is f
     (λ j b. let inside : j < n * c = omega (arith, b, count) in
     rw (rows, count, here j inside, ← first j inside, ← second j inside) (adds j inside)) power)
 
--- some blocks of rows are within all of them
-pub blocks-within : (lg part left n c size : ℕ) → part ≤ lg → n ≡ 2 ^ part → left ≤ 2 ^ (lg - part) → size ≡ 2 ^ lg * c → left * (n * c) ≤ size
-blocks-within lg part left n c size within e few all =
-    let whole : lg - part + part ≡ lg = omega (arith, within) in
-    let rows : 2 ^ lg ≡ 2 ^ (lg - part) * 2 ^ part = ap (λ p. 2 ^ p) (sym whole) ∙ pow-add 2 (lg - part) part in
-    let up : left * (n * c) ≤ 2 ^ (lg - part) * (n * c) = mul-le left (n * c) (2 ^ (lg - part)) (n * c) few (omega arith) in
-    let same_cells : 2 ^ (lg - part) * (n * c) ≡ 2 ^ lg * c = ap (λ p. 2 ^ (lg - part) * (p * c)) e ∙ grind arith ∙ ap (λ p. p * c) (sym rows) in
-    omega (arith, up, same_cells, all)
-
 -- all blocks are all rows
 pub blocks-all : (lg part : ℕ) → part ≤ lg → 2 ^ (lg - part) * 2 ^ part ≡ 2 ^ lg
 blocks-all lg part within = let whole : lg - part + part ≡ lg = omega (arith, within) in sym (pow-add 2 (lg - part) part) ∙ ap (λ p. 2 ^ p) whole
+
+-- some blocks of rows are within all of them
+pub blocks-within : (lg part left n c size : ℕ) → part ≤ lg → n ≡ 2 ^ part → left ≤ 2 ^ (lg - part) → size ≡ 2 ^ lg * c → left * (n * c) ≤ size
+blocks-within lg part left n c size within e few all =
+    let up : left * (n * c) ≤ 2 ^ (lg - part) * (n * c) = mul-le left (n * c) (2 ^ (lg - part)) (n * c) few (omega arith) in
+    let same_cells : 2 ^ (lg - part) * (n * c) ≡ 2 ^ lg * c = ap (λ p. 2 ^ (lg - part) * (p * c)) e ∙ grind arith ∙ ap (λ p. p * c) (blocks-all lg part within) in
+    omega (arith, up, same_cells, all)
 
 -- fewer rows are within more
 pub rows-within : (part lg n c size : ℕ) → part ≤ lg → n ≡ 2 ^ part → size ≡ 2 ^ lg * c → n * c ≤ size

@@ -1,16 +1,15 @@
 -- Division of columns of values on part of a coset: what it gives fits the cells that are there.
-use Rattle.std.proofs.Common.{◌≡◌, ◌∙◌, inl, inr, ℕ, ◌+◌, ◌-◌, ◌*◌, ◌<◌, ◌≤◌, ◌^◌, List, [], ◌∷◌, ◌++◌, length, map, take, refl, sym, ap, ap₂, arith}
+use Rattle.std.proofs.Common.{◌≡◌, ◌∙◌, inl, inr, ℕ, ◌+◌, ◌-◌, ◌*◌, ◌<◌, ◌≤◌, ◌^◌, List, [], ◌∷◌, ◌++◌, length, take, refl, sym, ap, ap₂, arith}
 use Rattle.std.proofs.lemmas.Bool.{cases_lt}
 use Rattle.std.proofs.lemmas.List.{length-append}
-use Rattle.std.proofs.lemmas.List.FromFn.{get_or-map-range_with_len, length-map-range_with_len}
 use Rattle.std.proofs.lemmas.Nat.{pow_pos}
-use Rattle.std.specs.List.{range_with_len}
 use Rattle.math_theory.specs.BitReversal.{bit_reversed}
 use Rattle.math_theory.specs.Recovery.{Fits}
 use Rattle.math_theory.proofs.classes.RingUpToSame.{combine2_same, combine3_same, ring_same}
 use Rattle.math_theory.proofs.recovery.RecoveredColumns.{recovered-fits}
 use Rattle.math_theory.proofs.rings.Normal.{◌⊕◌, ◌⊗◌, minus, 𝟙, v0, v1, v2, v3, v4, v5, v6}
 use Rattle.math_theory.proofs.transforms.BitOrder.{bit_reversed-below, bit_reversed-twice}
+use Rattle.math_theory.proofs.transforms.EvenOddItems.{value-append}
 use Rattle.math_base.specs.declared.fields.goldilocks.F.{F}
 use Rattle.math_base.specs.ElementLaws.{equality, group, commutes, ring}
 use Rattle.math_base.specs.ElementRootLaws.{field}
@@ -25,33 +24,23 @@ use Rattle.math_cosets.specs.declared.dividing.CosetDivision.{CosetDivision}
 use Rattle.math_cosets.specs.CosetDivisions.{AreFolded, AreSumsOf, IsCosetDivision, coset_point, domain_point, power_below, raised}
 use Rattle.math_cosets.specs.Quarters.{item}
 use Rattle.math_cosets.specs.RootTrees.{AreMultiplesBelow, AreValuesBelow, class_at, twos}
-use Rattle.math_cosets.proofs.BlockColumns.{at, at-append, at-total, blocks-all, column, column-before, column-taken, nought, rows-within}
-use Rattle.math_cosets.proofs.CosetPowers.{coset-power, even-power, lower_root, minus-nonzero, odd-power, one-product, plus-nonzero, power-below, shift_coset, tree-point, twos-more}
-
--- the sum of the multiples of two lists, item by item
-abbrev combined : List F → List F → F → F → List F
-combined p q u v = map (λ i. sum (product (item p i) u) (product (item q i) v)) (range_with_len 0 (length p))
-
-combined-length : (p q : List F) (u v : F) → length (combined p q u v) ≡ length p
-combined-length p q u v = length-map-range_with_len (λ i. sum (product (item p i) u) (product (item q i) v)) 0 (length p)
-
--- its value is the sum of the multiples of the values
-combined-at : (x : F) (p q : List F) (u v : F) → length q ≡ length p → at x (combined p q u v) ≡ sum (product (at x p) u) (product (at x q) v)
-combined-at x p q u v e =
-    at-total x u v p q (combined p q u v) e (combined-length p q u v)
-    (λ i b. ap number (get_or-map-range_with_len (λ i. sum (product (item p i) u) (product (item q i) v)) 0 (length p) i i nought b (omega arith)))
+use Rattle.math_cosets.proofs.BlockColumns.{blocks-all, column-before, column-taken, rows-within}
+use Rattle.math_cosets.proofs.CombinedColumns.{at, column, combined, combined-length, combined-value, nought}
+use Rattle.math_cosets.proofs.CosetPowers.{coset-power, even-power, minus-nonzero, odd-power, plus-nonzero, power-below, shift_coset, tree-point, twos-more}
+use Rattle.math_cosets.proofs.ElementRing.{elements}
+use Rattle.math_cosets.proofs.RaisedElements.{lower_root}
 
 -- the polynomial of twice as many coefficients that has the multiples of both lists as its values
 abbrev joined : List F → List F → F → F → List F
-joined low high p q = combined low high p q ++ combined low high p (negative q)
+joined low high p q = combined p q low high ++ combined p (negative q) low high
 
+-- its value
 joined-at : (x : F) (low high : List F) (p q : F) → length high ≡ length low
     → at x (joined low high p q)
     ≡ sum (sum (product (at x low) p) (product (at x high) q)) (product (raised x (length low)) (sum (product (at x low) p) (product (at x high) (negative q))))
 joined-at x low high p q e =
-    at-append x (combined low high p q) (combined low high p (negative q))
-    ∙ ap₂ sum (combined-at x low high p q e)
-    (ap₂ product (ap (raised x) (combined-length low high p q)) (combined-at x low high p (negative q) e))
+    value-append elements x (combined p q low high) (combined p (negative q) low high)
+    ∙ ap₂ sum (combined-value p q x low high) (ap₂ product (ap (raised x) (combined-length p q low high e)) (combined-value p (negative q) x low high))
 
 module _ (d : CosetDivision) (D : IsCosetDivision d) (c k : ℕ) (l : k < c) where
   abbrev n : ℕ
@@ -70,7 +59,7 @@ module _ (d : CosetDivision) (D : IsCosetDivision d) (c k : ℕ) (l : k < c) whe
   -- a point of the domain, times its class in the tree of the inverses, is one
   domain-class : (t : ℕ) → t < n → same (product (domain_point d.lg t) (class_at d.domain.items (n + t))) (residue 1)
   domain-class t b =
-      ap (λ x. number (product x (class_at d.domain.items (n + t)))) (sym (one-product (domain_point d.lg t)))
+      ap (λ x. number (product x (class_at d.domain.items (n + t)))) (sym (elements.product_one (domain_point d.lg t)))
       ∙ tree-point (residue 1) d.lg t D.roots d.domain.items D.domain_tree D.domain_inverses some b
 
   -- a point of the coset in natural order
@@ -160,11 +149,11 @@ module _ (d : CosetDivision) (D : IsCosetDivision d) (c k : ℕ) (l : k < c) whe
 
       pub g-count : length g ≡ n
       g-count =
-          length-append (combined low high (inverse plus) (inverse less)) (combined low high (inverse plus) (negative (inverse less)))
+          length-append (combined (inverse plus) (inverse less) low high) (combined (inverse plus) (negative (inverse less)) low high)
           ∙ omega (
             arith,
-            combined-length low high (inverse plus) (inverse less),
-            combined-length low high (inverse plus) (negative (inverse less)),
+            combined-length (inverse plus) (inverse less) low high (high_count ∙ sym low_count),
+            combined-length (inverse plus) (negative (inverse less)) low high (high_count ∙ sym low_count),
             low_count,
             power_of_two-double d.lg some,
           )

@@ -8,7 +8,6 @@ pub mod FourValues
 pub mod InverseTrees
 pub mod MadeDivisions
 pub mod MultiplesBelow
-pub mod NegatedElements
 pub mod PlacedRows
 pub mod PointsBelow
 pub mod QuarterColumns
@@ -16,7 +15,6 @@ pub mod RaisedElements
 pub mod RestoredColumns
 pub mod ReversedBits
 pub mod RootPlaces
-pub mod SameItems
 pub mod SummedHalves
 pub mod ValuesBelow
 pub mod WrittenItems

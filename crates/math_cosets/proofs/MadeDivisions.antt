@@ -1,10 +1,10 @@
 -- What a division on a coset is made of: factors of the values, and inverses of the values of the polynomial that vanishes at the missing points.
-use Rattle.std.proofs.Common.{◌≡◌, ◌∙◌, ℕ, ◌+◌, ◌-◌, ◌*◌, ◌<◌, ◌≤◌, ◌^◌, List, [], ◌∷◌, Bool, length, take, get_or, refl, sym, ap, pow-add, arith}
+use Rattle.std.proofs.Common.{◌≡◌, ◌∙◌, ℕ, ◌+◌, ◌-◌, ◌*◌, ◌<◌, ◌≤◌, ◌^◌, List, [], ◌∷◌, Bool, length, take, get_or, refl, sym, ap, arith}
 use Rattle.std.proofs.Math.Nat.{mul-lt-mul_of_pos_left}
 use Rattle.std.proofs.lemmas.List.{get_or-take}
 use Rattle.std.proofs.lemmas.Nat.{pow_pos}
 use Rattle.math_theory.specs.BitReversal.{bit_reversed}
-use Rattle.math_theory.proofs.classes.RingUpToSame.{combine_same, combine2_same, ring_same}
+use Rattle.math_theory.proofs.classes.RingUpToSame.{combine_same, combine2_same}
 use Rattle.math_theory.proofs.recovery.RecoveredColumns.{coset_nonzero}
 use Rattle.math_theory.proofs.rings.Normal.{◌⊕◌, ◌⊖◌, ◌⊗◌, 𝟙, v0, v1, v2, v3}
 use Rattle.math_theory.proofs.transforms.BitOrder.{bit_reversed-below}
@@ -19,18 +19,14 @@ use Rattle.math_transforms.specs.RowProducts.{AreRowProducts}
 use Rattle.math_transforms.proofs.DomainSteps.{column_of-one}
 use Rattle.math_transforms.proofs.PowersOfTwo.{power_of_two-double}
 use Rattle.math_values.specs.Values.{goldilocks}
-use Rattle.math_cosets.specs.CosetDivisions.{AreFactors, AreFolded, coset_point, domain_point, power_below, raised}
+use Rattle.math_cosets.specs.CosetDivisions.{AreFolded, coset_point, domain_point, power_below, raised}
 use Rattle.math_cosets.specs.Quarters.{item}
 use Rattle.math_cosets.specs.RootTrees.{AreValuesBelow, IsTreeOf, class_at, twos}
-use Rattle.math_cosets.proofs.BlockColumns.{columns-equal, nought}
-use Rattle.math_cosets.proofs.CosetPowers.{coset-power, lower_root, one-product, shift_coset}
-
--- so many lower powers are within the domain
-steps_within : (lg part : ℕ) → part ≤ lg → 2 ^ (lg - part) * 2 ^ part ≤ 2 ^ lg
-steps_within lg part within =
-    let whole : lg - part + part ≡ lg = omega (arith, within) in
-    let all : 2 ^ lg ≡ 2 ^ (lg - part) * 2 ^ part = ap (λ n. 2 ^ n) (sym whole) ∙ pow-add 2 (lg - part) part in
-    omega (arith, all)
+use Rattle.math_cosets.proofs.BlockColumns.{blocks-all}
+use Rattle.math_cosets.proofs.CombinedColumns.{columns-equal, nought}
+use Rattle.math_cosets.proofs.CosetPowers.{coset-power, shift_coset}
+use Rattle.math_cosets.proofs.ElementRing.{elements}
+use Rattle.math_cosets.proofs.RaisedElements.{lower_root}
 
 -- The values of v on the domain, and the factors made of them.
 module _ (lg part : ℕ) (step : F) (some : 1 ≤ lg) (v values roots : List F) (size : length v ≡ 2 ^ lg) (tree : IsTreeOf (residue 1) lg roots)
@@ -40,7 +36,7 @@ module _ (lg part : ℕ) (step : F) (some : 1 ≤ lg) (v values roots : List F) 
       let place : t * 1 + 0 ≡ t = omega arith in
       let below : 2 ^ lg * 1 + t ≡ 2 ^ lg + t = omega arith in
       let point : class_at roots (2 ^ lg + t) ≡ domain_point lg t =
-      same_number (class_at roots (2 ^ lg + t)) (product (residue 1) (domain_point lg t)) (tree.points t (omega (arith, some)) l) ∙ one-product (domain_point lg t) in
+      same_number (class_at roots (2 ^ lg + t)) (product (residue 1) (domain_point lg t)) (tree.points t (omega (arith, some)) l) ∙ elements.product_one (domain_point lg t) in
       rw (place, below, point, column_of-one nought (2 ^ lg) v size) at (evaluated t 0 l (omega arith))
 
   -- divided by 2^lg
@@ -110,7 +106,7 @@ module _ (lg part : ℕ) (some : 1 ≤ part) (small : lg ≤ 32) (within : part 
       let r = bit_reversed part t in
       let i = 2 ^ (lg - part) * r in
       let rises : i < 2 ^ (lg - part) * 2 ^ part = mul-lt-mul_of_pos_left (bit_reversed-below part t) (pow_pos (lg - part)) in
-      let inside : i < 2 ^ lg = omega (arith, rises, steps_within lg part within) in
+      let inside : i < 2 ^ lg = omega (arith, rises, blocks-all lg part within) in
       coset_nonzero equality group commutes ring field (root_of lg) shift_of (2 ^ lg) filled long (shift_coset lg small) (value_in_ring goldilocks v) vanishes i inside
       (rw (lower_root lg part r small within) at (sym (divisor-at t l) ∙ z))
 

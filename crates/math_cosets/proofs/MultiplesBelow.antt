@@ -1,18 +1,18 @@
 -- Multiples of coefficients from values at the points below a place of a tree of inverses: of one row, of two halves and of four quarters of the rows.
 use Rattle.std.proofs.Common.{◌≡◌, ◌∙◌, ℕ, suc, ◌+◌, ◌-◌, ◌*◌, ◌<◌, ◌≤◌, ◌^◌, List, [], ◌∷◌, ◌++◌, length, get_or, refl, sym, ap, ap₂, subst, arith}
-use Rattle.std.proofs.lemmas.List.{length-append}
 use Rattle.math_theory.specs.Powers.{power-suc, power-zero}
 use Rattle.math_theory.proofs.rings.Normal.{ring, combine, ◌⊕◌, ◌⊖◌, ◌⊗◌, minus, 𝟙, v0, v1, v2, v3, v4, v5, v6}
 use Rattle.math_theory.proofs.rings.PowerLaws.{power-one}
 use Rattle.math_base.specs.declared.fields.goldilocks.F.{F}
 use Rattle.math_base.specs.Elements.{negative, number, product, residue, same, sum}
 use Rattle.math_base.proofs.ElementNumbers.{same_number}
-use Rattle.math_cosets.specs.Quarters.{AreHalvesJoined, AreQuartersJoined}
+use Rattle.math_cosets.specs.CosetDivisions.{raised}
+use Rattle.math_cosets.specs.Quarters.{AreHalvesJoined, AreQuartersJoined, item}
 use Rattle.math_cosets.specs.RootTrees.{AreMultiplesBelow, IsRootTree, class_at, column_value, twos}
-use Rattle.math_cosets.proofs.CombinedColumns.{at, column, columns-combined, each_row, four, nought, raised}
+use Rattle.math_cosets.proofs.CombinedColumns.{at, column, columns-combined, each_quarter, each_row, four, nought}
 use Rattle.math_cosets.proofs.ElementRing.{elements}
 use Rattle.math_cosets.proofs.FourValues.{cubic, four_times, joined-first, joined-fourth, joined-second, joined-third}
-use Rattle.math_cosets.proofs.PointsBelow.{class-even, class-odd, entry, power-inverse}
+use Rattle.math_cosets.proofs.PointsBelow.{class-twice, class-twice_more, power-inverse}
 use Rattle.math_cosets.proofs.QuarterColumns.{first-power, four-quarters, fourth-power, opposites, point, quarter-place, quarters-value, second-power, squares, third-power}
 use Rattle.math_cosets.proofs.ValuesBelow.{halves-value, row-value}
 
@@ -26,7 +26,7 @@ row-multiples inverses lg place c cells none = λ t k x b l h.
     ap number (row-value lg c k x cells none l ∙ ring elements (get_or cells k nought ∷ []) v0 (v0 ⊗ 𝟙) refl
     ∙ ap₂ (λ i y. product (get_or cells i nought) y) (sym here) (sym unit))
 
-module _ (inverses : List F) (lg place c : ℕ) (r : F) (low high new_low new_high : List F) (two : lg ≡ 1) (is_root : r ≡ entry inverses place)
+module _ (inverses : List F) (lg place c : ℕ) (r : F) (low high new_low new_high : List F) (two : lg ≡ 1) (is_root : r ≡ item inverses place)
     (low_count : length low ≡ c) (new_low_count : length new_low ≡ c) (joins : AreHalvesJoined r low high new_low new_high) where
   abbrev both : ℕ → ℕ → F → Type 0
   both t k y = (x : F) → same (product x (class_at inverses (2 ^ lg * place + t))) (residue 1) → column_value lg c (new_low ++ new_high) k x ≡ product y (twos lg)
@@ -54,7 +54,7 @@ module _ (inverses : List F) (lg place c : ℕ) (r : F) (low high new_low new_hi
       let first : s ≡ 0 = omega (arith, b) in
       let here : s * c + k ≡ k = ap (λ i. i * c + k) first ∙ omega arith in
       let below : 2 ^ lg * place + (0 + s) ≡ 2 * place = omega (arith, place-below, first) in
-      let there : product x r ≡ residue 1 = ap (product x) (is_root ∙ sym (class-even inverses place) ∙ ap (class_at inverses) (sym below)) ∙ same_number _ _ h in
+      let there : product x r ≡ residue 1 = ap (product x) (is_root ∙ sym (class-twice inverses place) ∙ ap (class_at inverses) (sym below)) ∙ same_number _ _ h in
       both-value k x l
       ∙ combine elements (get_or low k nought ∷ get_or high k nought ∷ x ∷ r ∷ []) ((v0 ⊕ v1) ⊕ (v2 ⊗ ((v0 ⊖ v1) ⊗ v3))) (v0 ⊗ (𝟙 ⊕ 𝟙)) (v0 ⊖ v1) (v2 ⊗ v3) 𝟙 there refl
       ∙ ap₂ (λ i y. product (get_or low i nought) y) (sym here) (sym once)
@@ -64,7 +64,7 @@ module _ (inverses : List F) (lg place c : ℕ) (r : F) (low high new_low new_hi
       let first : s ≡ 0 = omega (arith, b) in
       let here : s * c + k ≡ k = ap (λ i. i * c + k) first ∙ omega arith in
       let below : 2 ^ lg * place + (1 + s) ≡ 2 * place + 1 = omega (arith, place-below, first) in
-      let there : product x (negative r) ≡ residue 1 = ap (product x) (ap negative is_root ∙ sym (class-odd inverses place) ∙ ap (class_at inverses) (sym below)) ∙ same_number _ _ h in
+      let there : product x (negative r) ≡ residue 1 = ap (product x) (ap negative is_root ∙ sym (class-twice_more inverses place) ∙ ap (class_at inverses) (sym below)) ∙ same_number _ _ h in
       both-value k x l
       ∙ combine elements (get_or low k nought ∷ get_or high k nought ∷ x ∷ r ∷ []) ((v0 ⊕ v1) ⊕ (v2 ⊗ ((v0 ⊖ v1) ⊗ v3))) (v1 ⊗ (𝟙 ⊕ 𝟙)) (minus (v0 ⊖ v1)) (v2 ⊗ minus v3) 𝟙 there refl
       ∙ ap₂ (λ i y. product (get_or high i nought) y) (sym here) (sym once)
@@ -81,13 +81,13 @@ module _ (inverses : List F) (tree : IsRootTree inverses) (lg place c : ℕ) (tw
   n = 2 ^ (lg - 2)
 
   abbrev e : F
-  e = entry inverses (2 * place)
+  e = item inverses (2 * place)
 
   abbrev f : F
-  f = entry inverses (2 * place + 1)
+  f = item inverses (2 * place + 1)
 
   abbrev g : F
-  g = entry inverses place
+  g = item inverses place
 
   abbrev point_of : ℕ → ℕ → F
   point_of u s = point inverses lg place u s
@@ -207,18 +207,8 @@ module _ (inverses : List F) (tree : IsRootTree inverses) (lg place c : ℕ) (tw
         ∙ ap four_times part
         ∙ more-twos (get_or d (s * c + k) nought)
 
-    moved : (t u k : ℕ) (y : F) → t ≡ u → each t k y → each u k y
-    moved t u k y same_place h = subst (λ i. each i k y) same_place h
-
     -- four quarters, each of them turned into multiples of its coefficients, and then joined
     pub quarters-multiples : AreMultiplesBelow inverses lg place c ((a ++ b) ++ (c' ++ d)) new
     quarters-multiples = λ t k x below l h.
         let all : 2 ^ lg ≡ (n + n) + (n + n) = four-quarters lg two in
-        ap number (each_row each (n + n) (n + n) c (a ++ b) (c' ++ d) (omega (arith, length-append a b, a_count, b_count))
-        (each_row each n n c a b a_count
-        (λ s k m i. moved (0 * n + s) s k (get_or a (s * c + k) nought) (omega arith) (first-quarter s k m i))
-        (λ s k m i. moved (1 * n + s) (n + s) k (get_or b (s * c + k) nought) (omega arith) (second-quarter s k m i)))
-        (each_row (λ t k y. each ((n + n) + t) k y) n n c c' d c_count
-        (λ s k m i. moved (2 * n + s) ((n + n) + s) k (get_or c' (s * c + k) nought) (omega arith) (third-quarter s k m i))
-        (λ s k m i. moved (3 * n + s) ((n + n) + (n + s)) k (get_or d (s * c + k) nought) (omega arith) (fourth-quarter s k m i)))
-        t k (omega (arith, below, all)) l x h)
+        ap number (each_quarter each n c a b c' d a_count b_count c_count first-quarter second-quarter third-quarter fourth-quarter t k (omega (arith, below, all)) l x h)

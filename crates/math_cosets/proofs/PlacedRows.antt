@@ -1,24 +1,18 @@
 -- Rows of products that are placed in the order of a tree, and columns that are taken from the first rows of a room.
-use Rattle.std.proofs.Common.{◌≡◌, ◌≢◌, ◌∙◌, inl, inr, ℕ, zero, suc, ◌+◌, ◌*◌, ◌<◌, ◌≤◌, ◌^◌, List, [], ◌∷◌, ◌++◌, length, take, drop, replicate, get_or, refl, sym, ap, arith}
+use Rattle.std.proofs.Common.{◌≡◌, ◌≢◌, ◌∙◌, inl, inr, ℕ, zero, suc, ◌+◌, ◌*◌, ◌<◌, ◌≤◌, ◌^◌, List, ◌++◌, length, take, drop, replicate, get_or, refl, sym, ap, arith}
 use Rattle.std.specs.List.{All}
 use Rattle.std.proofs.lemmas.Bool.{cases_lt}
-use Rattle.std.proofs.lemmas.List.{length-drop, length-take-le}
+use Rattle.std.proofs.lemmas.List.{get_or_default, length-drop, length-take-le}
 use Rattle.std.proofs.lemmas.Nat.{mul-add-lt}
 use Rattle.math_theory.specs.BitReversal.{bit_reversed}
-use Rattle.math_theory.proofs.transforms.BitOrder.{bit_reversed-below, bit_reversed-twice}
+use Rattle.math_theory.proofs.transforms.BitOrder.{bit_reversed-below}
 use Rattle.math_base.specs.declared.fields.goldilocks.F.{F}
-use Rattle.math_base.specs.Elements.{number, product, residue, same}
+use Rattle.math_base.specs.Elements.{number, product, same}
 use Rattle.math_transforms.proofs.WrittenCells.{row-within}
 use Rattle.math_transforms.proofs.WrittenRows.{part-read, put-after, put-before, put-within}
 use Rattle.math_cosets.specs.Restored.{AreDistinct, ArePlaced, ArePlacesOf, AreTaken}
-
--- zero
-abbrev pub nought : F
-nought = residue 0
-
--- the opposite order is that of one number alone
-pub reversed-only : (lg i j : ℕ) → i < 2 ^ lg → j < 2 ^ lg → bit_reversed lg i ≡ bit_reversed lg j → i ≡ j
-reversed-only lg i j a b e = sym (bit_reversed-twice lg i a) ∙ ap (bit_reversed lg) e ∙ bit_reversed-twice lg j b
+use Rattle.math_cosets.proofs.CombinedColumns.{nought}
+use Rattle.math_cosets.proofs.ReversedBits.{reversed-only}
 
 -- the places of distinct indices are distinct
 pub distinct-places : (lg : ℕ) (indices places : List ℕ) → All (λ i. i < 2 ^ lg) indices → AreDistinct indices → ArePlacesOf lg indices places → AreDistinct places
@@ -33,14 +27,8 @@ pub places-below : (lg n : ℕ) (indices places : List ℕ) → n ≡ 2 ^ lg →
 places-below lg n indices places is are t d l =
     let here : t < length indices = omega (arith, l, are.count) in
     let at : get_or places t 0 ≡ bit_reversed lg (get_or indices t 0) = are.each t here in
-    let apart : get_or places t d ≡ get_or places t 0 = either_default places t d 0 l in
+    let apart : get_or places t d ≡ get_or places t 0 = get_or_default places t d 0 l in
     omega (arith, at, apart, bit_reversed-below lg (get_or indices t 0), is)
-  where
-    -- an item that is there is the same whatever stands for one that is not
-    either_default : (xs : List ℕ) (t d e : ℕ) → t < length xs → get_or xs t d ≡ get_or xs t e
-    either_default [] t d e l = absurd (omega (arith, l))
-    either_default (x ∷ xs) zero d e l = refl
-    either_default (x ∷ xs) (suc t) d e l = either_default xs t d e (omega (arith, l))
 
 -- the products of the first t rows stand at their places, and the cells at other places are zero
 pub record ArePlacedBefore (n : ℕ) (places : List ℕ) (factors : List F) (width from c : ℕ) (cells : List F) (t : ℕ) (room : List F) : Type 0 where

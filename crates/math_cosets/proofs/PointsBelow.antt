@@ -1,33 +1,25 @@
 -- Powers of the points below a place of a tree of square roots.
-use Rattle.std.proofs.Common.{◌≡◌, ◌∙◌, ℕ, zero, suc, ◌+◌, ◌*◌, ◌/◌, ◌%◌, ◌<◌, ◌≤◌, ◌^◌, ◌==◌, if◌then◌else◌, Bool, true, false, List, [], ◌∷◌, length, get_or, refl, sym, ap, pow_pos, arith}
+use Rattle.std.proofs.Common.{◌≡◌, ◌∙◌, ℕ, zero, suc, ◌+◌, ◌*◌, ◌/◌, ◌%◌, ◌<◌, ◌≤◌, ◌^◌, ◌==◌, if◌then◌else◌, Bool, true, false, List, [], ◌∷◌, length, refl, sym, ap, pow_pos, arith}
 use Rattle.std.proofs.lemmas.Nat.{mul-le}
-use Rattle.math_theory.specs.OverRing as OverRing
 use Rattle.math_theory.proofs.domains.RootOrders.{power_of_two-suc}
 use Rattle.math_theory.proofs.rings.Normal.{ring, ◌⊗◌, minus, v0}
 use Rattle.math_theory.proofs.rings.PowerLaws.{power-add, power-of_one, power-one, power-product}
 use Rattle.math_base.specs.declared.fields.goldilocks.F.{F}
 use Rattle.math_base.specs.Elements.{negative, product, residue}
 use Rattle.math_base.proofs.ElementNumbers.{same_number}
+use Rattle.math_cosets.specs.CosetDivisions.{raised}
+use Rattle.math_cosets.specs.Quarters.{item}
 use Rattle.math_cosets.specs.RootTrees.{IsRootTree, class_at}
-use Rattle.math_cosets.proofs.CombinedColumns.{nought, raised}
 use Rattle.math_cosets.proofs.ElementRing.{elements}
-
-abbrev pub entry : List F → ℕ → F
-entry roots j = get_or roots j nought
+use Rattle.math_cosets.proofs.InverseTrees.{class-even, class-odd}
 
 -- the class of an even place
-pub class-even : (roots : List F) (p : ℕ) → class_at roots (2 * p) ≡ entry roots p
-class-even roots p =
-    let even : 2 * p % 2 ≡ 0 = omega arith in
-    let half : 2 * p / 2 ≡ p = omega arith in
-    rw (even, half) refl
+pub class-twice : (roots : List F) (p : ℕ) → class_at roots (2 * p) ≡ item roots p
+class-twice roots p = class-even roots (2 * p) (omega arith) ∙ ap (item roots) (let half : 2 * p / 2 ≡ p = omega arith in half)
 
 -- the class of an odd place
-pub class-odd : (roots : List F) (p : ℕ) → class_at roots (2 * p + 1) ≡ negative (entry roots p)
-class-odd roots p =
-    let odd : (2 * p + 1) % 2 ≡ 1 = omega arith in
-    let half : (2 * p + 1) / 2 ≡ p = omega arith in
-    rw (odd, half) refl
+pub class-twice_more : (roots : List F) (p : ℕ) → class_at roots (2 * p + 1) ≡ negative (item roots p)
+class-twice_more roots p = class-odd roots (2 * p + 1) (λ e. omega (arith, e)) ∙ ap (λ i. negative (item roots i)) (let half : (2 * p + 1) / 2 ≡ p = omega arith in half)
 
 -- the square of an element or of minus it
 signed-square : (b : Bool) (x : F) → product (if b then x else negative x) (if b then x else negative x) ≡ product x x
@@ -37,7 +29,7 @@ signed-square false x = ring elements (x ∷ []) (minus v0 ⊗ minus v0) (v0 ⊗
 -- the square of the class of a place is the class of half of it
 pub class-square : (roots : List F) → IsRootTree roots → (l : ℕ) → 2 ≤ l / 2 → l / 2 < length roots → product (class_at roots l) (class_at roots l) ≡ class_at roots (l / 2)
 class-square roots tree l least within =
-    signed-square (l % 2 == 0) (entry roots (l / 2)) ∙ same_number _ _ (tree (l / 2) least within)
+    signed-square (l % 2 == 0) (item roots (l / 2)) ∙ same_number _ _ (tree (l / 2) least within)
 
 -- power 2^h of a point that is h levels below a place is the class of the place
 pub point-power : (roots : List F) → IsRootTree roots → (h t p : ℕ) → t < 2 ^ h → 2 ≤ p → 2 ^ h * (p + 1) ≤ 2 * length roots

@@ -7,11 +7,13 @@ use Rattle.math_theory.proofs.rings.PowerLaws.{power-add}
 use Rattle.math_base.specs.declared.fields.goldilocks.F.{F}
 use Rattle.math_base.specs.Elements.{negative, product, sum}
 use Rattle.math_base.proofs.ElementNumbers.{same_number}
+use Rattle.math_cosets.specs.CosetDivisions.{raised}
+use Rattle.math_cosets.specs.Quarters.{item}
 use Rattle.math_cosets.specs.RootTrees.{IsRootTree, class_at, column_value}
-use Rattle.math_cosets.proofs.CombinedColumns.{at, column, column-append, raised}
+use Rattle.math_cosets.proofs.CombinedColumns.{at, column, column-append}
 use Rattle.math_cosets.proofs.ElementRing.{elements}
 use Rattle.math_cosets.proofs.FourValues.{cubic}
-use Rattle.math_cosets.proofs.PointsBelow.{class-even, class-odd, entry, point-power}
+use Rattle.math_cosets.proofs.PointsBelow.{class-twice, class-twice_more, point-power}
 
 -- the point in place s below child u of the place, of which there are four, two levels below it
 abbrev pub point : List F → ℕ → ℕ → ℕ → ℕ → F
@@ -66,11 +68,11 @@ module _ (roots : List F) (tree : IsRootTree roots) (lg place : ℕ) (two : 2 �
       omega (arith, m, rows, within)
 
   -- the square of the entry of the first child is the entry, and that of the second one is minus it
-  pub squares : product (entry roots (2 * place)) (entry roots (2 * place)) ≡ entry roots place
-  squares = same_number _ _ (tree (2 * place) (omega (arith, one)) (omega (arith, inside))) ∙ class-even roots place
+  pub squares : product (item roots (2 * place)) (item roots (2 * place)) ≡ item roots place
+  squares = same_number _ _ (tree (2 * place) (omega (arith, one)) (omega (arith, inside))) ∙ class-twice roots place
 
-  pub opposites : product (entry roots (2 * place + 1)) (entry roots (2 * place + 1)) ≡ negative (entry roots place)
-  opposites = same_number _ _ (tree (2 * place + 1) (omega (arith, one)) inside) ∙ class-odd roots place
+  pub opposites : product (item roots (2 * place + 1)) (item roots (2 * place + 1)) ≡ negative (item roots place)
+  opposites = same_number _ _ (tree (2 * place + 1) (omega (arith, one)) inside) ∙ class-twice_more roots place
 
   -- the power of a point of each quarter
   quarter-power : (u s : ℕ) → u < 4 → s < n → raised (class_at roots (n * (2 * (2 * place) + u) + s)) n ≡ class_at roots (2 * (2 * place) + u)
@@ -83,20 +85,20 @@ module _ (roots : List F) (tree : IsRootTree roots) (lg place : ℕ) (two : 2 �
       omega (arith, spread)
 
   -- the power of a point is the entry of the first child or minus it, or that of the second child or minus it
-  pub first-power : (s : ℕ) → s < n → raised (point roots lg place 0 s) n ≡ entry roots (2 * place)
+  pub first-power : (s : ℕ) → s < n → raised (point roots lg place 0 s) n ≡ item roots (2 * place)
   first-power s b =
       let none : 2 * (2 * place) + 0 ≡ 2 * (2 * place) = omega arith in
-      quarter-power 0 s (omega arith) b ∙ ap (class_at roots) none ∙ class-even roots (2 * place)
+      quarter-power 0 s (omega arith) b ∙ ap (class_at roots) none ∙ class-twice roots (2 * place)
 
-  pub second-power : (s : ℕ) → s < n → raised (point roots lg place 1 s) n ≡ negative (entry roots (2 * place))
-  second-power s b = quarter-power 1 s (omega arith) b ∙ class-odd roots (2 * place)
+  pub second-power : (s : ℕ) → s < n → raised (point roots lg place 1 s) n ≡ negative (item roots (2 * place))
+  second-power s b = quarter-power 1 s (omega arith) b ∙ class-twice_more roots (2 * place)
 
-  pub third-power : (s : ℕ) → s < n → raised (point roots lg place 2 s) n ≡ entry roots (2 * place + 1)
+  pub third-power : (s : ℕ) → s < n → raised (point roots lg place 2 s) n ≡ item roots (2 * place + 1)
   third-power s b =
       let next : 2 * (2 * place) + 2 ≡ 2 * (2 * place + 1) = omega arith in
-      quarter-power 2 s (omega arith) b ∙ ap (class_at roots) next ∙ class-even roots (2 * place + 1)
+      quarter-power 2 s (omega arith) b ∙ ap (class_at roots) next ∙ class-twice roots (2 * place + 1)
 
-  pub fourth-power : (s : ℕ) → s < n → raised (point roots lg place 3 s) n ≡ negative (entry roots (2 * place + 1))
+  pub fourth-power : (s : ℕ) → s < n → raised (point roots lg place 3 s) n ≡ negative (item roots (2 * place + 1))
   fourth-power s b =
       let next : 2 * (2 * place) + 3 ≡ 2 * (2 * place + 1) + 1 = omega arith in
-      quarter-power 3 s (omega arith) b ∙ ap (class_at roots) next ∙ class-odd roots (2 * place + 1)
+      quarter-power 3 s (omega arith) b ∙ ap (class_at roots) next ∙ class-twice_more roots (2 * place + 1)

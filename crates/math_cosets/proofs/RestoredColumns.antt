@@ -1,65 +1,36 @@
 -- Columns of cells that are restored strip by strip: their polynomials have the cells of the rows as their values.
-use Rattle.std.proofs.Common.{◌≡◌, ◌≢◌, ◌∙◌, ◌⊎◌, inl, inr, ℕ, zero, suc, ◌+◌, ◌-◌, ◌*◌, ◌<◌, ◌≤◌, ◌^◌, List, [], ◌∷◌, length, map, drop, get_or, refl, sym, ap, arith}
+use Rattle.std.proofs.Common.{◌≡◌, ◌≢◌, ◌∙◌, ◌⊎◌, inl, inr, ℕ, zero, suc, ◌+◌, ◌-◌, ◌*◌, ◌<◌, ◌≤◌, ◌^◌, List, [], ◌∷◌, length, map, get_or, refl, sym, ap, arith}
 use Rattle.std.specs.List.{All, range_with_len}
 use Rattle.std.proofs.lemmas.Bool.{cases_eq, cases_lt}
-use Rattle.std.proofs.lemmas.List.{ext_get_or, get_or-drop, get_or-map, get_or-take, get_or_past, length-map}
+use Rattle.std.proofs.lemmas.List.{get_or-map, get_or_past, length-map}
 use Rattle.std.proofs.lemmas.List.FromFn.{get_or-range_with_len, length-range_with_len}
 use Rattle.math_theory.specs.BitReversal.{bit_reversed}
 use Rattle.math_theory.specs.Coefficients.{HaveSameCoefficients}
-use Rattle.math_theory.specs.Powers.{power}
 use Rattle.math_theory.specs.Recovery.{Fits, count_true}
-use Rattle.math_theory.specs.Values.{value}
-use Rattle.math_theory.proofs.classes.Classes.{class, class_same, same_class, ring_of_classes}
-use Rattle.math_theory.proofs.classes.ClassesOfLists.{coefficient-class, value-class}
-use Rattle.math_theory.proofs.classes.RingUpToSame.{ring_same}
-use Rattle.math_theory.proofs.polynomials.Coefficients.{value-HaveSameCoefficients}
-use Rattle.math_theory.proofs.polynomials.Values.{value-horner}
-use Rattle.math_theory.proofs.rings.Normal.{◌⊕◌, ◌⊗◌, 𝟘, v0, v1}
+use Rattle.math_theory.proofs.rings.Normal.{ring, ◌⊗◌, 𝟘, v0}
 use Rattle.math_theory.proofs.transforms.BitOrder.{bit_reversed-below}
 use Rattle.math_base.specs.declared.fields.goldilocks.F.{F}
-use Rattle.math_base.specs.ElementLaws.{equality, group, commutes, ring}
 use Rattle.math_base.specs.Elements.{number, product, residue, root_of, same, sum}
 use Rattle.math_transforms.specs.DomainValues.{matrix_of}
-use Rattle.math_transforms.specs.Matrices.{column_of}
-use Rattle.math_transforms.proofs.MatrixRows.{column-at, length-column}
+use Rattle.math_transforms.proofs.DomainSteps.{column-cell}
+use Rattle.math_transforms.proofs.MatrixRows.{length-column}
 use Rattle.math_cosets.specs.declared.dividing.CosetDivision.{CosetDivision}
-use Rattle.math_cosets.specs.CosetDivisions.{DoColumnsFit, IsCosetDivision}
+use Rattle.math_cosets.specs.CosetDivisions.{DoColumnsFit, IsCosetDivision, raised}
 use Rattle.math_cosets.specs.Restored.{AreDistinct, AreFilled, ArePlaced, ArePlacesOf, AreTaken, HaveCellsAsValues}
-use Rattle.math_cosets.proofs.PlacedRows.{nought, reversed-only}
-
--- the column of these cells
-abbrev pub column_in : ℕ → ℕ → List F → ℕ → List F
-column_in count width cells k = column_of nought (matrix_of count width cells) k
+use Rattle.math_cosets.proofs.CombinedColumns.{at, column, column_kept, nought, one_row, same_values}
+use Rattle.math_cosets.proofs.ElementRing.{elements}
+use Rattle.math_cosets.proofs.ReversedBits.{reversed-only}
 
 -- the value at power i of the root of order 2^lg
 abbrev pub value_at : ℕ → List F → ℕ → F
-value_at lg p i = value nought sum product (residue 1) (power (residue 1) product (root_of lg) i) p
-
--- polynomials with the same coefficients have the same value at each point
-pub same_values : (r : F) (p q : List F) → HaveSameCoefficients same nought p q → same (value nought sum product (residue 1) r p) (value nought sum product (residue 1) r q)
-same_values r p q h =
-    same_class equality _ _
-    (sym (value-class equality group commutes ring r p)
-    ∙ value-HaveSameCoefficients (ring_of_classes equality group commutes ring) (class equality r) (map (class equality) p) (map (class equality) q)
-    (λ i. coefficient-class equality group commutes ring p i ∙ class_same equality _ _ (h i) ∙ sym (coefficient-class equality group commutes ring q i))
-    ∙ value-class equality group commutes ring r q)
-
--- the value of a constant is the constant
-constant_value : (x a : F) → same (value nought sum product (residue 1) x (a ∷ [])) a
-constant_value x a =
-    same_class equality _ _
-    (sym (value-class equality group commutes ring x (a ∷ []))
-    ∙ value-horner (ring_of_classes equality group commutes ring) (class equality x) (class equality a ∷ []))
-    ∙ ring_same equality group commutes ring (a ∷ x ∷ []) (v0 ⊕ (v1 ⊗ 𝟘)) v0 refl
+value_at lg p i = at (raised (root_of lg) i) p
 
 -- where there is one index, the cells themselves are the coefficients
-pub one_row : (lg : ℕ) (indices : List ℕ) (width : ℕ) (cells : List F) → length indices ≡ 1 → HaveCellsAsValues lg indices width cells cells
-one_row lg indices width cells one t k a b =
+pub one_index : (lg : ℕ) (indices : List ℕ) (width : ℕ) (cells : List F) → length indices ≡ 1 → HaveCellsAsValues lg indices width cells cells
+one_index lg indices width cells one t k a b =
     let first : t ≡ 0 = omega (arith, a, one) in
     let place : 0 * width + k ≡ k = omega arith in
-    let column : column_in (length indices) width cells k ≡ get_or cells k nought ∷ [] =
-    ap (λ n. column_in n width cells k) one ∙ ap (λ x. x ∷ []) (get_or-take width cells k nought b) in
-    rw (first, place) (ap (λ p. number (value_at lg p (get_or indices 0 0))) column ∙ constant_value (power (residue 1) product (root_of lg) (get_or indices 0 0)) (get_or cells k nought))
+    rw (first, place, one) (ap number (one_row width k (raised (root_of lg) (get_or indices 0 0)) cells b))
 
 -- where there is no column, there is nothing to show
 pub no_columns : (lg : ℕ) (indices : List ℕ) (width : ℕ) (old new : List F) → width ≡ 0 → HaveCellsAsValues lg indices width old new
@@ -118,7 +89,7 @@ cell-of indices f n i l =
 
 -- zero times an element
 zero_times : (x y : F) → same x nought → same x (product nought y)
-zero_times x y e = e ∙ ring_same equality group commutes ring (y ∷ []) 𝟘 (𝟘 ⊗ v0) refl
+zero_times x y e = e ∙ ap number (ring elements (y ∷ []) 𝟘 (𝟘 ⊗ v0) refl)
 
 -- what is placed is the cell of its point times the factor
 module _ (lg : ℕ) (indices places : List ℕ) (factors : List F) (width from c : ℕ) (old placed : List F) (below : All (λ i. i < 2 ^ lg) indices) (are : ArePlacesOf lg indices places)
@@ -147,22 +118,10 @@ module _ (lg : ℕ) (indices places : List ℕ) (factors : List F) (width from c
       placed_at i l (where_is indices i)
       ∙ ap (λ x. number (product x (get_or factors (bit_reversed lg i) nought))) (sym (cell-of indices cell_in (2 ^ lg) i l))
 
--- a cell of a column of the first n rows
-cell_at : (n c k r : ℕ) (cells : List F) → k < c → r < n → get_or (column_in n c cells k) r nought ≡ get_or cells (r * c + k) nought
-cell_at n c k r cells l b = column-at nought (matrix_of n c cells) k r nought b ∙ get_or-take c (drop (r * c) cells) k nought l ∙ get_or-drop (r * c) cells k nought
-
--- a column whose cells are as they were
-column_kept : (n width k : ℕ) (old new : List F) → k < width → ((r : ℕ) → r < n → get_or new (r * width + k) nought ≡ get_or old (r * width + k) nought)
-    → column_in n width new k ≡ column_in n width old k
-column_kept n width k old new l h =
-    ext_get_or nought (column_in n width new k) (column_in n width old k) (length-column nought (matrix_of n width new) k ∙ sym (length-column nought (matrix_of n width old) k))
-    (λ r b. let inside : r < n = omega (arith, b, length-column nought (matrix_of n width new) k) in
-    cell_at n width k r new l inside ∙ h r inside ∙ sym (cell_at n width k r old l inside))
-
 -- in the first n columns the coefficients are written, and the cells of the further ones are as they were
 pub record AreRestoredBefore (lg : ℕ) (indices : List ℕ) (width : ℕ) (start : List F) (n : ℕ) (cells : List F) : Type 0 where
   pub done : (t k : ℕ) → t < length indices → k < n
-      → same (value_at lg (column_in (length indices) width cells k) (get_or indices t 0)) (get_or start (t * width + k) nought)
+      → same (value_at lg (column (length indices) width k cells) (get_or indices t 0)) (get_or start (t * width + k) nought)
   pub left : (r k : ℕ) → r < length indices → n ≤ k → k < width → get_or cells (r * width + k) nought ≡ get_or start (r * width + k) nought
 
 -- A strip more.
@@ -175,22 +134,22 @@ module _ (d : CosetDivision) (indices places : List ℕ) (width from c : ℕ) (s
   natural j = cells_of indices (λ t. get_or old (t * width + from + j) nought) (2 ^ d.lg)
 
   -- the coefficients of the strip fit them
-  fit_of_strip : (j : ℕ) → j < c → Fits same nought sum product (residue 1) (root_of d.lg) (natural j) d.points (column_in (2 ^ d.part) c strip j)
+  fit_of_strip : (j : ℕ) → j < c → Fits same nought sum product (residue 1) (root_of d.lg) (natural j) d.points (column (2 ^ d.part) c j strip)
   fit_of_strip j b =
       fits j (natural j) b (cells-count indices (λ t. get_or old (t * width + from + j) nought) (2 ^ d.lg))
       (placed_cells d.lg indices places d.factors.items width from c old placed below are division.factor_count put j b)
 
   -- the coefficients of a column are those of the strip
-  coefficients_of_strip : (j : ℕ) → j < c → HaveSameCoefficients same nought (column_in (length indices) width new (from + j)) (column_in (2 ^ d.part) c strip j)
+  coefficients_of_strip : (j : ℕ) → j < c → HaveSameCoefficients same nought (column (length indices) width (from + j) new) (column (2 ^ d.part) c j strip)
   coefficients_of_strip j b i =
       let n = length indices in
-      let p = column_in n width new (from + j) in
-      let q = column_in (2 ^ d.part) c strip j in
+      let p = column n width (from + j) new in
+      let q = column (2 ^ d.part) c j strip in
       elim (cases_lt i n) as (λ _. same (get_or p i nought) (get_or q i nought)) [
         | inl inside ↦
             ap number
-            (cell_at n width (from + j) i new (omega (arith, b, within)) inside ∙ taken.written i j inside b
-            ∙ sym (cell_at (2 ^ d.part) c j i strip b (omega (arith, inside, count, division.few))))
+            (column-cell nought n width (from + j) i new inside (omega (arith, b, within)) ∙ taken.written i j inside b
+            ∙ sym (column-cell nought (2 ^ d.part) c j i strip (omega (arith, inside, count, division.few)) b))
         | inr past ↦
             ap number (get_or_past p i nought (omega (arith, past, length-column nought (matrix_of n width new) (from + j))))
             ∙ sym ((fit_of_strip j b).zero_from i (omega (arith, past, count)))
@@ -198,12 +157,12 @@ module _ (d : CosetDivision) (indices places : List ℕ) (width from c : ℕ) (s
 
   -- its values at the indices are the cells
   value_of_strip : (t j : ℕ) → t < length indices → j < c
-      → same (value_at d.lg (column_in (length indices) width new (from + j)) (get_or indices t 0)) (get_or old (t * width + from + j) nought)
+      → same (value_at d.lg (column (length indices) width (from + j) new) (get_or indices t 0)) (get_or old (t * width + from + j) nought)
   value_of_strip t j a b =
       let i = get_or indices t 0 in
       let cell : ℕ → F = λ s. get_or old (s * width + from + j) nought in
       let domain : i < 2 ^ d.lg = below t 0 a in
-      same_values _ (column_in (length indices) width new (from + j)) (column_in (2 ^ d.part) c strip j) (coefficients_of_strip j b)
+      same_values _ (column (length indices) width (from + j) new) (column (2 ^ d.part) c j strip) (coefficients_of_strip j b)
       ∙ (fit_of_strip j b).agrees i (omega (arith, domain, cells-count indices cell (2 ^ d.lg))) (filled t a)
       ∙ ap number (cell-of indices cell (2 ^ d.lg) i domain ∙ cell_found indices cell t distinct a (where_is indices i))
 
@@ -212,7 +171,7 @@ module _ (d : CosetDivision) (indices places : List ℕ) (width from c : ℕ) (s
   restored-more h = record {
     done = λ t k a b.
         let n = length indices in
-        elim (cases_lt k from) as (λ _. same (value_at d.lg (column_in n width new k) (get_or indices t 0)) (get_or start (t * width + k) nought)) [
+        elim (cases_lt k from) as (λ _. same (value_at d.lg (column n width k new) (get_or indices t 0)) (get_or start (t * width + k) nought)) [
           | inl before ↦
               ap (λ p. number (value_at d.lg p (get_or indices t 0))) (column_kept n width k old new (omega (arith, before, within)) (λ r l. taken.before r k l before))
               ∙ h.done t k a before
@@ -220,7 +179,7 @@ module _ (d : CosetDivision) (indices places : List ℕ) (width from c : ℕ) (s
               let j = k - from in
               let is : from + j ≡ k = omega (arith, o) in
               let place : t * width + from + j ≡ t * width + k = omega (arith, is) in
-              ap (λ m. number (value_at d.lg (column_in n width new m) (get_or indices t 0))) (sym is) ∙ value_of_strip t j a (omega (arith, b, o))
+              ap (λ m. number (value_at d.lg (column n width m new) (get_or indices t 0))) (sym is) ∙ value_of_strip t j a (omega (arith, b, o))
               ∙ ap number (ap (λ m. get_or old m nought) place ∙ h.left t k a o (omega (arith, b, within)))
         ];
     left = λ r k a b l. taken.after r k a b l ∙ h.left r k a (omega (arith, b)) l;

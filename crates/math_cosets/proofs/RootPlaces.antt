@@ -6,16 +6,19 @@ use Rattle.math_theory.specs.BitReversal.{bit_reversed}
 use Rattle.math_theory.proofs.classes.RingUpToSame.{combine_same, ring_same}
 use Rattle.math_theory.proofs.domains.RootOrders.{power_of_two-suc}
 use Rattle.math_theory.proofs.rings.Normal.{◌⊗◌, minus, 𝟙, v0, v1, v2}
+use Rattle.math_theory.proofs.rings.PowerLaws.{power-add, power-one}
 use Rattle.math_theory.proofs.transforms.BitOrder.{bit_reversed-below, bit_reversed-suc}
 use Rattle.math_base.specs.declared.fields.goldilocks.F.{F}
 use Rattle.math_base.specs.ElementLaws.{equality, group, commutes, ring}
 use Rattle.math_base.specs.Elements.{negative, number, product, residue, root_of, same}
 use Rattle.math_base.proofs.ElementNumbers.{same_number}
 use Rattle.math_transforms.proofs.PowersOfTwo.{power_of_two-rises}
+use Rattle.math_cosets.specs.CosetDivisions.{raised}
 use Rattle.math_cosets.specs.Quarters.{item}
 use Rattle.math_cosets.specs.RootTrees.{IsRootTree, IsTreeOf, class_at}
+use Rattle.math_cosets.proofs.ElementRing.{elements}
 use Rattle.math_cosets.proofs.InverseTrees.{class-even, class-odd}
-use Rattle.math_cosets.proofs.RaisedElements.{one-apart, product-apart, raised, raised-apart, raised-one, raised-squared, raised-sum, root-apart, root-half, root-square}
+use Rattle.math_cosets.proofs.RaisedElements.{one-apart, product-apart, raised-apart, raised-squared, root-apart, root-half, root-square}
 
 -- a power of the start times a power of the root of order 2^d
 abbrev placed : F → ℕ → ℕ → ℕ → F
@@ -91,7 +94,7 @@ other-sign a d m h =
     let w = root_of (suc d) in
     let e : 2 ^ d + m ≡ 1 * 2 ^ d + m = omega arith in
     combine_same equality group commutes ring (a ∷ raised w m ∷ raised w (2 ^ d) ∷ []) (minus (v0 ⊗ v1)) (v0 ⊗ (v2 ⊗ v1)) (minus (v0 ⊗ v1)) v2 (minus 𝟙) (root-half d h) refl
-    ∙ ap (λ x. number (product a x)) (same_number (product (raised w (2 ^ d)) (raised w m)) (raised w (1 * 2 ^ d + m)) (raised-sum w (2 ^ d) m ∙ ap (λ n. number (raised w n)) e))
+    ∙ ap (λ x. number (product a x)) (sym (power-add elements w (2 ^ d) m) ∙ ap (raised w) e)
 
 module _ (start : F) (lg : ℕ) (roots : List F) (small : lg ≤ 32) (h : AreEntries start lg (2 ^ lg) roots) where
   -- the class of place b of level d + 1
@@ -148,7 +151,7 @@ module _ (start : F) (lg : ℕ) (roots : List F) (small : lg ≤ 32) (h : AreEnt
       let none : lg - n - 1 ≡ 0 = omega (arith, is) in
       class-of_level n t (omega (arith, is)) low
       ∙ ap (λ i. number (placed start (2 ^ i) (suc n) (bit_reversed (suc n) t))) none
-      ∙ ap (λ x. number (product x (raised (root_of (suc n)) (bit_reversed (suc n) t)))) (sym (same_number start (raised start 1) (raised-one start)))
+      ∙ ap (λ x. number (product x (raised (root_of (suc n)) (bit_reversed (suc n) t)))) (power-one elements start)
 
   -- no entry is zero
   nonzero : ¬ (same start (residue 0)) → (j : ℕ) → j < length roots → ¬ (same (item roots j) (residue 0))

@@ -11,7 +11,8 @@ use Rattle.math_transforms.proofs.PowersOfTwo.{power_of_two-double}
 use Rattle.math_cosets.specs.CosetDivisions.{AreSumsOf}
 use Rattle.math_cosets.specs.Quarters.{item}
 use Rattle.math_cosets.specs.RootTrees.{AreMultiplesBelow}
-use Rattle.math_cosets.proofs.BlockColumns.{at, at-sum, column, nought}
+use Rattle.math_cosets.proofs.BlockColumns.{at-sum}
+use Rattle.math_cosets.proofs.CombinedColumns.{at, column, nought}
 
 module _ (inverses : List F) (lg c : ℕ) (cells low high new_low new_high sums : List F) (some : 1 ≤ lg)
     (low_is : low ≡ take (2 ^ (lg - 1) * c) cells) (high_is : high ≡ drop (2 ^ (lg - 1) * c) cells)

@@ -1,17 +1,17 @@
 -- Values at the points below a place of a tree: of one row, of two halves and of four quarters of the rows.
 use Rattle.std.proofs.Common.{◌≡◌, ◌∙◌, ℕ, ◌+◌, ◌-◌, ◌*◌, ◌<◌, ◌≤◌, ◌^◌, List, [], ◌∷◌, ◌++◌, length, get_or, refl, sym, ap, ap₂, subst, arith}
-use Rattle.std.proofs.lemmas.List.{length-append}
 use Rattle.math_theory.proofs.rings.Normal.{ring, ◌⊕◌, ◌⊗◌, minus, 𝟙, v0, v1, v2, v3, v4, v5}
 use Rattle.math_theory.proofs.rings.PowerLaws.{power-one}
 use Rattle.math_base.specs.declared.fields.goldilocks.F.{F}
 use Rattle.math_base.specs.Elements.{negative, number, product, residue, same, sum}
 use Rattle.math_base.proofs.ElementNumbers.{same_number}
-use Rattle.math_cosets.specs.Quarters.{AreHalvesSplit, AreQuartersSplit}
+use Rattle.math_cosets.specs.CosetDivisions.{raised}
+use Rattle.math_cosets.specs.Quarters.{AreHalvesSplit, AreQuartersSplit, item}
 use Rattle.math_cosets.specs.RootTrees.{AreValuesBelow, IsRootTree, class_at, column_value}
-use Rattle.math_cosets.proofs.CombinedColumns.{at, column, column-append, columns-combined, each_row, four, nought, one_row, raised}
+use Rattle.math_cosets.proofs.CombinedColumns.{at, column, column-append, columns-combined, each_quarter, each_row, nought, one_row}
 use Rattle.math_cosets.proofs.ElementRing.{elements}
 use Rattle.math_cosets.proofs.FourValues.{at_root, cubic, cubic-at_root}
-use Rattle.math_cosets.proofs.PointsBelow.{class-even, class-odd, entry}
+use Rattle.math_cosets.proofs.PointsBelow.{class-twice, class-twice_more}
 use Rattle.math_cosets.proofs.QuarterColumns.{first-power, four-quarters, fourth-power, opposites, point, quarter-place, quarters-value, second-power, squares, third-power}
 
 -- the value of a column of one row
@@ -34,7 +34,7 @@ row-values roots lg place c cells none = λ t k b l.
     let here : t * c + k ≡ k = ap (λ i. i * c + k) first ∙ omega arith in
     ap number (ap (λ i. get_or cells i nought) here ∙ sym (row-value lg c k (class_at roots (2 ^ lg * place + t)) cells none l))
 
-module _ (roots : List F) (lg place c : ℕ) (r : F) (low high new_low new_high : List F) (two : lg ≡ 1) (is_root : r ≡ entry roots place)
+module _ (roots : List F) (lg place c : ℕ) (r : F) (low high new_low new_high : List F) (two : lg ≡ 1) (is_root : r ≡ item roots place)
     (low_count : length low ≡ c) (new_low_count : length new_low ≡ c) (split : AreHalvesSplit r low high new_low new_high) where
   abbrev both : ℕ → ℕ → F → Type 0
   both t k y = y ≡ column_value lg c (low ++ high) k (class_at roots (2 ^ lg * place + t))
@@ -50,7 +50,7 @@ module _ (roots : List F) (lg place c : ℕ) (r : F) (low high new_low new_high 
       let below : 2 ^ lg * place + (0 + s) ≡ 2 * place = omega (arith, place-below, first) in
       ap (λ i. get_or new_low i nought) here ∙ same_number _ _ (split.first k (omega (arith, l, low_count)))
       ∙ ring elements (get_or low k nought ∷ get_or high k nought ∷ r ∷ []) (v0 ⊕ (v1 ⊗ v2)) (v0 ⊕ (v2 ⊗ v1)) refl
-      ∙ ap (λ x. sum (get_or low k nought) (product x (get_or high k nought))) (is_root ∙ sym (class-even roots place) ∙ ap (class_at roots) (sym below))
+      ∙ ap (λ x. sum (get_or low k nought) (product x (get_or high k nought))) (is_root ∙ sym (class-twice roots place) ∙ ap (class_at roots) (sym below))
       ∙ sym (halves-value lg c k (class_at roots (2 ^ lg * place + (0 + s))) low high two low_count l)
 
   high-values : (s k : ℕ) → s < 1 → k < c → both (1 + s) k (get_or new_high (s * c + k) nought)
@@ -60,7 +60,7 @@ module _ (roots : List F) (lg place c : ℕ) (r : F) (low high new_low new_high 
       let below : 2 ^ lg * place + (1 + s) ≡ 2 * place + 1 = omega (arith, place-below, first) in
       ap (λ i. get_or new_high i nought) here ∙ same_number _ _ (split.second k (omega (arith, l, low_count)))
       ∙ ring elements (get_or low k nought ∷ get_or high k nought ∷ r ∷ []) (v0 ⊕ minus (v1 ⊗ v2)) (v0 ⊕ (minus v2 ⊗ v1)) refl
-      ∙ ap (λ x. sum (get_or low k nought) (product x (get_or high k nought))) (ap negative is_root ∙ sym (class-odd roots place) ∙ ap (class_at roots) (sym below))
+      ∙ ap (λ x. sum (get_or low k nought) (product x (get_or high k nought))) (ap negative is_root ∙ sym (class-twice_more roots place) ∙ ap (class_at roots) (sym below))
       ∙ sym (halves-value lg c k (class_at roots (2 ^ lg * place + (1 + s))) low high two low_count l)
 
   -- two rows, split, are the values of the columns
@@ -75,13 +75,13 @@ module _ (roots : List F) (tree : IsRootTree roots) (lg place c : ℕ) (two : 2 
   n = 2 ^ (lg - 2)
 
   abbrev e : F
-  e = entry roots (2 * place)
+  e = item roots (2 * place)
 
   abbrev f : F
-  f = entry roots (2 * place + 1)
+  f = item roots (2 * place + 1)
 
   abbrev g : F
-  g = entry roots place
+  g = item roots place
 
   abbrev point_of : ℕ → ℕ → F
   point_of u s = point roots lg place u s
@@ -157,16 +157,8 @@ module _ (roots : List F) (tree : IsRootTree roots) (lg place c : ℕ) (two : 2 
         (((v0 ⊗ 𝟙) ⊕ (v1 ⊗ minus v4)) ⊕ ((v2 ⊗ minus v5) ⊕ (v3 ⊗ (minus v4 ⊗ minus v5)))) refl)
         (fourth s k below l)
 
-    moved : (t u k : ℕ) (y : F) → t ≡ u → each t k y → each u k y
-    moved t u k y same_place h = subst (λ i. each i k y) same_place h
-
     -- four quarters, split, and then each of them turned into its values
     pub quarters-values : AreValuesBelow roots lg place c cells ((va ++ vb) ++ (vc ++ vd))
     quarters-values = λ t k below l.
         let all : 2 ^ lg ≡ (n + n) + (n + n) = four-quarters lg two in
-        ap number (each_row each (n + n) (n + n) c (va ++ vb) (vc ++ vd) (omega (arith, length-append va vb, va_count, vb_count))
-        (each_row each n n c va vb va_count (λ s k b m. moved (0 * n + s) s k _ (omega arith) (first-quarter s k b m)) (λ s k b m. moved (1 * n + s) (n + s) k _ (omega arith) (second-quarter s k b m)))
-        (each_row (λ t k y. each ((n + n) + t) k y) n n c vc vd vc_count
-        (λ s k b m. moved (2 * n + s) ((n + n) + s) k _ (omega arith) (third-quarter s k b m))
-        (λ s k b m. moved (3 * n + s) ((n + n) + (n + s)) k _ (omega arith) (fourth-quarter s k b m)))
-        t k (omega (arith, below, all)) l)
+        ap number (each_quarter each n c va vb vc vd va_count vb_count vc_count first-quarter second-quarter third-quarter fourth-quarter t k (omega (arith, below, all)) l)

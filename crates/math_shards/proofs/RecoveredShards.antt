@@ -23,7 +23,7 @@ use Rattle.math_shards.specs.Joining.{ArePolynomialsOf, HoldsShards, IsSound}
 use Rattle.math_shards.specs.Shards.{IsShardOf, has_index, rows_for, value_at, width_for}
 use Rattle.math_shards.proofs.FilledShards.{index_found, index_there}
 use Rattle.math_shards.proofs.SameCells.{nought}
-use Rattle.math_shards.proofs.ShardRows.{same_values}
+use Rattle.math_cosets.proofs.CombinedColumns.{same_values}
 
 -- p has the filled cells as its values at the powers of the root of order 2^lg, and no more coefficients than these
 abbrev pub FitsCells : ℕ → List F → List Bool → List F → Type 0

@@ -1,10 +1,8 @@
 -- Lists of elements that are same place by place.
 use Rattle.std.proofs.Common.{◌≡◌, ℕ, zero, suc, ◌<◌, List, [], ◌∷◌, length, get_or, sym, ◌∙◌, arith}
 use Rattle.std.specs.List.{AllZip}
-use Rattle.std.proofs.lemmas.List.Elements.{same_from_all_zip}
 use Rattle.math_base.specs.declared.fields.goldilocks.F.{F}
 use Rattle.math_base.specs.Elements.{residue, same}
-use Rattle.math_base.proofs.ElementNumbers.{same_number}
 
 abbrev pub nought : F
 nought = residue 0
@@ -25,7 +23,3 @@ same_by_items n [] (y ∷ ys) l m h = absurd (omega (arith, l, m))
 same_by_items n (x ∷ xs) [] l m h = absurd (omega (arith, l, m))
 same_by_items zero (x ∷ xs) (y ∷ ys) l m h = absurd (omega (arith, l))
 same_by_items (suc n) (x ∷ xs) (y ∷ ys) l m h = (h 0 (omega arith), same_by_items n xs ys (omega (arith, l)) (omega (arith, m)) (λ i b. h (suc i) (omega arith)))
-
--- they are equal
-pub same_are_equal : (xs ys : List F) → AllZip same xs ys → xs ≡ ys
-same_are_equal xs ys h = sym (same_from_all_zip same xs ys h (λ x y e. same_number y x (sym e)))

@@ -1,33 +1,19 @@
 -- The rows that data fill: their cells, and matrices whose columns are the same polynomials.
-use Rattle.std.proofs.Common.{◌≡◌, ℕ, zero, suc, ◌+◌, ◌-◌, ◌*◌, ◌/◌, ◌%◌, ◌<◌, ◌≤◌, List, length, map, take, get_or, replicate, refl, sym, ◌∙◌, ap, ap₂, mul-zero, arith}
+use Rattle.std.proofs.Common.{◌≡◌, ℕ, zero, suc, ◌+◌, ◌-◌, ◌*◌, ◌/◌, ◌%◌, ◌<◌, ◌≤◌, List, length, take, get_or, replicate, refl, sym, ◌∙◌, ap, ap₂, mul-zero, arith}
 use Rattle.std.proofs.Math.Nat.{mul_comm}
 use Rattle.std.proofs.lemmas.List.{get_or-take, length-append, length-replicate, length-take-le}
 use Rattle.std.proofs.lemmas.Nat.{mul-le}
 use Rattle.math_numbers.proofs.BitPieces.{piece_count-enough}
-use Rattle.math_theory.specs.Coefficients.{HaveSameCoefficients}
-use Rattle.math_theory.specs.Values.{value}
-use Rattle.math_theory.proofs.classes.Classes.{class, class_same, same_class, ring_of_classes}
-use Rattle.math_theory.proofs.classes.ClassesOfLists.{coefficient-class, value-class}
-use Rattle.math_theory.proofs.polynomials.Coefficients.{value-HaveSameCoefficients}
 use Rattle.math_base.specs.declared.fields.goldilocks.F.{F}
-use Rattle.math_base.specs.ElementLaws.{equality, group, commutes, ring}
-use Rattle.math_base.specs.Elements.{number, residue, same, sum, product}
+use Rattle.math_base.specs.Elements.{number, same}
 use Rattle.math_ntt.specs.MatrixPlaces.{IsFull}
 use Rattle.math_transforms.specs.Matrices.{AreSame, IsOfSize, MatrixOf, column_of}
 use Rattle.math_ntt.specs.PolynomialRows.{HaveSamePolynomials}
 use Rattle.math_transforms.proofs.MatrixRows.{cell-of_column}
 use Rattle.math_shards.specs.Joining.{ArePolynomialsOf}
 use Rattle.math_shards.specs.Shards.{elements_for, rows_for, width_for}
-use Rattle.math_shards.proofs.SameCells.{nought, same_are_equal, same_by_items}
-
--- polynomials with the same coefficients have the same value at each point
-pub same_values : (r : F) (p q : List F) → HaveSameCoefficients same nought p q → same (value nought sum product (residue 1) r p) (value nought sum product (residue 1) r q)
-same_values r p q h =
-    same_class equality _ _
-    (sym (value-class equality group commutes ring r p)
-    ∙ value-HaveSameCoefficients (ring_of_classes equality group commutes ring) (class equality r) (map (class equality) p) (map (class equality) q)
-    (λ i. coefficient-class equality group commutes ring p i ∙ class_same equality _ _ (h i) ∙ sym (coefficient-class equality group commutes ring q i))
-    ∙ value-class equality group commutes ring r q)
+use Rattle.math_cosets.proofs.ElementRing.{same_are_equal}
+use Rattle.math_shards.proofs.SameCells.{nought, same_by_items}
 
 -- the rows hold all elements, and zeros where some cells are left
 pub rows_are_whole : (min : ℕ) (words : List ℕ) → 1 ≤ min → IsFull (rows_for min words)

@@ -14,7 +14,8 @@ use Rattle.math_shards.specs.Shards.{elements_for, rows_for, width_for}
 use Rattle.math_shards.specs.Strips.{ArePacked, HasStripValues, IsStripOf, packed_at}
 use Rattle.math_values.specs.Values.{goldilocks}
 use Rattle.math_shards.proofs.SameCells.{nought}
-use Rattle.math_shards.proofs.ShardRows.{rows_are_whole, same_values}
+use Rattle.math_cosets.proofs.CombinedColumns.{same_values}
+use Rattle.math_shards.proofs.ShardRows.{rows_are_whole}
 
 -- the first rows of c cells are those of data from column `from` on
 abbrev pub HoldRows : List ℕ → ℕ → ℕ → ℕ → ℕ → List F → Type 0

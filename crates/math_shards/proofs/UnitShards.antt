@@ -1,13 +1,11 @@
 -- Shards of unit vectors: what is recovered from them are the weights of the indices that they have.
-use Rattle.std.proofs.Common.{◌≡◌, ◌∙◌, inl, inr, ℕ, zero, suc, ◌+◌, ◌*◌, ◌<◌, ◌≤◌, ◌^◌, ◌==◌, ◌||◌, List, [], ◌∷◌, Bool, true, false, length, map, take, replicate, get_or, refl, sym, ap, ap₂, subst, true≢false, arith}
-use Rattle.std.proofs.Math.ListN.{set}
+use Rattle.std.proofs.Common.{◌≡◌, ◌∙◌, inl, inr, ℕ, ◌*◌, ◌<◌, ◌≤◌, ◌^◌, ◌==◌, ◌||◌, List, [], ◌∷◌, true, false, length, map, take, get_or, refl, sym, ap, ap₂, subst, arith}
 use Rattle.std.specs.Int.{IsNextPowerOfTwo}
 use Rattle.std.specs.List.{All, range_with_len}
 use Rattle.std.proofs.lemmas.Bool.{cases_lt, ne_eqb}
 use Rattle.std.proofs.lemmas.List.{ext_get_or, get_or-map, get_or-take, get_or_default, get_or_past, length-map, length-take, length-take-le}
 use Rattle.std.proofs.lemmas.List.Folds.{list_any_none}
 use Rattle.math_theory.specs.Recovery.{count_true}
-use Rattle.math_theory.proofs.recovery.FilledItems.{count_true-false, count_true-true}
 use Rattle.math_base.specs.declared.fields.goldilocks.F.{F}
 use Rattle.math_base.specs.Elements.{number, residue, same}
 use Rattle.math_ntt.specs.Evaluations.{EvaluationsOf}
@@ -24,22 +22,7 @@ use Rattle.math_shards.proofs.ChosenRows.{count-kept, is_one_of}
 use Rattle.math_shards.proofs.FilledShards.{count_filled, index_there}
 use Rattle.math_shards.proofs.RecoveredShards.{FitColumns, cell_of_shard}
 use Rattle.math_shards.proofs.SameCells.{nought}
-use Rattle.math_shards.proofs.ShardRows.{same_values}
-
--- no place is filled
-pub count_true-none : (n : ℕ) → count_true (replicate n false) ≡ 0
-count_true-none zero = refl
-count_true-none (suc n) = count_true-false (replicate n false) ∙ count_true-none n
-
--- one place more
-pub count_true-set : (filled : List Bool) (i : ℕ) → i < length filled → get_or filled i false ≡ false → count_true (set filled i true) ≡ count_true filled + 1
-count_true-set [] i l f = absurd (omega (arith, l))
-count_true-set (true ∷ filled) zero l f = absurd (true≢false f)
-count_true-set (false ∷ filled) zero l f = omega (arith, count_true-true filled, count_true-false filled)
-count_true-set (true ∷ filled) (suc i) l f =
-    omega (arith, count_true-true filled, count_true-true (set filled i true), count_true-set filled i (omega (arith, l)) f)
-count_true-set (false ∷ filled) (suc i) l f =
-    omega (arith, count_true-false filled, count_true-false (set filled i true), count_true-set filled i (omega (arith, l)) f)
+use Rattle.math_cosets.proofs.CombinedColumns.{same_values}
 
 -- the index of a shard
 abbrev pub index_of : Shard → ℕ

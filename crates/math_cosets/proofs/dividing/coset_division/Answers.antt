@@ -1,11 +1,9 @@
-use Rattle.std.proofs.Common.{◌≡◌, ◌∙◌, ◌++◌, ◌^◌, List, length, take, drop, ap, arith}
-use Rattle.math_base.specs.declared.fields.goldilocks.F.{F}
+use Rattle.std.proofs.Common.{◌≡◌, ◌∙◌, ◌++◌, ◌^◌, length, take, drop, ap}
 use Rattle.math_base.specs.Elements.{residue, shift_of}
 use Rattle.math_base.proofs.ElementNumbers.{same_number}
 use Rattle.math_base.proofs.WholeWrites.{take-written}
 use Rattle.math_cosets.specs.CosetDivisions.{AreDividedInverses, AreFactors}
-use Rattle.math_cosets.specs.RootTrees.{IsTreeOf}
-use Rattle.math_cosets.proofs.SameItems.{same_are_equal}
+use Rattle.math_cosets.proofs.ElementRing.{same_are_equal}
 use Rattle.math_cosets.proofs.dividing.coset_division.Goals as goal
 
 pub divided_inverses-requires-clause-vanishes : goal.divided_inverses-requires-clause-vanishes

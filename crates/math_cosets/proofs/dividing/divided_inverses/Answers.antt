@@ -1,9 +1,9 @@
-use Rattle.std.proofs.Common.{◌≡◌, ◌∙◌, ◌*◌, ◌<◌, ◌≤◌, ◌^◌, ℕ, List, length, take, sym, arith}
+use Rattle.std.proofs.Common.{◌≡◌, ◌∙◌, ◌<◌, ◌≤◌, ◌^◌, List, length, take, sym, arith}
 use Rattle.std.proofs.lemmas.List.{get_or_default, length-take-le}
 use Rattle.math_base.specs.declared.fields.goldilocks.F.{F}
 use Rattle.math_transforms.proofs.PowersOfTwo.{power_of_two-rises}
 use Rattle.math_cosets.specs.RootTrees.{AreValuesBelow}
-use Rattle.math_cosets.proofs.BlockColumns.{nought}
+use Rattle.math_cosets.proofs.CombinedColumns.{nought}
 use Rattle.math_cosets.proofs.MadeDivisions.{divisor-nonzero, inverses_made}
 use Rattle.math_cosets.proofs.dividing.divided_inverses.Goals as goal
 use Rattle.math_cosets.proofs.dividing.divided_inverses.Goals.{After-size_of}

@@ -1,4 +1,4 @@
-use Rattle.std.proofs.Common.{◌≡◌, ◌∙◌, ℕ, ◌+◌, ◌*◌, ◌<◌, ◌≤◌, ◌^◌, length, arith}
+use Rattle.std.proofs.Common.{arith}
 use Rattle.math_transforms.proofs.PowersOfTwo.{power_of_two-double}
 use Rattle.math_cosets.proofs.MadeDivisions.{high-factors, low-factors, whole-factors}
 use Rattle.math_cosets.proofs.dividing.write_factors.Goals as goal

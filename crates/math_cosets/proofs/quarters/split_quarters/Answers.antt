@@ -3,7 +3,7 @@ use Rattle.std.proofs.lemmas.List.{drop_all, length-take-le, take_all}
 use Rattle.math_base.specs.Elements.{negative, product, sum}
 use Rattle.math_base.proofs.ElementNumbers.{same_number}
 use Rattle.math_cosets.specs.Quarters.{item}
-use Rattle.math_cosets.proofs.NegatedElements.{negated}
+use Rattle.math_cosets.proofs.ElementRing.{negated}
 use Rattle.math_cosets.proofs.WrittenItems.{four-next, item-read, rest-next}
 use Rattle.math_cosets.proofs.quarters.split_quarters.Goals as goal
 

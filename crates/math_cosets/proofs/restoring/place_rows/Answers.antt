@@ -3,7 +3,8 @@ use Rattle.std.proofs.lemmas.List.{get_or_default, length-drop, length-take-le}
 use Rattle.math_base.specs.Elements.{product, number}
 use Rattle.math_transforms.proofs.WrittenCells.{row-within}
 use Rattle.math_transforms.proofs.WrittenRows.{part-read}
-use Rattle.math_cosets.proofs.PlacedRows.{nought, placed-more}
+use Rattle.math_cosets.proofs.CombinedColumns.{nought}
+use Rattle.math_cosets.proofs.PlacedRows.{placed-more}
 use Rattle.math_cosets.proofs.restoring.place_rows.Goals as goal
 
 pub loop-t-preserved : goal.loop-t-preserved

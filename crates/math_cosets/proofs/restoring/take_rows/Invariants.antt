@@ -1,6 +1,6 @@
 use Rattle.std.proofs.Common.{◌≡◌, ℕ, ◌*◌, ◌≤◌, get_or}
 use Rattle.math_cosets.specs.Restored.{AreTaken}
-use Rattle.math_cosets.proofs.PlacedRows.{nought}
+use Rattle.math_cosets.proofs.CombinedColumns.{nought}
 use Rattle.math_cosets.proofs.restoring.take_rows.Given as goal
 
 -- the rows so far are taken, and the others are as they were

@@ -1,6 +1,6 @@
 use Rattle.std.proofs.Common.{ℕ, ◌<◌, get_or}
 use Rattle.math_base.specs.Elements.{product, same}
-use Rattle.math_cosets.proofs.PlacedRows.{nought}
+use Rattle.math_cosets.proofs.CombinedColumns.{nought}
 use Rattle.math_cosets.proofs.restoring.write_products.Given as goal
 
 -- the products so far

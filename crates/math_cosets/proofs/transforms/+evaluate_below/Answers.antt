@@ -1,10 +1,9 @@
 use Rattle.std.proofs.Common.{◌≡◌, ◌∙◌, ℕ, ◌+◌, ◌-◌, ◌*◌, ◌<◌, ◌≤◌, ◌^◌, ◌++◌, length, ap, ap₂, subst, sym, rules, arith}
 use Rattle.std.proofs.lemmas.List.{get_or_default}
-use Rattle.math_cosets.specs.Quarters.{AreQuartersSplit}
+use Rattle.math_cosets.specs.Quarters.{AreQuartersSplit, item}
 use Rattle.math_cosets.specs.RootTrees.{AreValuesBelow}
 use Rattle.math_cosets.proofs.CombinedColumns.{nought}
 use Rattle.math_cosets.proofs.ValuesBelow.{row-values, halves-values, quarters-values}
-use Rattle.math_cosets.proofs.PointsBelow.{entry}
 use Rattle.math_cosets.proofs.QuarterColumns.{inside, quarter-cells, quarter-within, root-inside}
 use Rattle.math_cosets.proofs.transforms.+evaluate_below.Goals as goal
 
@@ -129,7 +128,7 @@ returns t c =
     let g = c.index-roots-place-2.is ∙ get_or_default roots place c.index-roots-place-2.result nought (omega (arith, there)) in
     let whole : c.args.cells.now ≡ (c.split_at_mut-a.result.0.now ++ c.split_at_mut-a.result.1.now) ++ (c.split_at_mut-c.result.0.now ++ c.split_at_mut-c.result.1.now) =
     c.split_at_mut-front.ensures.value ∙ ap₂ (λ x y. x ++ y) c.split_at_mut-a.ensures.value c.split_at_mut-c.ensures.value in
-    let split : AreQuartersSplit (entry roots (2 * place)) (entry roots (2 * place + 1)) (entry roots place)
+    let split : AreQuartersSplit (item roots (2 * place)) (item roots (2 * place + 1)) (item roots place)
     c.split_at_mut-a.result.0.now c.split_at_mut-a.result.1.now c.split_at_mut-c.result.0.now c.split_at_mut-c.result.1.now
     c.split_quarters.new.a c.split_quarters.new.b c.split_quarters.new.c c.split_quarters.new.d
     = rw (← e, ← f, ← g) c.split_quarters.ensures in

@@ -1,10 +1,9 @@
 use Rattle.std.proofs.Common.{◌≡◌, ◌∙◌, ℕ, ◌+◌, ◌-◌, ◌*◌, ◌<◌, ◌≤◌, ◌^◌, ◌++◌, length, ap, ap₂, subst, sym, rules, arith}
 use Rattle.std.proofs.lemmas.List.{get_or_default}
-use Rattle.math_cosets.specs.Quarters.{AreQuartersJoined}
+use Rattle.math_cosets.specs.Quarters.{AreQuartersJoined, item}
 use Rattle.math_cosets.specs.RootTrees.{AreMultiplesBelow}
 use Rattle.math_cosets.proofs.CombinedColumns.{nought}
 use Rattle.math_cosets.proofs.MultiplesBelow.{row-multiples, halves-multiples, quarters-multiples}
-use Rattle.math_cosets.proofs.PointsBelow.{entry}
 use Rattle.math_cosets.proofs.QuarterColumns.{inside, quarter-cells, quarter-within, root-inside}
 use Rattle.math_cosets.proofs.transforms.+interpolate_below.Goals as goal
 
@@ -129,7 +128,7 @@ returns t c =
     let g = c.index-inverses-place-2.is ∙ get_or_default roots place c.index-inverses-place-2.result nought (omega (arith, there)) in
     let whole : c.args.cells.now ≡ (c.split_at_mut-a.result.0.now ++ c.split_at_mut-a.result.1.now) ++ (c.split_at_mut-c.result.0.now ++ c.split_at_mut-c.result.1.now) =
     c.split_at_mut-front.ensures.value ∙ ap₂ (λ x y. x ++ y) c.split_at_mut-a.ensures.value c.split_at_mut-c.ensures.value in
-    let joins : AreQuartersJoined (entry roots (2 * place)) (entry roots (2 * place + 1)) (entry roots place) c.interpolate_below.new.cells c.interpolate_below-2.new.cells c.interpolate_below-3.new.cells c.interpolate_below-4.new.cells
+    let joins : AreQuartersJoined (item roots (2 * place)) (item roots (2 * place + 1)) (item roots place) c.interpolate_below.new.cells c.interpolate_below-2.new.cells c.interpolate_below-3.new.cells c.interpolate_below-4.new.cells
     c.join_quarters.new.a c.join_quarters.new.b c.join_quarters.new.c c.join_quarters.new.d
     = rw (← e, ← f, ← g) c.join_quarters.ensures in
     subst (λ cells. AreMultiplesBelow roots c.args.lg place c.args.cols cells ((c.join_quarters.new.a ++ c.join_quarters.new.b) ++ (c.join_quarters.new.c ++ c.join_quarters.new.d))) (sym whole)
