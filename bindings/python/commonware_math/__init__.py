@@ -16,6 +16,7 @@ from __future__ import annotations
 
 import builtins
 import ctypes
+import operator
 import sys
 from array import array
 from typing import Any, Iterable, Mapping, Sequence, Union
@@ -53,6 +54,10 @@ class Error(Exception):
         text = ctypes.create_string_buffer(32)
         _lib.cwm_status_text(self.status, text, len(text))
         super().__init__(text.value.decode())
+
+    def __reduce__(self) -> tuple[type[Error], tuple[()]]:
+        """A refusal crosses to another process: the text is made anew there."""
+        return type(self), ()
 
 
 class OutOfMemory(Error, MemoryError):
@@ -142,10 +147,11 @@ def _done(status: int) -> None:
 
 
 def _number(value: int, bits: int) -> int:
-    """The number, where so many bits hold it: ctypes would cut it off."""
-    if not 0 <= value < 1 << bits:
-        raise OverflowError(f"{value} is no number of {bits} bits")
-    return value
+    """The number, where so many bits hold it: ctypes would cut it off. What is no whole number is a TypeError."""
+    number = operator.index(value)
+    if not 0 <= number < 1 << bits:
+        raise OverflowError(f"{number} is no number of {bits} bits")
+    return number
 
 
 def _indices(values: Iterable[int]) -> tuple[Any, int]:
@@ -154,12 +160,17 @@ def _indices(values: Iterable[int]) -> tuple[Any, int]:
 
 
 def _marks(filled: Any) -> tuple[Any, int]:
-    """One byte a row: those of a buffer of bytes, or what is true of other items."""
+    """One byte a row: those of a buffer of bytes, or items that are true or false."""
     try:
         are_bytes = memoryview(filled).itemsize == 1
     except TypeError:
         are_bytes = False
-    return _library.read_bytes(filled if are_bytes else bytes(bool(item) for item in filled))
+    if are_bytes:
+        return _library.read_bytes(filled)
+    items = list(filled)
+    if not all(item in (True, False) for item in items):
+        raise TypeError("whether a row is filled is neither True nor False")
+    return _library.read_bytes(bytes(bool(item) for item in items))
 
 
 def _array(at: Any, count: int) -> "array[int]":

@@ -7,6 +7,7 @@ shares nothing between calls.
 from __future__ import annotations
 
 import ctypes
+import operator
 import os
 import subprocess
 import sys
@@ -123,8 +124,8 @@ def read(value: Any) -> tuple[Any, int]:
     try:
         view = memoryview(value)
     except TypeError:
-        numbers = list(value)
-        if not all(isinstance(n, int) and 0 <= n < 1 << 64 for n in numbers):
+        numbers = [operator.index(n) for n in value]
+        if not all(0 <= n < 1 << 64 for n in numbers):
             raise OverflowError("a word is not a number from 0 to 2**64 - 1") from None
         return ((_u64 * len(numbers))(*numbers), len(numbers)) if numbers else (NOWHERE, 0)
     view = _view(view)

@@ -2,6 +2,7 @@
 
 import doctest
 import os
+import pickle
 import random
 import time
 import unittest
@@ -196,6 +197,11 @@ class Refusals(unittest.TestCase):
             (OverflowError, cm.eval, [2**64], 1),
             (OverflowError, cm.split, b"", 1, 2**32 + 1),
             (OverflowError, cm.weights_at_roots, 4, [2**32], 0),
+            (TypeError, cm.eval, [1.5], 2),
+            (TypeError, cm.eval, ["1"], 2),
+            (TypeError, cm.eval, [1], 2.0),
+            (TypeError, cm.recover, four, "TFTF"),
+            (TypeError, cm.recover, four, [1, 0, 2, 1]),
             (TypeError, cm.evaluate, bytes(8)),
             (TypeError, cm.evaluate, memoryview(bytes(8)).cast("Q")),
             (TypeError, cm.evaluate, memoryview(bytearray(15))[7:].cast("Q")),
@@ -211,6 +217,11 @@ class Refusals(unittest.TestCase):
         for error in cm.Error.__subclasses__():
             self.assertNotIn(str(error()), ("", "no status", "done"))
         self.assertEqual(sorted(error.status for error in cm.Error.__subclasses__()), list(range(1, 14)))
+
+    def test_other_processes(self):
+        for error in cm.Error.__subclasses__():
+            again = pickle.loads(pickle.dumps(error()))
+            self.assertEqual((type(again), str(again)), (error, str(error())))
 
 
 class Buffers(unittest.TestCase):
@@ -247,6 +258,7 @@ class Buffers(unittest.TestCase):
         cm.evaluate(cells)
         cm.recover(cells, numpy.array([False, True, True, True]))
         self.assertEqual(list(cells), [4, 6, 8, 0])
+        self.assertEqual(cm.eval([numpy.uint64(4), numpy.uint64(6), numpy.uint64(8)], numpy.uint64(5)), 234)
 
 
 class Threads(unittest.TestCase):
