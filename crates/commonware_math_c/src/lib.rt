@@ -1,9 +1,10 @@
 //! The library for callers in C: polynomials over the Goldilocks field as words in the caller's
 //! memory.
 //!
-//! Each function is a few lines over a safe one, which has the work and its contract over elements.
-//! What it answers is a status; `include/commonware_math.h` says what a caller has to know. A slice
-//! crosses as a pointer and a length, and a `Global` takes no place among the arguments.
+//! Each function is a few lines over safe ones of `c_calls`, which have the work and its contracts
+//! over elements. What it answers is a status; `include/commonware_math.h` says what a caller has to
+//! know. A slice crosses as a pointer and a length, and a `Global` takes no place among the
+//! arguments.
 #![tactic(auto)]
 
 ghost use Rattle.std.specs.Prelude.{◌≡◌, ◌≢◌, ◌<◌, ◌≤◌, ◌-◌, ◌+◌, ◌*◌, ◌++◌, ◌⊎◌, ℕ, List, length, replicate, All};
@@ -12,38 +13,28 @@ ghost use Rattle.math_theory.specs.Interpolation.{AreApart};
 ghost use Rattle.math_theory.specs.Recovery.{count_true};
 ghost use Rattle.math_base.specs.Elements.{number, residue, same};
 ghost use Rattle.math_base.specs.Polynomials.{value_in_ring};
-ghost use Rattle.commonware_math_c.specs.Statuses.{done, inconsistent, out_of_memory, out_of_range, repeated, too_few, wrong_size, mismatch, wrong_index, status_of_read, status_of_shards, text_of};
-ghost use Rattle.commonware_math_c.specs.WordCorrections.{AreCorrectedWords, HaveNearRows};
-ghost use Rattle.commonware_math_c.specs.WordDecodings.{AreDecodedWords, HasDecodingSizes, HasNearWords};
-ghost use Rattle.commonware_math_c.specs.WordElements.{AreElements, elements, goldilocks};
-ghost use Rattle.commonware_math_c.specs.WordRows.{AreWordValues, AreRecoveredWords, AreFilledElements, HasRows, HasRowsFor, truth};
-ghost use Rattle.commonware_math_c.specs.WordWeights.{AreRising, AreWordWeights, AreWordWeightsAtRoots};
-ghost use Rattle.commonware_math_c.specs.WordShards.{AreRefused, AreRefusedCorrecting, AreRowsOf, AreWordsOfShards, DoCorrectTo, DoJoinTo, HaveShardSizes, IsSplit};
+ghost use Rattle.c_calls.specs.Statuses.{done, inconsistent, out_of_memory, out_of_range, repeated, too_few, wrong_size, mismatch, wrong_index, status_of_read, status_of_shards, text_of};
+ghost use Rattle.c_calls.specs.WordCorrections.{AreCorrectedWords, HaveNearRows};
+ghost use Rattle.c_calls.specs.WordDecodings.{AreDecodedWords, HasDecodingSizes, HasNearWords};
+ghost use Rattle.c_calls.specs.WordElements.{AreElements, elements, goldilocks};
+ghost use Rattle.c_calls.specs.WordRows.{AreWordValues, AreRecoveredWords, AreFilledElements, HasRows, HasRowsFor, truth};
+ghost use Rattle.c_calls.specs.WordWeights.{AreRising, AreWordWeights, AreWordWeightsAtRoots};
+ghost use Rattle.c_calls.specs.WordShards.{AreRefused, AreRefusedCorrecting, AreRowsOf, AreWordsOfShards, DoCorrectTo, DoJoinTo, HaveShardSizes, IsSplit};
 ghost use Rattle.math_shards.specs.declared.shards.Error.{Error};
-ghost use Rattle.commonware_math_c.specs.ShardBytes.{AreBlockRefused, AreByteRowsOf, AreBytesOfShards, DoJoinToBlock, HaveShardBytes, SpellElements};
+ghost use Rattle.c_calls.specs.ShardBytes.{AreBlockRefused, AreByteRowsOf, AreBytesOfShards, DoJoinToBlock, HaveShardBytes, SpellElements};
 ghost use Rattle.commonware_math_c.specs.Version.{version};
-ghost use Rattle.commonware_math_c.specs.WordEncodings.{IsCoefficientCount, IsEncodedBy, StandInFront, polynomial_spelling, scan_polynomial};
+ghost use Rattle.c_calls.specs.WordEncodings.{IsCoefficientCount, IsEncodedBy, StandInFront, polynomial_spelling, scan_polynomial};
 
-mod blocks;
-mod corrections;
-mod decodings;
-mod elements;
-mod polynomials;
-mod rows;
-mod shards;
-mod status;
-mod values;
-mod weights;
-
+use c_calls::corrections::correct_words;
+use c_calls::decodings::{are_decoding_sizes, decode_words};
+use c_calls::elements::{are_elements, elements_below};
+use c_calls::polynomials::is_coefficient_count;
+use c_calls::rows::{are_filled_elements, are_marks, lg_of_rows, lg_of_these_rows};
+use c_calls::shards::is_split;
+use c_calls::status::Status;
+use c_calls::{blocks, polynomials, rows, shards, status, values, weights};
 use commonware_math::fields::goldilocks::MODULUS;
 use commonware_math::shards::join_rows;
-use corrections::correct_words;
-use decodings::{are_decoding_sizes, decode_words};
-use elements::{are_elements, elements_below};
-use polynomials::is_coefficient_count;
-use rows::{are_filled_elements, are_marks, lg_of_rows, lg_of_these_rows};
-use shards::is_split;
-use status::Status;
 use std::alloc::Global;
 use std::num::NonZeroU32;
 

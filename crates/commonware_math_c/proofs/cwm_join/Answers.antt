@@ -1,6 +1,6 @@
 use Rattle.std.proofs.Common.{◌≡◌, ◌∙◌, length, sym, ap, inr, arith}
 use Rattle.std.proofs.lemmas.Bool.{false≢true}
-use Rattle.commonware_math_c.proofs.AlikeShards.{rows_there, below_there, one_data, only_memory}
+use Rattle.c_calls.proofs.AlikeShards.{rows_there, below_there, one_data, only_memory}
 use Rattle.commonware_math_c.proofs.cwm_join.Goals as goal
 
 pub returns-in_default-clause-found : goal.returns-in_default-clause-found

@@ -1,9 +1,9 @@
 use Rattle.std.proofs.Common.{◌≡◌, ◌∙◌, length, sym, ap, subst, inr, arith}
 use Rattle.std.proofs.lemmas.Bool.{false≢true}
-use Rattle.commonware_math_c.specs.ShardBytes.{DoJoinToBlock, word_bytes}
-use Rattle.commonware_math_c.proofs.AlikeShards.{memory_status}
-use Rattle.commonware_math_c.proofs.ShardBytes.{byte_rows_there, spell_there}
-use Rattle.commonware_math_c.proofs.WrittenWords.{length-bytes}
+use Rattle.c_calls.specs.ShardBytes.{DoJoinToBlock, word_bytes}
+use Rattle.c_calls.proofs.AlikeShards.{memory_status}
+use Rattle.c_calls.proofs.ShardBytes.{byte_rows_there, spell_there}
+use Rattle.c_calls.proofs.WrittenWords.{length-bytes}
 use Rattle.commonware_math_c.proofs.cwm_join_bytes.Goals as goal
 
 pub returns-in_default-clause-found : goal.returns-in_default-clause-found

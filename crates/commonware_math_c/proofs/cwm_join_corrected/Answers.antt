@@ -1,6 +1,6 @@
 use Rattle.std.proofs.Common.{◌≡◌, ◌∙◌, length, sym, ap, inr, arith}
 use Rattle.std.proofs.lemmas.Bool.{false≢true}
-use Rattle.commonware_math_c.proofs.AlikeShards.{below_corrected, one_corrected, only_memory_correcting, rows_corrected}
+use Rattle.c_calls.proofs.AlikeShards.{below_corrected, one_corrected, only_memory_correcting, rows_corrected}
 use Rattle.commonware_math_c.proofs.cwm_join_corrected.Goals as goal
 
 pub returns-in_default-clause-found : goal.returns-in_default-clause-found

@@ -1,0 +1,30 @@
+use Rattle.std.proofs.Common.{◌≡◌, ◌≤◌, ◌∙◌, ◌+◌, ◌-◌, ◌*◌, ℕ, length, take, drop, replicate, refl, arith}
+use Rattle.std.proofs.Math.Nat.{mul-le-mul_right}
+use Rattle.std.proofs.lemmas.List.{length-drop, length-map, length-replicate, length-take-le}
+use Rattle.math_base.specs.Elements.{residue}
+use Rattle.c_calls.specs.WordElements.{elements}
+use Rattle.c_calls.proofs.FilledRows.{hold_more}
+use Rattle.c_calls.proofs.rows.filled_elements.Goals.{then-bytes-i-eq1+in_ok-push_elements, else-bytes-i-eq1+in_ok-push_zeros}
+use Rattle.c_calls.proofs.rows.filled_elements.Goals as goal
+
+pub loop-i-preserved : goal.loop-i-preserved
+loop-i-preserved c =
+    let cols = c.args.cols in
+    let i = c.loop-i.i in
+    let cells = c.args.cells.now in
+    let bytes = c.args.bytes.now in
+    let at : ℕ = i * cols in
+    let up : i + 1 ≤ length bytes = omega (arith, c.loop-i-test.true) in
+    let within : (i + 1) * cols ≤ length bytes * cols = mul-le-mul_right cols up in
+    let row = take cols (drop at cells) in
+    let long : length row ≡ cols = length-take-le cols (drop at cells) (omega (arith, within, c.requires, length-drop at cells)) in
+    let wide : at + cols - at ≡ cols = omega arith in
+    elim c.if-bytes-i-eq1.branch [
+      | then-bytes-i-eq1+in_ok-push_elements w ↦
+          rw (w.out-is, w.in_ok-push_elements.ensures, wide)
+          (hold_more cols i cells bytes c.loop-i.out.items (elements row) c.requires c.loop-i-test.true (length-map row residue ∙ long) (λ _. refl) c.loop-i.invariant)
+      | else-bytes-i-eq1+in_ok-push_zeros w ↦
+          rw (w.out-is, w.in_ok-push_zeros.ensures)
+          (hold_more cols i cells bytes c.loop-i.out.items (replicate cols (residue 0)) c.requires c.loop-i-test.true (length-replicate cols (residue 0))
+          (λ one. absurd (w.if-bytes-i-eq1.false one)) c.loop-i.invariant)
+    ]

@@ -1,0 +1,158 @@
+//! Shards of blocks of bytes, as bytes, a shard a row.
+//!
+//! Each word of a shard is eight bytes, the highest first, as words are in the encoding of a
+//! polynomial.
+
+ghost use Rattle.std.specs.Prelude.{◌≡◌, ◌↔◌, ◌<◌, ◌≤◌, ◌*◌, ◌⊎◌, ℕ, List, IsTrue, IsSome, IfOk, IfErr, IfSome, IfNone, MatchResult, None, OnOk, OnErr, length};
+ghost use Rattle.math_shards.specs.Joining.{IsMemory};
+ghost use Rattle.c_calls.specs.ShardBytes.{AreBlockRefused, AreByteRowsOf, AreBytesOfShards, DoJoinToBlock, HaveShardBytes, SpellElements, word_bytes};
+ghost use Rattle.c_calls.specs.WordElements.{AreElements, numbers};
+ghost use Rattle.c_calls.specs.WordEncodings.{StandInFront};
+ghost use Rattle.c_calls.specs.WordShards.{IsSplit};
+
+use crate::elements::{are_elements, number_of};
+use crate::shards;
+use commonware_math::algebra::Mem;
+use commonware_math::codec::Read;
+use commonware_math::fields::goldilocks::F;
+use commonware_math::shards::shards_of_rows;
+use shard_blocks::{Error, cells_for, join_block, split_block};
+use std::alloc::Global;
+
+/// 2^60: all shards have fewer bytes.
+const BYTES: usize = 0x1000_0000_0000_0000;
+
+/// How many bytes each shard of a block of so many bytes has: `None` where those of all shards are
+/// too many.
+pub fn size(bytes: usize, min: u32, total: u32) -> Option<usize>
+    requires { IsSplit min total }
+    ensures some { IfSome result (λ size. HaveShardBytes bytes min total size) }
+    ensures none { IfNone result ((size : ℕ) → ¬ (HaveShardBytes bytes min total size)) }
+{
+    let cells = cells_for(bytes, min);
+    match cells.checked_mul(8 * total as usize) {
+        Some(all) if all < BYTES => Some(8 * cells),
+        _ => None,
+    }
+}
+
+/// Whether so many bytes are those of the shards of a block of so many bytes.
+pub fn have_room(bytes: usize, min: u32, total: u32, room: usize) -> bool
+    requires { IsSplit min total }
+    ensures { IsTrue result ↔ ((n : ℕ) × HaveShardBytes bytes min total n × (room ≡ total * n)) }
+{
+    match size(bytes, min, total) {
+        Some(size) => total as usize * size == room,
+        None => false,
+    }
+}
+
+/// Writes the words of the cells over the bytes.
+fn write_cells(bytes: &mut [u8], cells: &[F])
+    requires { length bytes.old ≡ 8 * length cells.now }
+    ensures { bytes.new ≡ word_bytes (numbers cells.now) }
+{
+    for i in 0..cells.len() {
+        let at = 8 * i;
+        bytes[at..at + 8].copy_from_slice(&number_of(&cells[i]).to_be_bytes());
+    }
+}
+
+/// Writes the shards of the block over the bytes, a shard a row.
+pub fn write_shards(alloc: Global, block: &[u8], min: u32, total: u32, bytes: &mut [u8]) -> Mem<()>
+    requires split { IsSplit min total }
+    requires size { (n : ℕ) × HaveShardBytes (length block.now) min total n
+        × (length bytes.old ≡ total * n) }
+    ensures ok { OnOk result (AreBytesOfShards block.now min total bytes.new) }
+    ensures err { OnErr result (bytes.new ≡ bytes.old) }
+{
+    let shards = split_block(alloc, block, min, total)?;
+    let cells = shards::all_cells(alloc, &shards)?;
+    write_cells(bytes, &cells);
+    Ok(())
+}
+
+/// How many words the n bytes are in each of so many rows.
+pub fn cols_of(n: usize, rows: usize) -> Option<usize>
+    ensures some { IfSome result (λ cols. n ≡ 8 * (rows * cols)) }
+    ensures none { IfNone result (¬ (AreByteRowsOf n rows)) }
+{
+    if n % 8 != 0 {
+        return None;
+    }
+    shards::cols_of(n / 8, rows)
+}
+
+/// The words that the bytes are.
+fn words_of(alloc: Global, bytes: &[u8]) -> Mem<Vec<u64>>
+    requires { (count : ℕ) × (length bytes.now ≡ 8 * count) }
+    ensures words { IfOk result (λ words. bytes.now ≡ word_bytes words.items) }
+    ensures only { (others : List ℕ) → AreElements others → bytes.now ≡ word_bytes others
+        → IfOk result (λ words. words.items ≡ others) }
+{
+    let count = bytes.len() / 8;
+    let mut words = Vec::with_capacity(alloc, count)?;
+    let mut rest = bytes;
+    for _done in 0..count {
+        let Ok(word) = u64::read_cfg(alloc, &mut rest, &()) else {
+            unreachable!()
+        };
+        words.push(word)?;
+    }
+    Ok(words)
+}
+
+/// The words that the bytes are, where each is below P.
+pub fn words_below(alloc: Global, bytes: &[u8]) -> Mem<Option<Vec<u64>>>
+    requires { (count : ℕ) × (length bytes.now ≡ 8 * count) }
+    ensures some { IfOk result (λ answer. IfSome answer (λ words.
+        AreElements words.items × (bytes.now ≡ word_bytes words.items))) }
+    ensures none { IfOk result (λ answer. answer ≡ None → ¬ (SpellElements bytes.now)) }
+{
+    let words = words_of(alloc, bytes)?;
+    if are_elements(&words) {
+        Ok(Some(words))
+    } else {
+        Ok(None)
+    }
+}
+
+/// Writes the block that the shards give back over the first bytes of `out`, and gives their
+/// number.
+///
+/// The shards are handed in as words. `None` where there is no room. It refuses as `join_block`
+/// does.
+pub fn write_block(
+    alloc: Global,
+    indices: &[u32],
+    min: u32,
+    total: u32,
+    cells: &[u64],
+    cols: usize,
+    out: &mut [u8],
+) -> Result<Option<usize>, Error>
+    requires count { length cells.now ≡ length indices.now * cols }
+    requires below { AreElements cells.now }
+    ensures some { IfOk result (λ answer. IfSome answer (λ n. (block : List ℕ)
+        × DoJoinToBlock block min total indices.now (word_bytes cells.now) × (n ≡ length block)
+        × StandInFront block out.old out.new)) }
+    ensures none { IfOk result (λ answer. IfNone answer ((block : List ℕ)
+        × DoJoinToBlock block min total indices.now (word_bytes cells.now)
+        × (length out.old < length block))) }
+    ensures kept { IfOk result (λ answer. IfNone answer (out.new ≡ out.old)) }
+    ensures err { OnErr result (out.new ≡ out.old) }
+    ensures due { IfErr result (λ e. IsMemory e
+        ⊎ AreBlockRefused e min total indices.now (word_bytes cells.now)) }
+    ensures found { (block : List ℕ)
+        → DoJoinToBlock block min total indices.now (word_bytes cells.now)
+        → length block ≤ length out.old → MatchResult result (λ answer. IsSome answer) IsMemory }
+{
+    let shards = shards_of_rows(alloc, indices, min, total, cells, cols)?;
+    let block = join_block(alloc, &shards)?;
+    let n = block.len();
+    if n > out.len() {
+        return Ok(None);
+    }
+    out[..n].copy_from_slice(&block);
+    Ok(Some(n))
+}

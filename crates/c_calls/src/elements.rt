@@ -1,0 +1,141 @@
+//! Words as elements, and elements as words.
+
+ghost use Rattle.std.specs.Prelude.{◌≡◌, ◌↔◌, ◌≤◌, ◌+◌, ◌*◌, ◌++◌, ℕ, List, IsTrue, IfOk, IfSome, None, length, take, drop};
+ghost use Rattle.std.specs.Int.{to_be_bytes, w64};
+ghost use Rattle.std.specs.List.{flat_map};
+ghost use Rattle.math_codec.specs.Faults.{Agrees, OnMemory};
+ghost use Rattle.math_codec.specs.Lists.{scan_items};
+ghost use Rattle.math_base.specs.ElementEncoding.{scan_element};
+ghost use Rattle.math_base.specs.Elements.{number};
+ghost use Rattle.c_calls.specs.WordElements.{AreElements, elements, numbers};
+
+use commonware_math::algebra::Mem;
+use commonware_math::codec::{Error, Read};
+use commonware_math::fields::goldilocks::{F, MODULUS};
+use std::alloc::Global;
+
+/// Whether each word is below P, and so the number of an element.
+pub fn are_elements(words: &[u64]) -> bool
+    ensures { IsTrue result ↔ AreElements words.now }
+{
+    words.iter().all(|word| *word < MODULUS)
+}
+
+/// The words as elements.
+pub(crate) fn elements(alloc: Global, words: &[u64]) -> Mem<Vec<F>>
+    ensures { IfOk result (λ v. v.items ≡ elements words.now) }
+{
+    let mut out = Vec::with_capacity(alloc, words.len())?;
+    for word in words {
+        out.push_reserved(F::from(*word));
+    }
+    Ok(out)
+}
+
+/// The words as elements, where each is below P.
+///
+/// All words are looked at before it answers, so that none waits for the one before it.
+pub fn elements_below(alloc: Global, words: &[u64]) -> Mem<Option<Vec<F>>>
+    ensures some { IfOk result (λ answer. IfSome answer (λ v.
+        AreElements words.now × (v.items ≡ elements words.now))) }
+    ensures none { IfOk result (λ answer. answer ≡ None → ¬ (AreElements words.now)) }
+{
+    let mut out = Vec::with_capacity(alloc, words.len())?;
+    let mut below = true;
+    for word in words {
+        out.push_reserved(F::from(*word));
+        if *word >= MODULUS {
+            below = false;
+        }
+    }
+    if below { Ok(Some(out)) } else { Ok(None) }
+}
+
+/// The number of an element.
+pub(crate) fn number_of(a: &F) -> u64
+    ensures { result ≡ number a.now }
+{
+    u64::from_le_bytes(a.to_le_bytes())
+}
+
+/// Writes the numbers of the elements over the words, of which there are as many. Both are slices
+/// of one length, so that no place is tested.
+pub(crate) fn write_numbers(words: &mut [u64], items: &[F])
+    requires { length words.old ≡ length items.now }
+    ensures { words.new ≡ numbers items.now }
+{
+    let source = &items[..words.len()];
+    for i in 0..words.len() {
+        words[i] = number_of(&source[i]);
+    }
+}
+
+/// Reads the words that the bytes spell, eight bytes each, highest first, over the words.
+pub(crate) fn read_words(alloc: Global, words: &mut [u64], bytes: &[u8])
+    requires { length bytes.now ≡ 8 * length words.old }
+    ensures { (items : List ℕ) → AreElements items → bytes.now ≡ flat_map (to_be_bytes w64) items
+        → words.new ≡ items }
+{
+    let mut rest = bytes;
+    for i in 0..words.len() {
+        let Ok(word) = u64::read_cfg(alloc, &mut rest, &()) else {
+            unreachable!()
+        };
+        words[i] = word;
+    }
+}
+
+/// What follows so many words in front of the bytes, eight bytes each, highest first, where they
+/// are there and each is below P.
+///
+/// All words are looked at before it answers, so that none waits for the one before it.
+fn after_words_below(alloc: Global, count: u32, bytes: &[u8]) -> Option<&[u8]>
+    ensures { IfSome result (λ rest. (words : List ℕ) × (length words ≡ count) × AreElements words
+        × (bytes.now ≡ flat_map (to_be_bytes w64) words ++ rest.now)) }
+{
+    if bytes.len() < 8 * count as usize {
+        return None;
+    }
+    let mut rest = bytes;
+    let mut below = true;
+    for _ in 0..count {
+        let Ok(word) = u64::read_cfg(alloc, &mut rest, &()) else {
+            unreachable!()
+        };
+        if word >= MODULUS {
+            below = false;
+        }
+    }
+    if below { Some(rest) } else { None }
+}
+
+/// Goes over so many words in front of the bytes, eight bytes each, highest first, and gives what
+/// follows them. It refuses with the first fault from left to right: a word that is P or more, or
+/// no further word.
+pub(crate) fn after_elements(alloc: Global, count: u32, bytes: &[u8]) -> Result<&[u8], Error>
+    ensures taken { IfOk result (λ rest. (words : List ℕ) × (length words ≡ count)
+        × AreElements words × (bytes.now ≡ flat_map (to_be_bytes w64) words ++ rest.now)) }
+    ensures memory { OnMemory result ⊥ }
+    ensures exact { Agrees (λ rest. rest.now) result (scan_items scan_element count bytes.now) }
+{
+    if let Some(rest) = after_words_below(alloc, count, bytes) {
+        return Ok(rest);
+    }
+    let mut rest = bytes;
+    for _ in 0..count {
+        let _element = F::read_cfg(alloc, &mut rest, &())?;
+    }
+    Ok(rest)
+}
+
+/// Writes the words over the bytes from place `from` on: eight bytes each, highest first.
+pub(crate) fn write_words(bytes: &mut [u8], from: usize, words: &[u64])
+    requires { from + 8 * length words.now ≤ length bytes.old }
+    ensures { bytes.new ≡ take from bytes.old ++ flat_map (to_be_bytes w64) words.now
+        ++ drop (from + 8 * length words.now) bytes.old }
+{
+    for i in 0..words.len() {
+        let at = from + 8 * i;
+        bytes[at..at + 8].copy_from_slice(&words[i].to_be_bytes());
+    }
+}

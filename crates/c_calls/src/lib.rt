@@ -1,0 +1,17 @@
+//! What the library for C does, over words and bytes in the caller's memory: polynomials over the
+//! Goldilocks field, and shards.
+//!
+//! The exports call it from `commonware_math_c`, a static library, of which nothing is kept that was
+//! proved. What stands here is proved once for all archives.
+#![tactic(auto)]
+
+pub mod blocks;
+pub mod corrections;
+pub mod decodings;
+pub mod elements;
+pub mod polynomials;
+pub mod rows;
+pub mod shards;
+pub mod status;
+pub mod values;
+pub mod weights;

@@ -1,0 +1,117 @@
+//! What a call answers.
+
+ghost use Rattle.std.specs.Prelude.{◌≡◌, ◌≢◌, ◌≤◌, ◌-◌, ◌++◌, Result, length, replicate};
+ghost use Rattle.math_codec.specs.Faults.{Fault, Reports};
+ghost use Rattle.c_calls.specs.Statuses.{code_of, done, out_of_memory, status_of_read, status_of_shards, text_of};
+
+use commonware_math::codec::Error;
+use commonware_math::shards;
+
+/// What a call answers.
+#[derive(Clone, Copy, Debug)]
+pub enum Status {
+    /// The call did what it says.
+    Done = 0,
+    /// Memory ran out.
+    OutOfMemory = 1,
+    /// A word is P or more, or a byte that says whether a row is filled is neither 0 nor 1.
+    OutOfRange = 2,
+    /// A number of words, rows or columns is none that the call takes, or there is no room for the
+    /// answer.
+    WrongSize = 3,
+    /// Fewer than `min` distinct indices of shards are there, or fewer filled rows than
+    /// coefficients.
+    TooFew = 4,
+    /// Not 1 <= `min` <= `total`.
+    Mismatch = 5,
+    /// An index is not below the total, or of weights not above the one before it.
+    WrongIndex = 6,
+    /// Two shards have one index and unequal cells.
+    Conflict = 7,
+    /// There is no answer that fits: no data that have each of the shards, or no polynomial near
+    /// the values.
+    Inconsistent = 8,
+    /// The bytes end within a polynomial.
+    EndOfBuffer = 9,
+    /// The bytes begin with no length.
+    InvalidVarint = 10,
+    /// The length is zero.
+    InvalidLength = 11,
+    /// Bytes follow the polynomial.
+    ExtraData = 12,
+    /// A point is there twice.
+    Repeated = 13,
+}
+
+impl Status {
+    /// The number of the status, as C has it.
+    pub fn code(self) -> u32
+        ensures { result ≡ code_of self }
+    {
+        self as u32
+    }
+}
+
+/// The status of a read that was refused.
+pub fn of_read(error: &Error) -> Status
+    ensures refused { code_of result ≢ done }
+    ensures exact { (expected : Result (Unit {0}) Fault) → Reports error.now expected
+        → code_of result ≢ out_of_memory → code_of result ≡ status_of_read expected }
+{
+    match error {
+        Error::Memory(_) => Status::OutOfMemory,
+        Error::EndOfBuffer => Status::EndOfBuffer,
+        Error::InvalidVarint => Status::InvalidVarint,
+        Error::InvalidLength(_) => Status::InvalidLength,
+        Error::Invalid(_, _) => Status::OutOfRange,
+        Error::ExtraData(_) => Status::ExtraData,
+    }
+}
+
+/// The status of shards that give no data back.
+pub fn of_shards(error: &shards::Error) -> Status
+    ensures { code_of result ≡ status_of_shards error.now }
+{
+    match error {
+        shards::Error::Memory(_) => Status::OutOfMemory,
+        shards::Error::TooFew => Status::TooFew,
+        shards::Error::Mismatch => Status::Mismatch,
+        shards::Error::Index => Status::WrongIndex,
+        shards::Error::Conflict => Status::Conflict,
+        shards::Error::Inconsistent => Status::Inconsistent,
+    }
+}
+
+/// What a status says, in at most 31 ASCII characters.
+fn text(status: u32) -> &'static str
+    ensures text { result.now ≡ text_of status }
+    ensures fits { length (text_of status) ≤ 31 }
+{
+    match status {
+        0 => "done",
+        1 => "out of memory",
+        2 => "out of range",
+        3 => "wrong size",
+        4 => "too few",
+        5 => "mismatch",
+        6 => "wrong index",
+        7 => "unequal shards of one index",
+        8 => "nothing fits",
+        9 => "end of buffer",
+        10 => "invalid varint",
+        11 => "invalid length",
+        12 => "extra data",
+        13 => "repeated point",
+        _ => "no status",
+    }
+}
+
+/// Writes the text of a status, and zeros behind it.
+pub fn write_text(status: u32, out: &mut [u8])
+    requires { 32 ≤ length out.old }
+    ensures { out.new ≡ text_of status ++ replicate (length out.old - length (text_of status)) 0 }
+{
+    let bytes = text(status).as_bytes();
+    out[..bytes.len()].copy_from_slice(bytes);
+    out[bytes.len()..].fill(0);
+}

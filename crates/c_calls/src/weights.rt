@@ -1,0 +1,86 @@
+//! Weights by which values at some points give the value elsewhere, as words.
+
+ghost use Rattle.std.specs.Prelude.{◌≡◌, ◌↔◌, ◌<◌, ◌^◌, IsTrue, IfOk, OnOk, OnErr, length};
+ghost use Rattle.std.specs.Map.{values_of};
+ghost use Rattle.math_numbers.specs.Goldilocks.{P};
+ghost use Rattle.c_calls.specs.WordElements.{AreElements};
+ghost use Rattle.c_calls.specs.WordWeights.{AreRising, AreWordWeights, AreWordWeightsAtRoots};
+
+use crate::elements::{elements, write_numbers};
+use commonware_math::algebra::Mem;
+use commonware_math::fields::goldilocks::F;
+use commonware_math::ntt::lagrange_coefficients_at;
+use commonware_math::poly::weights_at;
+use std::alloc::Global;
+use std::num::NonZeroU32;
+
+/// Writes the weights for the value at x over the points.
+pub fn at_points(alloc: Global, points: &[u64], x: u64, weights: &mut [u64]) -> Mem<()>
+    requires count { length weights.old ≡ length points.now }
+    requires below { AreElements points.now }
+    requires x_below { x < P }
+    ensures ok { OnOk result (AreWordWeights x points.now weights.new) }
+    ensures err { OnErr result (weights.new ≡ weights.old) }
+{
+    let points = elements(alloc, points)?;
+    let found = weights_at(alloc, &points, &F::from(x))?;
+    write_numbers(weights, &found);
+    Ok(())
+}
+
+/// Whether the indices rise, and are below the total.
+pub fn are_rising(total: u32, indices: &[u32]) -> bool
+    ensures { IsTrue result ↔ AreRising total indices.now }
+{
+    let mut least = 0;
+    for index in indices {
+        if *index < least || *index >= total {
+            return false;
+        }
+        least = *index + 1;
+    }
+    true
+}
+
+/// The weights of pairs of an index and a weight.
+fn values(alloc: Global, pairs: Vec<(u32, F)>) -> Mem<Vec<F>>
+    ensures { IfOk result (λ v. v.items ≡ values_of pairs.items) }
+{
+    let mut out = Vec::new(alloc);
+    for pair in pairs {
+        out.push(pair.1)?;
+    }
+    Ok(out)
+}
+
+/// The indices once more.
+fn copied(alloc: Global, indices: &[u32]) -> Mem<Vec<u32>>
+    ensures { IfOk result (λ v. v.items ≡ indices.now) }
+{
+    let mut out = Vec::new(alloc);
+    for index in indices {
+        out.push(*index)?;
+    }
+    Ok(out)
+}
+
+/// Writes the weights for the value at x over the powers, with these exponents, of the root whose
+/// order is `total` rounded up to a power of two.
+pub fn at_roots(
+    alloc: Global,
+    total: NonZeroU32,
+    indices: &[u32],
+    x: u64,
+    weights: &mut [u64],
+) -> Mem<()>
+    requires count { length weights.old ≡ length indices.now }
+    requires rising { AreRising total.value indices.now }
+    requires x_below { x < P }
+    ensures ok { OnOk result (AreWordWeightsAtRoots x total.value indices.now weights.new) }
+    ensures err { OnErr result (weights.new ≡ weights.old) }
+{
+    let found = lagrange_coefficients_at(alloc, total, copied(alloc, indices)?, &F::from(x))?;
+    let found = values(alloc, found)?;
+    write_numbers(weights, &found);
+    Ok(())
+}

@@ -1,7 +1,0 @@
-use Rattle.std.proofs.Common.{◌≡◌, take}
-use Rattle.commonware_math_c.specs.WordElements.{numbers}
-use Rattle.commonware_math_c.proofs.elements.write_numbers.Given as goal
-
--- the numbers of the elements so far
-abbrev pub invariant-loop-i : goal.invariant-loop-i
-invariant-loop-i l = take l.i l.words ≡ numbers (take l.i l.items)

@@ -1,6 +1,0 @@
-use Rattle.commonware_math_c.proofs.WrittenWords.{AreWritten}
-use Rattle.commonware_math_c.proofs.elements.write_words.Given as goal
-
--- the words so far
-abbrev pub invariant-loop-i : goal.invariant-loop-i
-invariant-loop-i l = AreWritten l.from l.i l.initial.bytes l.words l.bytes

@@ -1,6 +1,0 @@
-use Rattle.commonware_math_c.proofs.FilledRows.{HoldFilled}
-use Rattle.commonware_math_c.proofs.rows.filled_elements.Given as goal
-
--- the rows so far
-abbrev pub invariant-loop-i : goal.invariant-loop-i
-invariant-loop-i l = HoldFilled l.cols l.i l.cells l.bytes l.out.items

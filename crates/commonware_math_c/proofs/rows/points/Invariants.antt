@@ -1,7 +1,0 @@
-use Rattle.std.proofs.Common.{◌≡◌}
-use Rattle.commonware_math_c.proofs.TruthValues.{so_far}
-use Rattle.commonware_math_c.proofs.rows.points.Given as goal
-
--- the truth values so far, and then as many that are false as bytes are left
-abbrev pub invariant-loop-i : goal.invariant-loop-i
-invariant-loop-i l = l.out ≡ so_far l.bytes l.i

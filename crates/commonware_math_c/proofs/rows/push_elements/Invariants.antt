@@ -1,7 +1,0 @@
-use Rattle.std.proofs.Common.{◌≡◌, ◌++◌, take}
-use Rattle.commonware_math_c.specs.WordElements.{elements}
-use Rattle.commonware_math_c.proofs.rows.push_elements.Given as goal
-
--- the elements of the words so far behind what was there
-abbrev pub invariant-loop-word : goal.invariant-loop-word
-invariant-loop-word l = l.out.items ≡ l.initial.out.items ++ elements (take l.word-index l.words)
