@@ -57,25 +57,39 @@ fn at_any<R: Element>(alloc: Global, row: Row<'_>, answer: &mut Answer<R>) -> Re
     )
 }
 
-/// Runs a call at the Goldilocks field.
-pub fn at_field(alloc: Global, row: Row<'_>, answer: &mut Answer<F>) -> Result<bool, Fault> {
-    Ok(at_any(alloc, row, answer)? || sampling::run(alloc, row.call, row.arguments, answer)?)
+/// A field that rows are run at.
+pub trait Field: Element {
+    /// What rows call it.
+    const NAME: &'static str;
+
+    /// Runs the call of a row; `false` where there is none.
+    fn run(alloc: Global, row: Row<'_>, answer: &mut Answer<Self>) -> Result<bool, Fault>;
 }
 
-/// Runs a call at the boxed field.
-pub fn at_boxed(alloc: Global, row: Row<'_>, answer: &mut Answer<Boxed<F>>) -> Result<bool, Fault> {
-    Ok(
-        at_any(alloc, row, answer)?
-            || sampling::run(alloc, row.call, row.arguments, answer)?
-            || groups::run(alloc, row.call, row.arguments, answer)?,
-    )
+impl Field for F {
+    const NAME: &'static str = "field";
+
+    fn run(alloc: Global, row: Row<'_>, answer: &mut Answer<F>) -> Result<bool, Fault> {
+        Ok(at_any(alloc, row, answer)? || sampling::run(alloc, row.call, row.arguments, answer)?)
+    }
 }
 
-/// Runs a call at the quotients.
-pub fn at_quotients(
-    alloc: Global,
-    row: Row<'_>,
-    answer: &mut Answer<Quotient>,
-) -> Result<bool, Fault> {
-    Ok(at_any(alloc, row, answer)? || groups::run(alloc, row.call, row.arguments, answer)?)
+impl Field for Boxed<F> {
+    const NAME: &'static str = "boxed";
+
+    fn run(alloc: Global, row: Row<'_>, answer: &mut Answer<Boxed<F>>) -> Result<bool, Fault> {
+        Ok(
+            at_any(alloc, row, answer)?
+                || sampling::run(alloc, row.call, row.arguments, answer)?
+                || groups::run(alloc, row.call, row.arguments, answer)?,
+        )
+    }
+}
+
+impl Field for Quotient {
+    const NAME: &'static str = "quotients";
+
+    fn run(alloc: Global, row: Row<'_>, answer: &mut Answer<Quotient>) -> Result<bool, Fault> {
+        Ok(at_any(alloc, row, answer)? || groups::run(alloc, row.call, row.arguments, answer)?)
+    }
 }

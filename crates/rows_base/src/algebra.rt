@@ -2,6 +2,7 @@
 
 use crate::answer::{Answer, put, put_firsts};
 use crate::fault::Fault;
+use crate::refusals::{begin, end};
 use crate::words::{element, elements, number, numbers, parted};
 use math_base::algebra::{Mem, Space, msm_naive, powers};
 use math_samples::elements::Element;
@@ -16,7 +17,8 @@ pub fn run<R: Element>(
 ) -> Result<bool, Fault> {
     let x = match call {
         "zero" | "one" | "coset_shift" | "coset_shift_inv" => constant(alloc, call),
-        "neg" | "double" | "square" | "inv" | "div_2" | "clone" => of_one(alloc, call, arguments),
+        "neg" | "inv" | "div_2" | "clone" => of_one(alloc, call, arguments),
+        "double" | "square" => in_place(alloc, call, arguments),
         "add" | "sub" | "mul" => of_two(alloc, call, arguments),
         "scale" | "exp" => by_limbs(alloc, call, arguments),
         "msm" | "msm_naive" => weighted(alloc, call, arguments),
@@ -54,24 +56,41 @@ fn constant<R: Element>(alloc: Global, call: &str) -> Result<R, Fault> {
     x.map_err(Fault::Memory)
 }
 
-/// The operation of one element.
+/// The operation of one element that is read or taken.
 fn changed<R: Element>(alloc: Global, call: &str, x: R) -> Mem<R> {
-    let mut x = x;
     match call {
-        "neg" => return x.neg(alloc),
-        "double" => x.double(alloc)?,
-        "square" => x.square(alloc)?,
-        "inv" => return x.inv(alloc),
-        "div_2" => return x.div_2(alloc),
-        _ => return x.clone(alloc),
+        "neg" => x.neg(alloc),
+        "inv" => x.inv(alloc),
+        "div_2" => x.div_2(alloc),
+        _ => x.clone(alloc),
     }
-    Ok(x)
 }
 
-/// `neg A`, `double A`, `square A`, `inv A`, `div_2 A`, `clone A`.
+/// The operation of one element in place.
+fn change<R: Element>(alloc: Global, call: &str, x: &mut R) -> Mem<()> {
+    match call {
+        "double" => x.double(alloc),
+        _ => x.square(alloc),
+    }
+}
+
+/// `neg A`, `inv A`, `div_2 A`, `clone A`.
 fn of_one<R: Element>(alloc: Global, call: &str, arguments: &str) -> Result<R, Fault> {
     let x = element::<R>(alloc, arguments)?;
-    changed(alloc, call, x).map_err(Fault::Memory)
+    let given = begin(alloc, &());
+    let out = changed(alloc, call, x);
+    end(alloc, given, &(), out.is_err());
+    out.map_err(Fault::Memory)
+}
+
+/// `double A`, `square A`.
+fn in_place<R: Element>(alloc: Global, call: &str, arguments: &str) -> Result<R, Fault> {
+    let mut x = element::<R>(alloc, arguments)?;
+    let given = begin(alloc, &x);
+    let done = change(alloc, call, &mut x);
+    end(alloc, given, &x, done.is_err());
+    done?;
+    Ok(x)
 }
 
 /// The operation of two elements.
@@ -88,7 +107,10 @@ fn of_two<R: Element>(alloc: Global, call: &str, arguments: &str) -> Result<R, F
     let (a, b) = parted(arguments, ' ')?;
     let a = element::<R>(alloc, a)?;
     let b = element::<R>(alloc, b)?;
-    combined(alloc, call, a, &b).map_err(Fault::Memory)
+    let given = begin(alloc, &b);
+    let out = combined(alloc, call, a, &b);
+    end(alloc, given, &b, out.is_err());
+    out.map_err(Fault::Memory)
 }
 
 /// `scale A @ LIMB ..`, `exp A @ LIMB ..`: the multiple and the power.
