@@ -1,6 +1,6 @@
 use Rattle.std.proofs.Common.{◌∙◌, refl}
 use Rattle.math_ntt.proofs.PaddedPolynomials.{next_power_of_two-once}
-use Rattle.rows_recovery.proofs.transforms.evaluated.Goals as goal
+use Rattle.rows_ntt.proofs.transforms.evaluated_columns.Goals as goal
 
 pub evaluate_counted-requires-clause-domain : goal.evaluate_counted-requires-clause-domain
 evaluate_counted-requires-clause-domain g c = λ lg e.
