@@ -57,7 +57,7 @@ impl Breach {
     ];
 
     /// The number that the library knows it by.
-    fn number(self) -> usize {
+    fn number(self) -> u8 {
         match self {
             Breach::Swallowed => 0,
             Breach::Changed => 1,
@@ -115,12 +115,12 @@ fn are_watched(alloc: Global) -> bool {
 
 /// Notes a breach.
 pub fn tell(alloc: Global, breach: Breach) {
-    let _given = is_given(alloc, TELL + breach.number());
+    let _given = is_given(alloc, TELL + breach.number() as usize);
 }
 
 /// Whether this breach was noted since the last call of `refuse`.
 pub fn was_told(alloc: Global, breach: Breach) -> bool {
-    is_given(alloc, WAS_TOLD + breach.number())
+    is_given(alloc, WAS_TOLD + breach.number() as usize)
 }
 
 /// The hash FNV-1a of a text as it is written.
