@@ -18,14 +18,14 @@ fn rows_by_lg(rows: usize) -> u64 {
     (rows as u64).saturating_mul(u64::from(rows.trailing_zeros()))
 }
 
-/// Tells where an evaluation of so many rows and columns counted more than c N lg N / 2 butterflies, or a
-/// root product.
+/// Tells where an evaluation of so many rows and columns counted more than c N lg N / 2
+/// butterflies, or a root product.
 pub fn keep_evaluation(alloc: Global, work: &Work, rows: usize, cols: usize) {
     keep(alloc, work, rows_by_lg(rows).saturating_mul(cols as u64), 0);
 }
 
-/// Tells where so many recoveries counted more than N lg N (3 lg N + 3 c + 2) / 2 butterflies and 128 N root
-/// products each.
+/// Tells where so many recoveries counted more than N lg N (3 lg N + 3 c + 2) / 2 butterflies and
+/// 128 N root products each.
 pub fn keep_recoveries(alloc: Global, work: &Work, rows: usize, cols: usize, count: u64) {
     let lg = u64::from(rows.trailing_zeros());
     let transforms = (cols as u64)

@@ -86,7 +86,8 @@ fn correct<R: Element>(
     put_found(alloc, &found, answer).map_err(Fault::Memory)
 }
 
-/// `correct_uncounted COUNT @ LG COLUMNS ROW: CELL .. ; ..`: without the butterflies, by the call that counts none.
+/// `correct_uncounted COUNT @ LG COLUMNS ROW: CELL .. ; ..`: without the butterflies, by the call
+/// that counts none.
 fn correct_uncounted<R: Element>(
     alloc: Global,
     arguments: &str,

@@ -81,7 +81,8 @@ fn made<R: Element>(alloc: Global, arguments: &str) -> Result<Matrix<R>, Fault> 
     m.map_err(Fault::Memory)
 }
 
-/// Items from the last to the first, but `None` at the call that has the number `end`. It counts the calls.
+/// Items from the last to the first, but `None` at the call that has the number `end`. It counts
+/// the calls.
 #[derive(Drop)]
 struct Counting<'a, R: Element> {
     calls: &'a Cell<u64>,
@@ -102,8 +103,8 @@ impl<'a, R: Element> Iterator for Counting<'a, R> {
     }
 }
 
-/// How often a matrix of so many rows and columns asks for an item, where there is none at the call of the number
-/// `last`, and the matrix.
+/// How often a matrix of so many rows and columns asks for an item, where there is none at the call
+/// of the number `last`, and the matrix.
 fn asked<R: Element>(
     alloc: Global,
     rows: usize,
@@ -125,8 +126,8 @@ fn asked<R: Element>(
     Ok((calls.get(), m?))
 }
 
-/// `matrix_asked M @ END`: how often `Matrix::init` asks for an item, where the items are the cells of M but there is
-/// none at the call of the number END, and the matrix.
+/// `matrix_asked M @ END`: how often `Matrix::init` asks for an item, where the items are the cells
+/// of M but there is none at the call of the number END, and the matrix.
 fn put_asked<R: Element>(
     alloc: Global,
     arguments: &str,

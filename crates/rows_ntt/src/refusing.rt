@@ -14,7 +14,8 @@ use std::alloc::Global;
 /// More allocations than an evaluation makes that is refused again and again.
 const MOST: u32 = 10_000;
 
-/// The butterflies of an evaluation, whether an allocation of it was refused, and whether it did nothing wrong.
+/// The butterflies of an evaluation, whether an allocation of it was refused, and whether it did
+/// nothing wrong.
 #[derive(Clone, Copy)]
 struct Run {
     butterflies: u128,
@@ -50,8 +51,9 @@ fn follows(before: u128, count: u128) -> bool {
     count == before || count.checked_sub(1) == Some(before)
 }
 
-/// The butterflies of the evaluation that meets no refusal, after those with each allocation refused in turn; `None`
-/// where one does not count as many as the one before or one more, or that of the number `place` not this many.
+/// The butterflies of the evaluation that meets no refusal, after those with each allocation
+/// refused in turn; `None` where one does not count as many as the one before or one more, or that
+/// of the number `place` not this many.
 fn risen<R: Element>(
     alloc: Global,
     m: &Matrix<R>,
@@ -97,10 +99,11 @@ fn put_risen<R: Element>(
     }
 }
 
-/// `evaluate_refused PLACE B @ N @ M`: the columns of M as polynomials of N coefficients at least are evaluated with
-/// each allocation refused in turn, until one meets no refusal. It is `rises` and the butterflies of that one, where a
-/// refusal one allocation later counts the same butterflies or one more, and that of the number PLACE counts B. Where
-/// no library refuses allocations, nothing but that one is run.
+/// `evaluate_refused PLACE B @ N @ M`: the columns of M as polynomials of N coefficients at least
+/// are evaluated with each allocation refused in turn, until one meets no refusal. It is `rises`
+/// and the butterflies of that one, where a refusal one allocation later counts the same
+/// butterflies or one more, and that of the number PLACE counts B. Where no library refuses
+/// allocations, nothing but that one is run.
 pub fn evaluate_refused<R: Element>(
     alloc: Global,
     arguments: &str,
@@ -112,7 +115,8 @@ pub fn evaluate_refused<R: Element>(
     put_risen(alloc, &m, n, known, text).map_err(Fault::Memory)
 }
 
-/// Whether the constant one is recovered with fewer allocations than this. The one of that number is refused.
+/// Whether the constant one is recovered with fewer allocations than this. The one of that number
+/// is refused.
 fn is_recovered_below<R: Element>(
     alloc: Global,
     values: Values<R>,
@@ -125,9 +129,9 @@ fn is_recovered_below<R: Element>(
     Ok(right && are_constant(alloc, &polynomials?, true)?)
 }
 
-/// `recover_below LG RULE @ N`: `below` where of one column, filled with one by the rule, the constant one is recovered
-/// with fewer than N allocations. The N-th is refused, and is not met. Where no library refuses allocations nothing is
-/// recovered, and the answer is the same.
+/// `recover_below LG RULE @ N`: `below` where of one column, filled with one by the rule, the
+/// constant one is recovered with fewer than N allocations. The N-th is refused, and is not met.
+/// Where no library refuses allocations nothing is recovered, and the answer is the same.
 pub fn recover_below<R: Element>(
     alloc: Global,
     arguments: &str,
