@@ -13,9 +13,8 @@ use rows_base::answer::Answer;
 use rows_base::fault::Fault;
 use rows_base::{algebra, goldilocks, maps};
 use rows_encodings::{encodings, sampling};
-use rows_ntt::{bitmaps, matrices, vectors};
+use rows_ntt::{bitmaps, correction, matrices, recovery, transforms, vectors};
 use rows_poly::{decoding, groups, polynomials};
-use rows_recovery::{correction, recovery, transforms};
 use rows_secrets::{byte_shares, commitments, element_shares, lines};
 use std::alloc::Global;
 

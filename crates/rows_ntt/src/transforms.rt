@@ -1,17 +1,22 @@
 //! Values of polynomials at the points of domains, and polynomials that vanish at some.
 
-ghost use Rattle.std.specs.Prelude.{◌≤◌, length, IsTrue};
+ghost use Rattle.std.specs.Prelude.{◌≡◌, ◌≤◌, length, IsTrue};
 ghost use Rattle.math_transforms.specs.DomainValues.{HasDomain};
 
+use crate::bitmaps::{empty, set};
+use crate::bounds::keep_evaluation;
+use crate::matrices::{matrix, put_matrix};
+use crate::refusing::evaluate_refused;
+use crate::vectors::padded;
 use math_base::algebra::{Field, Mem, Multiplicative, Object};
-use math_ntt::ntt::{EvaluationColumn, EvaluationVector, PolynomialColumn, VanishingPoints, Work};
+use math_ntt::ntt::{
+    EvaluationColumn, EvaluationVector, Matrix, PolynomialColumn, VanishingPoints, Work,
+};
 use math_samples::elements::Element;
 use rows_base::answer::{Answer, put};
 use rows_base::fault::Fault;
+use rows_base::refusals::{begin, end};
 use rows_base::words::{number, parted};
-use rows_ntt::bitmaps::{empty, set};
-use rows_ntt::matrices::{matrix, put_matrix};
-use rows_ntt::vectors::padded;
 use std::alloc::Global;
 
 /// Runs a call of this module; `false` where it is none.
@@ -24,6 +29,7 @@ pub fn run<R: Element>(
     let done = match call {
         "evaluate" => evaluate(alloc, arguments, answer),
         "evaluate_work" => evaluate_work::<R>(alloc, arguments, &mut answer.text),
+        "evaluate_refused" => evaluate_refused::<R>(alloc, arguments, &mut answer.text),
         "vanishing" => put_vanishing(alloc, arguments, answer),
         "vanishing_polynomial" => put_polynomial(alloc, arguments, answer),
         _ => return Ok(false),
@@ -39,25 +45,47 @@ pub fn has_domain<R: Element>(rows: usize) -> bool
     lg <= R::MAX_LG_ROOT_ORDER
 }
 
-/// The columns of M of `N @ M` as polynomials of N coefficients at least, evaluated: their values,
-/// and the work that it took.
-fn evaluated<R: Element>(
+/// The columns as polynomials of n coefficients at least, evaluated, and the work in `work`.
+pub(crate) fn evaluated_columns<R: Element>(
     alloc: Global,
-    arguments: &str,
-) -> Result<(EvaluationVector<R>, Work), Fault> {
-    let (n, m) = parted(arguments, '@')?;
-    let n = number(n.trim())? as usize;
+    m: &Matrix<R>,
+    n: usize,
+    work: &mut Work,
+) -> Result<EvaluationVector<R>, Fault>
+    requires { work.old.butterflies ≡ 0 }
+{
     let Some(rows) = n.checked_next_power_of_two() else {
         return Err(Fault::OutOfRange("too many rows"));
     };
     if !has_domain::<R>(rows) {
         return Err(Fault::OutOfRange("no such domain"));
     }
-    let Some(v) = padded(alloc, &matrix::<R>(alloc, m)?, n)? else {
+    let Some(v) = padded(alloc, m, n)? else {
         return Err(Fault::OutOfRange("no polynomials"));
     };
+    let given = begin(alloc, &());
+    let values = v.evaluate_counted(alloc, work);
+    end(alloc, given, &(), values.is_err());
+    keep_evaluation(alloc, work, rows, m.cols());
+    values.map_err(Fault::Memory)
+}
+
+/// Number and matrix of `N @ M`.
+pub(crate) fn columns<R: Element>(alloc: Global, text: &str) -> Result<(usize, Matrix<R>), Fault> {
+    let (n, m) = parted(text, '@')?;
+    let n = number(n.trim())? as usize;
+    Ok((n, matrix::<R>(alloc, m)?))
+}
+
+/// The columns of M of `N @ M` as polynomials of N coefficients at least, evaluated: their values,
+/// and the work that it took.
+fn evaluated<R: Element>(
+    alloc: Global,
+    arguments: &str,
+) -> Result<(EvaluationVector<R>, Work), Fault> {
+    let (n, m) = columns::<R>(alloc, arguments)?;
     let mut work = Work::new();
-    let values = v.evaluate_counted(alloc, &mut work)?;
+    let values = evaluated_columns(alloc, &m, n, &mut work)?;
     Ok((values, work))
 }
 
@@ -108,7 +136,10 @@ fn vanishing<R: Element>(
     if points.count_non_vanishing() == 0 || !has_domain::<R>(1 << points.lg_size()) {
         return Err(Fault::OutOfRange("no such domain"));
     }
-    let (at_zero, values) = EvaluationColumn::<R>::vanishing(alloc, points)?;
+    let given = begin(alloc, points);
+    let answer = EvaluationColumn::<R>::vanishing(alloc, points);
+    end(alloc, given, points, answer.is_err());
+    let (at_zero, values) = answer?;
     Ok((at_zero.inv(alloc)?, values))
 }
 
@@ -203,8 +234,13 @@ fn put_polynomial<R: Element>(
     if !has_domain::<R>(count) {
         return Err(Fault::OutOfRange("no such domain"));
     }
-    let polynomial = values.interpolate(alloc)?;
+    let given = begin(alloc, &());
+    let polynomial = values.interpolate(alloc);
+    end(alloc, given, &(), polynomial.is_err());
+    let polynomial = polynomial?;
     put_coefficients(alloc, &polynomial, count, &scale, answer)?;
-    let values = polynomial.evaluate(alloc)?;
-    put_all_scaled(alloc, values.values(), &scale, answer).map_err(Fault::Memory)
+    let given = begin(alloc, &());
+    let values = polynomial.evaluate(alloc);
+    end(alloc, given, &(), values.is_err());
+    put_all_scaled(alloc, values?.values(), &scale, answer).map_err(Fault::Memory)
 }

@@ -1,15 +1,18 @@
 //! Polynomials recovered from some rows of values.
 
+use crate::bounds::keep_recoveries;
+use crate::matrices::put_matrix;
+use crate::refusing::recover_below;
 use crate::transforms::has_domain;
+use crate::vectors::{Values, filled};
 use math_base::algebra::{Additive, Mem, Object, Ring};
 use math_base::fields::goldilocks::MODULUS;
 use math_ntt::ntt::{PolynomialVector, Work};
 use math_samples::elements::Element;
 use rows_base::answer::{Answer, put};
 use rows_base::fault::Fault;
+use rows_base::refusals::{begin, end};
 use rows_base::words::{number, parted, two_numbers};
-use rows_ntt::matrices::put_matrix;
-use rows_ntt::vectors::{Values, filled};
 use std::alloc::Global;
 
 /// Runs a call of this module; `false` where it is none.
@@ -25,28 +28,47 @@ pub fn run<R: Element>(
         "recover_ones" => recover_ones(alloc, arguments, answer),
         "recover_words" => recover_words(alloc, arguments, answer),
         "recover_ones_within" => recover_within(alloc, arguments, answer),
+        "recover_below" => recover_below::<R>(alloc, arguments, &mut answer.text),
         "recover_each_set" => recover_each_set::<R>(alloc, arguments, &mut answer.text),
         _ => return Ok(false),
     };
     done.and(Ok(true))
 }
 
-/// The polynomials that fit, and the work that they took.
-fn recovered<R: Element>(
+/// The polynomials that fit.
+pub(crate) fn recovered<R: Element>(
     alloc: Global,
     values: Values<R>,
-) -> Result<(PolynomialVector<R>, Work), Fault> {
+) -> Result<PolynomialVector<R>, Fault> {
     if !has_domain::<R>(values.rows) {
         return Err(Fault::OutOfRange("no such domain"));
     }
+    let given = begin(alloc, &());
+    let polynomials = values.vector.recover(alloc);
+    end(alloc, given, &(), polynomials.is_err());
+    polynomials.map_err(Fault::Memory)
+}
+
+/// The polynomials that fit, and the work that they took.
+fn counted<R: Element>(
+    alloc: Global,
+    values: Values<R>,
+) -> Result<(PolynomialVector<R>, Work), Fault> {
+    let (rows, cols) = (values.rows, values.cols);
+    if !has_domain::<R>(rows) {
+        return Err(Fault::OutOfRange("no such domain"));
+    }
     let mut work = Work::new();
-    let polynomials = values.vector.recover_counted(alloc, &mut work)?;
-    Ok((polynomials, work))
+    let given = begin(alloc, &());
+    let polynomials = values.vector.recover_counted(alloc, &mut work);
+    end(alloc, given, &(), polynomials.is_err());
+    keep_recoveries(alloc, &work, rows, cols, 1);
+    Ok((polynomials?, work))
 }
 
 /// Which rows of a domain are filled.
 #[derive(Clone, Copy)]
-enum Rule {
+pub(crate) enum Rule {
     /// Those of even and of odd numbers, from these numbers on.
     From(usize, usize),
     /// Those below a number.
@@ -115,7 +137,7 @@ fn fill_ones<R: Element>(alloc: Global, values: &mut Values<R>, rule: Rule) -> R
 }
 
 /// One column of 2^lg rows, of which those that the rule names are filled with one.
-fn ones<R: Element>(alloc: Global, lg: u64, rule: Rule) -> Result<Values<R>, Fault> {
+pub(crate) fn ones<R: Element>(alloc: Global, lg: u64, rule: Rule) -> Result<Values<R>, Fault> {
     let mut values = Values::empty(alloc, lg, 1)?;
     fill_ones(alloc, &mut values, rule)?;
     Ok(values)
@@ -181,7 +203,7 @@ fn recover<R: Element>(
     arguments: &str,
     answer: &mut Answer<R>,
 ) -> Result<(), Fault> {
-    let (polynomials, _work) = recovered(alloc, listed::<R>(alloc, arguments)?)?;
+    let polynomials = recovered(alloc, listed::<R>(alloc, arguments)?)?;
     put_rows(alloc, &polynomials, answer).map_err(Fault::Memory)
 }
 
@@ -196,13 +218,13 @@ fn recover_counted<R: Element>(
     arguments: &str,
     answer: &mut Answer<R>,
 ) -> Result<(), Fault> {
-    let (polynomials, work) = recovered(alloc, filled::<R>(alloc, arguments)?)?;
+    let (polynomials, work) = counted(alloc, filled::<R>(alloc, arguments)?)?;
     put_work(&work, &mut answer.text)?;
     put_matrix(alloc, &polynomials.data(), answer).map_err(Fault::Memory)
 }
 
 /// The rule and the lg of `LG RULE`.
-fn lg_and_rule(text: &str) -> Result<(u64, Rule), Fault> {
+pub(crate) fn lg_and_rule(text: &str) -> Result<(u64, Rule), Fault> {
     let (lg, words) = parted(text.trim(), ' ')?;
     let lg = number(lg)?;
     if lg >= 64 {
@@ -218,7 +240,7 @@ fn recover_ones<R: Element>(
     answer: &mut Answer<R>,
 ) -> Result<(), Fault> {
     let (lg, rule) = lg_and_rule(arguments)?;
-    let (polynomials, _work) = recovered(alloc, ones::<R>(alloc, lg, rule)?)?;
+    let polynomials = recovered(alloc, ones::<R>(alloc, lg, rule)?)?;
     put_rows(alloc, &polynomials, answer).map_err(Fault::Memory)
 }
 
@@ -242,7 +264,7 @@ fn recover_within<R: Element>(
     let (column, bounds) = parted(arguments, '@')?;
     let (lg, rule) = lg_and_rule(column)?;
     let (butterflies, root_products) = two_numbers(bounds)?;
-    let (polynomials, work) = recovered(alloc, ones::<R>(alloc, lg, rule)?)?;
+    let (polynomials, work) = counted(alloc, ones::<R>(alloc, lg, rule)?)?;
     put_rows(alloc, &polynomials, answer)?;
     put_within(&work, butterflies, root_products, &mut answer.text).map_err(Fault::Memory)
 }
@@ -259,7 +281,7 @@ fn begins_with_one<R: Element>(alloc: Global, polynomials: &PolynomialVector<R>)
 }
 
 /// Whether the polynomials are the constant one, or zero where `one` is false.
-fn are_constant<R: Element>(
+pub(crate) fn are_constant<R: Element>(
     alloc: Global,
     polynomials: &PolynomialVector<R>,
     one: bool,
@@ -274,7 +296,7 @@ fn are_constant<R: Element>(
 /// Whether of the set of rows that are filled with one the constant one is recovered, or zero of none.
 fn is_recovered<R: Element>(alloc: Global, lg: u64, set: u64) -> Result<bool, Fault> {
     let values = ones::<R>(alloc, lg, Rule::Bits(set))?;
-    let (polynomials, _work) = recovered(alloc, values)?;
+    let polynomials = recovered(alloc, values)?;
     are_constant(alloc, &polynomials, set > 0).map_err(Fault::Memory)
 }
 
@@ -379,6 +401,6 @@ fn recover_words<R: Element>(
     answer: &mut Answer<R>,
 ) -> Result<(), Fault> {
     let (lg, rule) = lg_and_rule(arguments)?;
-    let (polynomials, _work) = recovered(alloc, words::<R>(alloc, lg, rule)?)?;
+    let polynomials = recovered(alloc, words::<R>(alloc, lg, rule)?)?;
     write!(answer.text, " fnv {:016x}", hash(&polynomials)).map_err(Fault::Memory)
 }
