@@ -358,15 +358,16 @@ fn join_each_set(alloc: Global, arguments: &str, text: &mut String) -> Result<()
     put(text, found).map_err(Fault::Memory)
 }
 
-/// Appends the bytes of a shard of fewer than 2^32 cells.
-fn append(alloc: Global, shard: &Shard, out: &mut Vec<u8>) -> Result<(), Fault> {
+/// Appends the bytes of a shard of fewer than 2^32 cells, and answers how many it says there are.
+fn append(alloc: Global, shard: &Shard, out: &mut Vec<u8>) -> Result<usize, Fault> {
     if shard.cells.len() >= 1 << 32 {
         return Err(Fault::OutOfRange("too many cells"));
     }
     let given = begin(alloc, &(shard, &*out));
     let done = shard.write(alloc, out);
     end(alloc, given, &(shard, &*out), done.is_err());
-    done.map_err(Fault::Memory)
+    done?;
+    Ok(shard.encode_size())
 }
 
 /// Adds bytes, and how many a value says that there are.
@@ -380,8 +381,8 @@ fn put_written(text: &mut String, bytes: &[u8], size: usize) -> Mem<()> {
 fn write_shard(alloc: Global, arguments: &str, text: &mut String) -> Result<(), Fault> {
     let shard = shard_in(alloc, arguments)?;
     let mut out = Vec::new(alloc);
-    append(alloc, &shard, &mut out)?;
-    put_written(text, &out, shard.encode_size()).map_err(Fault::Memory)
+    let size = append(alloc, &shard, &mut out)?;
+    put_written(text, &out, size).map_err(Fault::Memory)
 }
 
 /// `write_shard_after BYTE .. @ INDEX MIN TOTAL : CELL ..`: these bytes, and then those of the
@@ -390,7 +391,7 @@ fn write_shard_after(alloc: Global, arguments: &str, text: &mut String) -> Resul
     let (before, shard) = parted(arguments, '@')?;
     let mut out = bytes(alloc, before)?;
     let shard = shard_in(alloc, shard)?;
-    append(alloc, &shard, &mut out)?;
+    let _size = append(alloc, &shard, &mut out)?;
     put_bytes(text, &out).map_err(Fault::Memory)
 }
 
