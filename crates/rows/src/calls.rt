@@ -1,5 +1,6 @@
 //! The calls that rows name: each module runs those of one subject.
 
+mod breaches;
 mod combinations;
 mod interpolation;
 mod root_weights;
@@ -32,7 +33,8 @@ fn of_words(alloc: Global, row: Row<'_>, text: &mut String) -> Result<bool, Faul
             || bitmaps::run(alloc, call, arguments, text)?
             || rows_shards::run(alloc, call, arguments, text)?
             || lines::run(alloc, call, arguments, text)?
-            || byte_shares::run(alloc, call, arguments, text)?,
+            || byte_shares::run(alloc, call, arguments, text)?
+            || breaches::run(alloc, call, arguments, text)?,
     )
 }
 

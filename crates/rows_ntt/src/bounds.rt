@@ -4,13 +4,17 @@ use math_ntt::ntt::Work;
 use rows_base::refusals::{Breach, tell};
 use std::alloc::Global;
 
-/// Tells where more was counted than half of so many butterflies and so many root products.
-fn keep(alloc: Global, work: &Work, twice_butterflies: u64, root_products: u64) {
-    if work.butterflies() > u128::from(twice_butterflies / 2)
-        || work.root_products() > u128::from(root_products)
-    {
+/// Tells where more butterflies, or more root products, were counted than at most.
+pub fn keep_counts(alloc: Global, counted: (u128, u128), most: (u64, u64)) {
+    if counted.0 > u128::from(most.0) || counted.1 > u128::from(most.1) {
         tell(alloc, Breach::BeyondBound);
     }
+}
+
+/// Tells where more was counted than half of so many butterflies and so many root products.
+fn keep(alloc: Global, work: &Work, twice_butterflies: u64, root_products: u64) {
+    let counted = (work.butterflies(), work.root_products());
+    keep_counts(alloc, counted, (twice_butterflies / 2, root_products));
 }
 
 /// The N lg N of N rows, which are a power of two.
