@@ -119,8 +119,8 @@ pub fn put_bytes(text: &mut String, bytes: &[u8]) -> Mem<()> {
     Ok(())
 }
 
-/// Adds the `Debug` text of a value in quotes, in which `~` stands for a space and `|` for the end of a line. No such text
-/// has one of these characters.
+/// Adds the `Debug` text of a value in quotes, in which `~` stands for a space and `|` for the end
+/// of a line. No such text has one of these characters.
 pub fn put_debug<T: Debug>(alloc: Global, value: &T, text: &mut String) -> Mem<()> {
     let printed = format!(in alloc; "{value:?}")?;
     text.push_str(" \"")?;

@@ -1,6 +1,6 @@
 //! What the Goldilocks field alone has: its operators, its bytes and packing. Elements are numbers.
 //!
-//! Packing takes no memory: what is refused here is the memory of the lists that its items are put into.
+//! Packing takes no memory, so no call is marked: the lists that items are put into are ours.
 
 ghost use Rattle.std.specs.Prelude.{◌≡◌, ◌<◌, ◌*◌, ◌^◌, min, length, IfOk};
 ghost use Rattle.std.specs.Iterator.{IsFinite};
@@ -9,7 +9,6 @@ ghost use Rattle.math_base.specs.Packing.{elements_of, words_of};
 
 use crate::answer::{put, put_all, put_bytes};
 use crate::fault::Fault;
-use crate::refusals::{begin, end};
 use crate::words::{element, elements, number, numbers, parted, short, two_numbers};
 use math_base::algebra::Mem;
 use math_base::fields::goldilocks::F;
@@ -104,10 +103,8 @@ fn pack(alloc: Global, arguments: &str, text: &mut String) -> Result<(), Fault> 
 /// `unpack E ..`: the words that the elements hold.
 fn unpack(alloc: Global, arguments: &str, text: &mut String) -> Result<(), Fault> {
     let elements = elements::<F>(alloc, arguments)?;
-    let given = begin(alloc, &elements);
-    let words: Mem<Vec<u64>> = F::stream_to_u64s(elements.iter().copied()).collect(alloc);
-    end(alloc, given, &elements, words.is_err());
-    put_all(text, &words?).map_err(Fault::Memory)
+    let words: Vec<u64> = F::stream_to_u64s(elements.iter().copied()).collect(alloc)?;
+    put_all(text, &words).map_err(Fault::Memory)
 }
 
 /// Adds how many elements the words are packed into.
@@ -151,16 +148,15 @@ fn pair_count(words: &[u64], elements: &[F]) -> usize
 
 /// Adds the words, there and back, of the list or of its iterator.
 fn put_back(alloc: Global, call: &str, words: &[u64], text: &mut String) -> Mem<()> {
-    let given = begin(alloc, &words);
     let back = match call {
         "pack_unpack" => there_and_back(alloc, words),
         _ => all_there_and_back(alloc, words.iter().copied()),
     };
-    end(alloc, given, &words, back.is_err());
     put_all(text, &back?)
 }
 
-/// `pack_unpack W ..`, `pack_unpack_all W ..`: how many elements the words are packed into, and the words that these hold.
+/// `pack_unpack W ..`, `pack_unpack_all W ..`: how many elements the words are packed into, and the
+/// words that these hold.
 fn pack_unpack(alloc: Global, call: &str, arguments: &str, text: &mut String) -> Result<(), Fault> {
     let words = numbers(alloc, arguments)?;
     put_packed_count(alloc, &words, text)?;
@@ -176,7 +172,8 @@ fn put_word_count(alloc: Global, arguments: &str, text: &mut String) -> Result<(
     put(text, word_count(&elements) as u64).map_err(Fault::Memory)
 }
 
-/// `pair_count W .. @ E ..`: how many pairs there are of an element that the words are packed into and one of these.
+/// `pair_count W .. @ E ..`: how many pairs there are of an element that the words are packed into
+/// and one of these.
 fn put_pair_count(alloc: Global, arguments: &str, text: &mut String) -> Result<(), Fault> {
     let (words, others) = parted(arguments, '@')?;
     let words = numbers(alloc, words)?;
@@ -235,8 +232,9 @@ fn put_words_asked(elements: EndsOnce<'_, F>, count: u32, text: &mut String) -> 
     Ok(())
 }
 
-/// `pack_asked A @ END COUNT`, `unpack_asked A @ END COUNT`: a source gives A at each call but at call END, where it ends. So many
-/// items of it, packed or unpacked, or `none`; `asked`, and how often the source was asked.
+/// `pack_asked A @ END COUNT`, `unpack_asked A @ END COUNT`: a source gives A at each call but at
+/// call END, where it ends. So many items of it, packed or unpacked, or `none`; `asked`, and how
+/// often the source was asked.
 fn put_asked(call: &str, arguments: &str, text: &mut String) -> Result<(), Fault> {
     let (item, rest) = parted(arguments, '@')?;
     let item = number(item.trim())?;

@@ -115,7 +115,8 @@ fn put_found<R: Element>(alloc: Global, found: &Decoded<R>, answer: &mut Answer<
     Ok(())
 }
 
-/// The points 0, 1 and so on, and at each the value 100, but the point itself at the odd points below twice `wrong`.
+/// The points 0, 1 and so on, and at each the value 100, but the point itself at the odd points
+/// below twice `wrong`.
 fn spoiled<R: Element>(alloc: Global, count: u64, wrong: u64) -> Mem<(Vec<R>, Vec<R>)> {
     let mut points = Vec::new(alloc);
     let mut values = Vec::new(alloc);
@@ -127,8 +128,8 @@ fn spoiled<R: Element>(alloc: Global, count: u64, wrong: u64) -> Mem<(Vec<R>, Ve
     Ok((points, values))
 }
 
-/// Whether the n-th allocation of decoding these values is made, which is refused then, and how many values are wrong. No
-/// allocation is refused from then on.
+/// Whether the n-th allocation of decoding these values is made, which is refused then, and how
+/// many values are wrong. No allocation is refused from then on.
 fn refused_at<R: Element>(
     alloc: Global,
     points: &[R],
@@ -147,9 +148,10 @@ fn refused_at<R: Element>(
     (met, wrong)
 }
 
-/// `decode_within COUNT WRONG N`: of the values 100 at so many points, so many of which are wrong, the polynomial of three
-/// coefficients is looked for, with the N-th allocation refused. How many values are found to be wrong, and whether that
-/// allocation was `met`. No allocation is refused from then on.
+/// `decode_within COUNT WRONG N`: of the values 100 at so many points, so many of which are wrong,
+/// the polynomial of three coefficients is looked for, with the N-th allocation refused. How many
+/// values are found to be wrong, and whether that allocation was `met`. No allocation is refused
+/// from then on.
 fn decode_within<R: Element>(
     alloc: Global,
     arguments: &str,

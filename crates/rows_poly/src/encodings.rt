@@ -341,7 +341,8 @@ fn written_matrix(alloc: Global, value: &str, out: &mut Vec<u8>) -> Result<usize
     write_matrix(alloc, &m, out)
 }
 
-/// Writes a matrix of fewer than 2^32 rows, columns and cells, and says by how many bytes it tells that it is written.
+/// Writes a matrix of fewer than 2^32 rows, columns and cells, and says by how many bytes it tells
+/// that it is written.
 pub fn write_matrix(alloc: Global, m: &Matrix<F>, out: &mut Vec<u8>) -> Result<usize, Fault>
     requires { length m.now.cells ≡ m.now.rows * m.now.cols }
 {
@@ -370,7 +371,8 @@ fn written_lists(alloc: Global, value: &str, out: &mut Vec<u8>) -> Result<usize,
     Ok(list_size(&lists))
 }
 
-/// Writes words and then the other bytes, and reads them again: adds the words, `rest`, and the bytes that are left.
+/// Writes words and then the other bytes, and reads them again: adds the words, `rest`, and the
+/// bytes that are left.
 fn put_again(
     alloc: Global,
     words: &Vec<u64>,
@@ -390,8 +392,8 @@ fn put_again(
     put_bytes(text, &left).map_err(Fault::Memory)
 }
 
-/// `read_again RANGE @ BYTE .. @ BYTE ..`: the words of the first bytes are written, then the other bytes, and read again: the
-/// words, `rest`, and the bytes that are left.
+/// `read_again RANGE @ BYTE .. @ BYTE ..`: the words of the first bytes are written, then the other
+/// bytes, and read again: the words, `rest`, and the bytes that are left.
 fn read_again(alloc: Global, arguments: &str, text: &mut String) -> Result<(), Fault> {
     let (range, all) = parted(arguments, '@')?;
     let (all, rest) = parted(all, '@')?;

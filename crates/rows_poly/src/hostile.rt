@@ -1,9 +1,10 @@
 //! Byte strings that are no encodings, or that claim more than follows.
 //!
-//! Each is read as a list of words, as a polynomial, as a matrix or as a shard, with configurations that admit every length.
-//! What is accepted has to be written back to exactly the bytes that were taken, and what is refused has to leave the
-//! input. Where allocations are refused, the library that refuses them says that while a string is read no allocation is
-//! larger than the bytes at hand justify: room for four items, or for twice as many as the bytes can spell.
+//! Each is read as a list of words, as a polynomial, as a matrix or as a shard, with configurations
+//! that admit every length. What is accepted has to be written back to exactly the bytes that were
+//! taken, and what is refused has to leave the input. Where allocations are refused, the library
+//! that refuses them says that while a string is read no allocation is larger than the bytes at
+//! hand justify: room for four items, or for twice as many as the bytes can spell.
 
 ghost use Rattle.std.specs.Prelude.{◌<◌, ◌≡◌, IfOk};
 
@@ -81,7 +82,8 @@ enum Outcome {
     Wrong,
 }
 
-/// Whether the library is there that refuses allocations and sees the largest. None is refused from then on.
+/// Whether the library is there that refuses allocations and sees the largest. None is refused from
+/// then on.
 fn is_watched(alloc: Global) -> bool {
     let made = are_made(alloc);
     refuse(alloc, 0);
@@ -338,9 +340,10 @@ fn generated(alloc: Global, kind: Kind, count: u64, seed: u64) -> Mem<Tally> {
     Ok(tally)
 }
 
-/// `hostile KIND @ COUNT SEED`: so many byte strings, made from encodings by a generator from this seed on, read as `words`,
-/// `polynomials`, `matrices` or `shards`: how many were accepted, ended within a value, were refused otherwise, or showed a
-/// fault of the library. No allocation is refused from then on.
+/// `hostile KIND @ COUNT SEED`: so many byte strings, made from encodings by a generator from this
+/// seed on, read as `words`, `polynomials`, `matrices` or `shards`: how many were accepted, ended
+/// within a value, were refused otherwise, or showed a fault of the library. No allocation is
+/// refused from then on.
 fn put_generated(alloc: Global, arguments: &str, text: &mut String) -> Result<(), Fault> {
     let (kind, rest) = parted(arguments, '@')?;
     let (count, seed) = two_numbers(rest)?;
@@ -348,7 +351,8 @@ fn put_generated(alloc: Global, arguments: &str, text: &mut String) -> Result<()
     tally.put(text).map_err(Fault::Memory)
 }
 
-/// `claims KIND`: the same of two claims of 2^32 - 1 items, with fewer bytes behind them. No allocation is refused from then on.
+/// `claims KIND`: the same of two claims of 2^32 - 1 items, with fewer bytes behind them. No
+/// allocation is refused from then on.
 fn put_claims(alloc: Global, arguments: &str, text: &mut String) -> Result<(), Fault> {
     let kind = Kind::of_name(arguments)?;
     let watched = is_watched(alloc);

@@ -1,5 +1,5 @@
-//! The calls of `math_poly` and `math_decoding` that rows name, and of reading, writing, sampling and texts of all types that
-//! have them: each module runs those of one subject.
+//! The calls of `math_poly` and `math_decoding` that rows name, and of reading, writing, sampling
+//! and texts of all types that have them: each module runs those of one subject.
 #![tactic(auto)]
 
 pub mod decoding;

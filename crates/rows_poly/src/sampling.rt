@@ -44,7 +44,8 @@ fn sample<R: Element + Random>(alloc: Global, source: &mut Listed<'_>) -> Result
     out
 }
 
-/// `random_left W ..`: `sampled`, or `refused` where there are too many words; `left`, and how many words are left.
+/// `random_left W ..`: `sampled`, or `refused` where there are too many words; `left`, and how many
+/// words are left.
 fn put_taken<R: Element + Random>(
     alloc: Global,
     arguments: &str,

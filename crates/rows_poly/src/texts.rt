@@ -19,8 +19,9 @@ pub fn run(alloc: Global, call: &str, arguments: &str, text: &mut String) -> Res
     done.and(Ok(true))
 }
 
-/// `text KIND VALUE`: the text of a value for debugging, in quotes, with `~` for a space and `|` for the end of a line. A kind
-/// is `element A`, `poly C ..`, `matrix M`, `bitmap LG I ..`, `polynomials N @ M` or `values LG COLUMNS @ ROW : CELL .. @ ..`.
+/// `text KIND VALUE`: the text of a value for debugging, in quotes, with `~` for a space and `|`
+/// for the end of a line. A kind is `element A`, `poly C ..`, `matrix M`, `bitmap LG I ..`,
+/// `polynomials N @ M` or `values LG COLUMNS @ ROW : CELL .. @ ..`.
 fn put_text(alloc: Global, arguments: &str, text: &mut String) -> Result<(), Fault> {
     let (kind, value) = parted(arguments, ' ')?;
     match kind {

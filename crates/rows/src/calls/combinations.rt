@@ -107,7 +107,8 @@ fn next<R: Element>(
     }
 }
 
-/// `generators G ..`: of the first generators, as many as these, index and value under the generators G.
+/// `generators G ..`: of the first generators, as many as these, index and value under the
+/// generators G.
 fn put_generators<R: Element>(
     alloc: Global,
     arguments: &str,
@@ -123,7 +124,8 @@ fn put_generators<R: Element>(
     Ok(())
 }
 
-/// `three_generators G ..`: of the first three generators, made at once, index and value under the generators G.
+/// `three_generators G ..`: of the first three generators, made at once, index and value under the
+/// generators G.
 fn put_three<R: Element>(
     alloc: Global,
     arguments: &str,
@@ -139,17 +141,10 @@ fn put_three<R: Element>(
     Ok(())
 }
 
-/// The first generator.
-fn first_generator<R: Element>(alloc: Global) -> Result<Synthetic<R, R>, Fault> {
-    match next(alloc, &mut Synthetic::<R, R>::generators(alloc))? {
-        Some(generator) => Ok(generator),
-        None => Err(Fault::Unreadable("generator")),
-    }
-}
-
-/// The commitment to a polynomial whose coefficients are numbers: the first generator, scaled by each.
+/// The commitment to a polynomial whose coefficients are numbers: the first generator, scaled by
+/// each.
 fn committed<R: Element>(alloc: Global, text: &str) -> Result<Poly<Synthetic<R, R>>, Fault> {
-    let generator = first_generator::<R>(alloc)?;
+    let generator = generator::<R>(alloc, 0)?;
     let mut coefficients = Vec::new(alloc);
     for n in &numbers(alloc, text)? {
         coefficients.push(multiple(alloc, &generator, *n)?)?;
@@ -160,7 +155,8 @@ fn committed<R: Element>(alloc: Global, text: &str) -> Result<Poly<Synthetic<R, 
     Ok(Poly::from_coefficients(coefficients))
 }
 
-/// `commitments_add A .. @ B .. @ C ..`: whether the commitments to two polynomials add up to that to a third.
+/// `commitments_add A .. @ B .. @ C ..`: whether the commitments to two polynomials add up to that
+/// to a third.
 fn commitments<R: Element>(
     alloc: Global,
     arguments: &str,
@@ -206,8 +202,9 @@ fn top<R: Element>(stack: &mut Vec<Synthetic<R, R>>) -> Result<Synthetic<R, R>, 
         .ok_or(Fault::Unreadable("combination on the stack"))
 }
 
-/// What a step puts on top: `gI` generator I, `cS*P,..` the points P with the weights S, and of what it takes from the
-/// top `*X` the multiple by X, and `*=X` the same in place, `sN` the N-fold sum, and what the other steps make of it.
+/// What a step puts on top: `gI` generator I, `cS*P,..` the points P with the weights S, and of
+/// what it takes from the top `*X` the multiple by X, and `*=X` the same in place, `sN` the N-fold
+/// sum, and what the other steps make of it.
 fn taken<R: Element>(
     alloc: Global,
     step: &str,
@@ -285,14 +282,14 @@ fn multiple<R: Element>(
 
 /// The free generator of an index.
 fn generator<R: Element>(alloc: Global, index: u64) -> Result<Synthetic<R, R>, Fault> {
-    let mut items = Synthetic::<R, R>::generators(alloc);
-    let given = begin(alloc, &());
-    let out = items.nth(index as usize);
-    end(alloc, given, &(), matches!(out, Some(Err(_))));
-    match out {
-        Some(generator) => Ok(generator?),
-        None => Err(Fault::OutOfRange("an index of 2^32 or more")),
+    if index > u64::from(u32::MAX) {
+        return Err(Fault::OutOfRange("an index of 2^32 or more"));
     }
+    let mut items = Synthetic::<R, R>::generators(alloc);
+    for _ in 0..index {
+        let _passed = next(alloc, &mut items)?;
+    }
+    next(alloc, &mut items)?.ok_or(Fault::Unreadable("generator"))
 }
 
 /// The weights and the points of `S*P,..`.
@@ -336,8 +333,8 @@ fn two<R: Element>(
     Ok(out)
 }
 
-/// `z` zero; of what is on top `n` the negative, `d` the double; of the two on top `+` the sum, `-` the difference, and `+=`
-/// and `-=` the same in place.
+/// `z` zero; of what is on top `n` the negative, `d` the double; of the two on top `+` the sum, `-`
+/// the difference, and `+=` and `-=` the same in place.
 fn of_top<R: Element>(
     alloc: Global,
     step: &str,
