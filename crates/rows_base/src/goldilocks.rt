@@ -11,7 +11,7 @@ use crate::answer::{put, put_all, put_bytes};
 use crate::fault::Fault;
 use crate::words::{element, elements, number, numbers, parted, short, two_numbers};
 use math_base::algebra::Mem;
-use math_base::fields::goldilocks::F;
+use math_base::fields::goldilocks::{ElementsToWords, F, WordsToElements};
 use math_samples::elements::Element;
 use std::alloc::Global;
 use std::cell::Cell;
@@ -206,9 +206,17 @@ impl<'a, T: Copy> Iterator for EndsOnce<'a, T> {
     }
 }
 
-/// Adds the number of a word, or `none`.
-fn put_item(text: &mut String, item: Option<u64>) -> Mem<()> {
-    match item {
+/// Adds the next element that words are packed into, or `none`.
+fn put_element_asked(items: &mut WordsToElements<EndsOnce<'_, u64>>, text: &mut String) -> Mem<()> {
+    match items.next() {
+        Some(x) => put_element(text, x),
+        None => text.push_str(" none"),
+    }
+}
+
+/// Adds the next word that elements hold, or `none`.
+fn put_word_asked(items: &mut ElementsToWords<EndsOnce<'_, F>>, text: &mut String) -> Mem<()> {
+    match items.next() {
         Some(word) => put(text, word),
         None => text.push_str(" none"),
     }
@@ -218,7 +226,7 @@ fn put_item(text: &mut String, item: Option<u64>) -> Mem<()> {
 fn put_elements_asked(words: EndsOnce<'_, u64>, count: u32, text: &mut String) -> Mem<()> {
     let mut items = F::stream_from_u64s(words);
     for _ in 0..count {
-        put_item(text, items.next().map(|x: F| x.parts().0))?;
+        put_element_asked(&mut items, text)?;
     }
     Ok(())
 }
@@ -227,7 +235,7 @@ fn put_elements_asked(words: EndsOnce<'_, u64>, count: u32, text: &mut String) -
 fn put_words_asked(elements: EndsOnce<'_, F>, count: u32, text: &mut String) -> Mem<()> {
     let mut items = F::stream_to_u64s(elements);
     for _ in 0..count {
-        put_item(text, items.next())?;
+        put_word_asked(&mut items, text)?;
     }
     Ok(())
 }
