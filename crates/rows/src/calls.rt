@@ -15,6 +15,7 @@ use rows_base::{algebra, goldilocks, maps};
 use rows_ntt::{bitmaps, matrices, vectors};
 use rows_poly::{decoding, encodings, groups, hostile, polynomials, sampling, texts};
 use rows_recovery::{correction, recovery, transforms};
+use rows_secrets::{byte_shares, commitments, element_shares, lines};
 use std::alloc::Global;
 
 /// Runs a call that adds words alone; `false` where it is none.
@@ -31,7 +32,9 @@ fn of_words(alloc: Global, row: Row<'_>, text: &mut String) -> Result<bool, Faul
             || texts::run(alloc, call, arguments, text)?
             || maps::run(alloc, call, arguments, text)?
             || bitmaps::run(alloc, call, arguments, text)?
-            || rows_shards::run(alloc, call, arguments, text)?,
+            || rows_shards::run(alloc, call, arguments, text)?
+            || lines::run(alloc, call, arguments, text)?
+            || byte_shares::run(alloc, call, arguments, text)?,
     )
 }
 
@@ -71,7 +74,11 @@ impl Field for F {
     const NAME: &'static str = "field";
 
     fn run(alloc: Global, row: Row<'_>, answer: &mut Answer<F>) -> Result<bool, Fault> {
-        Ok(at_any(alloc, row, answer)? || sampling::run(alloc, row.call, row.arguments, answer)?)
+        Ok(
+            at_any(alloc, row, answer)?
+                || sampling::run(alloc, row.call, row.arguments, answer)?
+                || element_shares::run(alloc, row.call, row.arguments, answer)?,
+        )
     }
 }
 
@@ -82,7 +89,9 @@ impl Field for Boxed<F> {
         Ok(
             at_any(alloc, row, answer)?
                 || sampling::run(alloc, row.call, row.arguments, answer)?
-                || groups::run(alloc, row.call, row.arguments, answer)?,
+                || groups::run(alloc, row.call, row.arguments, answer)?
+                || element_shares::run(alloc, row.call, row.arguments, answer)?
+                || commitments::run(alloc, row.call, row.arguments, answer)?,
         )
     }
 }
@@ -91,6 +100,11 @@ impl Field for Quotient {
     const NAME: &'static str = "quotients";
 
     fn run(alloc: Global, row: Row<'_>, answer: &mut Answer<Quotient>) -> Result<bool, Fault> {
-        Ok(at_any(alloc, row, answer)? || groups::run(alloc, row.call, row.arguments, answer)?)
+        Ok(
+            at_any(alloc, row, answer)?
+                || groups::run(alloc, row.call, row.arguments, answer)?
+                || element_shares::run(alloc, row.call, row.arguments, answer)?
+                || commitments::run(alloc, row.call, row.arguments, answer)?,
+        )
     }
 }
