@@ -13,9 +13,8 @@ use math_samples::quotients::Quotient;
 use rows_base::answer::Answer;
 use rows_base::fault::Fault;
 use rows_base::{algebra, goldilocks, maps};
-use rows_encodings::{encodings, sampling};
 use rows_ntt::{bitmaps, correction, matrices, recovery, transforms, vectors};
-use rows_poly::{decoding, groups, polynomials};
+use rows_poly::{decoding, encodings, groups, hostile, polynomials, sampling, texts};
 use rows_secrets::{byte_shares, commitments, element_shares, lines};
 use std::alloc::Global;
 
@@ -29,6 +28,8 @@ fn of_words(alloc: Global, row: Row<'_>, text: &mut String) -> Result<bool, Faul
     Ok(
         goldilocks::run(alloc, call, arguments, text)?
             || encodings::run(alloc, call, arguments, text)?
+            || hostile::run(alloc, call, arguments, text)?
+            || texts::run(alloc, call, arguments, text)?
             || maps::run(alloc, call, arguments, text)?
             || bitmaps::run(alloc, call, arguments, text)?
             || rows_shards::run(alloc, call, arguments, text)?
