@@ -1,5 +1,6 @@
 //! The calls that rows name: each module runs those of one subject.
 
+mod breaches;
 mod combinations;
 mod interpolation;
 mod root_weights;
@@ -12,10 +13,9 @@ use math_samples::quotients::Quotient;
 use rows_base::answer::Answer;
 use rows_base::fault::Fault;
 use rows_base::{algebra, goldilocks, maps};
-use rows_encodings::{encodings, sampling};
-use rows_ntt::{bitmaps, matrices, vectors};
-use rows_poly::{decoding, groups, polynomials};
-use rows_recovery::{correction, recovery, transforms};
+use rows_ntt::{bitmaps, correction, matrices, recovery, transforms, vectors};
+use rows_poly::{decoding, encodings, groups, hostile, polynomials, sampling, texts};
+use rows_secrets::{byte_shares, commitments, element_shares, lines};
 use std::alloc::Global;
 
 /// Runs a call that adds words alone; `false` where it is none.
@@ -28,9 +28,14 @@ fn of_words(alloc: Global, row: Row<'_>, text: &mut String) -> Result<bool, Faul
     Ok(
         goldilocks::run(alloc, call, arguments, text)?
             || encodings::run(alloc, call, arguments, text)?
+            || hostile::run(alloc, call, arguments, text)?
+            || texts::run(alloc, call, arguments, text)?
             || maps::run(alloc, call, arguments, text)?
             || bitmaps::run(alloc, call, arguments, text)?
-            || rows_shards::run(alloc, call, arguments, text)?,
+            || rows_shards::run(alloc, call, arguments, text)?
+            || lines::run(alloc, call, arguments, text)?
+            || byte_shares::run(alloc, call, arguments, text)?
+            || breaches::run(alloc, call, arguments, text)?,
     )
 }
 
@@ -57,25 +62,50 @@ fn at_any<R: Element>(alloc: Global, row: Row<'_>, answer: &mut Answer<R>) -> Re
     )
 }
 
-/// Runs a call at the Goldilocks field.
-pub fn at_field(alloc: Global, row: Row<'_>, answer: &mut Answer<F>) -> Result<bool, Fault> {
-    Ok(at_any(alloc, row, answer)? || sampling::run(alloc, row.call, row.arguments, answer)?)
+/// A field that rows are run at.
+pub trait Field: Element {
+    /// What rows call it.
+    const NAME: &'static str;
+
+    /// Runs the call of a row; `false` where there is none.
+    fn run(alloc: Global, row: Row<'_>, answer: &mut Answer<Self>) -> Result<bool, Fault>;
 }
 
-/// Runs a call at the boxed field.
-pub fn at_boxed(alloc: Global, row: Row<'_>, answer: &mut Answer<Boxed<F>>) -> Result<bool, Fault> {
-    Ok(
-        at_any(alloc, row, answer)?
-            || sampling::run(alloc, row.call, row.arguments, answer)?
-            || groups::run(alloc, row.call, row.arguments, answer)?,
-    )
+impl Field for F {
+    const NAME: &'static str = "field";
+
+    fn run(alloc: Global, row: Row<'_>, answer: &mut Answer<F>) -> Result<bool, Fault> {
+        Ok(
+            at_any(alloc, row, answer)?
+                || sampling::run(alloc, row.call, row.arguments, answer)?
+                || element_shares::run(alloc, row.call, row.arguments, answer)?,
+        )
+    }
 }
 
-/// Runs a call at the quotients.
-pub fn at_quotients(
-    alloc: Global,
-    row: Row<'_>,
-    answer: &mut Answer<Quotient>,
-) -> Result<bool, Fault> {
-    Ok(at_any(alloc, row, answer)? || groups::run(alloc, row.call, row.arguments, answer)?)
+impl Field for Boxed<F> {
+    const NAME: &'static str = "boxed";
+
+    fn run(alloc: Global, row: Row<'_>, answer: &mut Answer<Boxed<F>>) -> Result<bool, Fault> {
+        Ok(
+            at_any(alloc, row, answer)?
+                || sampling::run(alloc, row.call, row.arguments, answer)?
+                || groups::run(alloc, row.call, row.arguments, answer)?
+                || element_shares::run(alloc, row.call, row.arguments, answer)?
+                || commitments::run(alloc, row.call, row.arguments, answer)?,
+        )
+    }
+}
+
+impl Field for Quotient {
+    const NAME: &'static str = "quotients";
+
+    fn run(alloc: Global, row: Row<'_>, answer: &mut Answer<Quotient>) -> Result<bool, Fault> {
+        Ok(
+            at_any(alloc, row, answer)?
+                || groups::run(alloc, row.call, row.arguments, answer)?
+                || element_shares::run(alloc, row.call, row.arguments, answer)?
+                || commitments::run(alloc, row.call, row.arguments, answer)?,
+        )
+    }
 }

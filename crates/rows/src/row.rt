@@ -22,12 +22,13 @@ impl<'a> Row<'a> {
     }
 }
 
-/// At which fields rows are run.
+/// At which fields rows are run, and which of their allocations are refused: the first, and every `step`-th after it.
 #[derive(Clone, Copy)]
 pub struct Fields {
     pub field: bool,
     pub boxed: bool,
     pub quotients: bool,
+    pub step: u32,
 }
 
 impl Fields {
@@ -36,6 +37,7 @@ impl Fields {
         field: true,
         boxed: true,
         quotients: false,
+        step: 1,
     };
 
     /// The fields that are named.
@@ -44,6 +46,7 @@ impl Fields {
             field: names.contains("field"),
             boxed: names.contains("boxed"),
             quotients: names.contains("quotients"),
+            step: 1,
         }
     }
 }

@@ -1,9 +1,10 @@
 //! Operations of a field.
 
-use crate::answer::{Answer, put, put_firsts};
+use crate::answer::{Answer, are_equal, put, put_firsts};
 use crate::fault::Fault;
+use crate::refusals::{Breach, begin, end, tell};
 use crate::words::{element, elements, number, numbers, parted};
-use math_base::algebra::{Mem, Space, msm_naive, powers};
+use math_base::algebra::{Mem, Powers, Space, msm_naive, powers};
 use math_samples::elements::Element;
 use std::alloc::Global;
 
@@ -16,8 +17,13 @@ pub fn run<R: Element>(
 ) -> Result<bool, Fault> {
     let x = match call {
         "zero" | "one" | "coset_shift" | "coset_shift_inv" => constant(alloc, call),
-        "neg" | "double" | "square" | "inv" | "div_2" | "clone" => of_one(alloc, call, arguments),
-        "add" | "sub" | "mul" => of_two(alloc, call, arguments),
+        "neg" => negative(alloc, arguments),
+        "inv" | "div_2" | "clone" => of_one(alloc, call, arguments),
+        "double" | "square" => in_place(alloc, call, arguments),
+        "add" | "sub" | "mul" | "scaled" => of_two(alloc, call, arguments),
+        "add_assign" | "sub_assign" | "mul_assign" | "scale_assign" => {
+            by_another(alloc, call, arguments)
+        }
         "scale" | "exp" => by_limbs(alloc, call, arguments),
         "msm" | "msm_naive" => weighted(alloc, call, arguments),
         _ => return run_others(alloc, call, arguments, answer),
@@ -43,35 +49,67 @@ fn run_others<R: Element>(
     done.and(Ok(true))
 }
 
-/// `zero`, `one`, `coset_shift`, `coset_shift_inv`.
-fn constant<R: Element>(alloc: Global, call: &str) -> Result<R, Fault> {
-    let x = match call {
+/// One of the elements that a field names.
+fn named<R: Element>(alloc: Global, call: &str) -> Mem<R> {
+    match call {
         "zero" => R::zero(alloc),
         "one" => R::one(alloc),
         "coset_shift" => R::coset_shift(alloc),
         _ => R::coset_shift_inv(alloc),
-    };
-    x.map_err(Fault::Memory)
-}
-
-/// The operation of one element.
-fn changed<R: Element>(alloc: Global, call: &str, x: R) -> Mem<R> {
-    let mut x = x;
-    match call {
-        "neg" => return x.neg(alloc),
-        "double" => x.double(alloc)?,
-        "square" => x.square(alloc)?,
-        "inv" => return x.inv(alloc),
-        "div_2" => return x.div_2(alloc),
-        _ => return x.clone(alloc),
     }
-    Ok(x)
 }
 
-/// `neg A`, `double A`, `square A`, `inv A`, `div_2 A`, `clone A`.
+/// `zero`, `one`, `coset_shift`, `coset_shift_inv`.
+fn constant<R: Element>(alloc: Global, call: &str) -> Result<R, Fault> {
+    let given = begin(alloc, &());
+    let out = named(alloc, call);
+    end(alloc, given, &(), out.is_err());
+    out.map_err(Fault::Memory)
+}
+
+/// `neg A`.
+fn negative<R: Element>(alloc: Global, arguments: &str) -> Result<R, Fault> {
+    let x = element::<R>(alloc, arguments)?;
+    let given = begin(alloc, &());
+    let out = x.neg(alloc);
+    end(alloc, given, &(), out.is_err());
+    out.map_err(Fault::Memory)
+}
+
+/// The operation of one element that is read.
+fn derived<R: Element>(alloc: Global, call: &str, x: &R) -> Mem<R> {
+    match call {
+        "inv" => x.inv(alloc),
+        "div_2" => x.div_2(alloc),
+        _ => x.clone(alloc),
+    }
+}
+
+/// `inv A`, `div_2 A`, `clone A`.
 fn of_one<R: Element>(alloc: Global, call: &str, arguments: &str) -> Result<R, Fault> {
     let x = element::<R>(alloc, arguments)?;
-    changed(alloc, call, x).map_err(Fault::Memory)
+    let given = begin(alloc, &x);
+    let out = derived(alloc, call, &x);
+    end(alloc, given, &x, out.is_err());
+    out.map_err(Fault::Memory)
+}
+
+/// The operation of one element in place.
+fn change<R: Element>(alloc: Global, call: &str, x: &mut R) -> Mem<()> {
+    match call {
+        "double" => x.double(alloc),
+        _ => x.square(alloc),
+    }
+}
+
+/// `double A`, `square A`.
+fn in_place<R: Element>(alloc: Global, call: &str, arguments: &str) -> Result<R, Fault> {
+    let mut x = element::<R>(alloc, arguments)?;
+    let given = begin(alloc, &x);
+    let done = change(alloc, call, &mut x);
+    end(alloc, given, &x, done.is_err());
+    done?;
+    Ok(x)
 }
 
 /// The operation of two elements.
@@ -79,16 +117,50 @@ fn combined<R: Element>(alloc: Global, call: &str, a: R, b: &R) -> Mem<R> {
     match call {
         "add" | "parts_add" => a.add(alloc, b),
         "sub" | "parts_sub" => a.sub(alloc, b),
+        "scaled" => Space::<R>::scaled(a, alloc, b),
         _ => a.mul(alloc, b),
     }
 }
 
-/// `add A B`, `sub A B`, `mul A B`.
+/// `add A B`, `sub A B`, `mul A B`, `scaled A B`.
 fn of_two<R: Element>(alloc: Global, call: &str, arguments: &str) -> Result<R, Fault> {
     let (a, b) = parted(arguments, ' ')?;
     let a = element::<R>(alloc, a)?;
     let b = element::<R>(alloc, b)?;
-    combined(alloc, call, a, &b).map_err(Fault::Memory)
+    let given = begin(alloc, &b);
+    let out = combined(alloc, call, a, &b);
+    end(alloc, given, &b, out.is_err());
+    out.map_err(Fault::Memory)
+}
+
+/// The operation of an element in place, by another.
+fn change_by<R: Element>(alloc: Global, call: &str, a: &mut R, b: &R) -> Mem<()> {
+    match call {
+        "add_assign" => a.add_assign(alloc, b),
+        "sub_assign" => a.sub_assign(alloc, b),
+        "mul_assign" => a.mul_assign(alloc, b),
+        _ => Space::<R>::scale_assign(a, alloc, b),
+    }
+}
+
+/// `add_assign A B`, `sub_assign A B`, `mul_assign A B`, `scale_assign A B`.
+fn by_another<R: Element>(alloc: Global, call: &str, arguments: &str) -> Result<R, Fault> {
+    let (a, b) = parted(arguments, ' ')?;
+    let mut a = element::<R>(alloc, a)?;
+    let b = element::<R>(alloc, b)?;
+    let given = begin(alloc, &(&a, &b));
+    let done = change_by(alloc, call, &mut a, &b);
+    end(alloc, given, &(&a, &b), done.is_err());
+    done?;
+    Ok(a)
+}
+
+/// The multiple for `scale`, else the power.
+fn repeated<R: Element>(alloc: Global, call: &str, x: &R, limbs: &[u64]) -> Mem<R> {
+    match call {
+        "scale" => x.scale(alloc, limbs),
+        _ => x.exp(alloc, limbs),
+    }
 }
 
 /// `scale A @ LIMB ..`, `exp A @ LIMB ..`: the multiple and the power.
@@ -96,11 +168,9 @@ fn by_limbs<R: Element>(alloc: Global, call: &str, arguments: &str) -> Result<R,
     let (x, limbs) = parted(arguments, '@')?;
     let limbs = numbers(alloc, limbs)?;
     let x = element::<R>(alloc, x)?;
-    let out = if call == "scale" {
-        x.scale(alloc, &limbs)
-    } else {
-        x.exp(alloc, &limbs)
-    };
+    let given = begin(alloc, &(&x, &limbs));
+    let out = repeated(alloc, call, &x, &limbs);
+    end(alloc, given, &(&x, &limbs), out.is_err());
     out.map_err(Fault::Memory)
 }
 
@@ -117,7 +187,32 @@ fn weighted<R: Element>(alloc: Global, call: &str, arguments: &str) -> Result<R,
     let (points, scalars) = parted(arguments, '@')?;
     let points = elements::<R>(alloc, points)?;
     let scalars = elements::<R>(alloc, scalars)?;
-    sum(alloc, call, &points, &scalars).map_err(Fault::Memory)
+    let given = begin(alloc, &(&points, &scalars));
+    let out = sum(alloc, call, &points, &scalars);
+    end(alloc, given, &(&points, &scalars), out.is_err());
+    out.map_err(Fault::Memory)
+}
+
+/// Adds the next item. After an `Err` there has to be no further one.
+fn put_next<R: Element>(
+    alloc: Global,
+    items: &mut Powers<'_, R>,
+    base: &R,
+    answer: &mut Answer<R>,
+) -> Mem<()> {
+    let given = begin(alloc, base);
+    let item = items.next();
+    end(alloc, given, base, matches!(item, Some(Err(_))));
+    match item {
+        Some(Ok(power)) => answer.element(power),
+        Some(Err(refused)) => {
+            if items.next().is_some() {
+                tell(alloc, Breach::GoesOn);
+            }
+            Err(refused)
+        }
+        None => answer.text.push_str(" end"),
+    }
 }
 
 /// Adds the first powers of an element, each times `shift`.
@@ -128,8 +223,9 @@ fn put_powers<R: Element>(
     count: usize,
     answer: &mut Answer<R>,
 ) -> Mem<()> {
-    for power in powers(alloc, shift, base).take(count) {
-        answer.element(power?)?;
+    let mut items = powers(alloc, shift, base);
+    for _ in 0..count {
+        put_next(alloc, &mut items, base, answer)?;
     }
     Ok(())
 }
@@ -150,7 +246,10 @@ fn progression<R: Element>(
 
 /// Adds the root of unity of the order 2^lg, or `none`.
 fn put_root<R: Element>(alloc: Global, lg: u8, answer: &mut Answer<R>) -> Mem<()> {
-    match R::root_of_unity(alloc, lg)? {
+    let given = begin(alloc, &());
+    let root = R::root_of_unity(alloc, lg);
+    end(alloc, given, &(), root.is_err());
+    match root? {
         Some(root) => answer.element(root),
         None => answer.text.push_str(" none"),
     }
@@ -168,7 +267,12 @@ fn root<R: Element>(alloc: Global, arguments: &str, answer: &mut Answer<R>) -> R
 /// `equals A ..`: for each element the place of the first that it equals.
 fn same<R: Element>(alloc: Global, arguments: &str, answer: &mut Answer<R>) -> Result<(), Fault> {
     let items = elements::<R>(alloc, arguments)?;
-    put_firsts(&mut answer.text, &items, |a: &R, b: &R| a.equals(alloc, b)).map_err(Fault::Memory)
+    put_firsts(
+        &mut answer.text,
+        &items,
+        |a: &R, b: &R| are_equal(alloc, a, b),
+    )
+    .map_err(Fault::Memory)
 }
 
 /// Adds the two numbers that an element is shown by.

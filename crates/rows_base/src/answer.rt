@@ -1,10 +1,12 @@
 //! Answers, and their comparison with those of rows.
 
 use crate::fault::Fault;
+use crate::refusals::{begin, end};
 use crate::words::element;
-use math_base::algebra::Mem;
+use math_base::algebra::{Mem, Object};
 use math_samples::elements::Element;
 use std::alloc::Global;
+use std::fmt::Debug;
 
 /// The answer of a call: words, in which `_` stands for the next of the elements.
 #[derive(Drop)]
@@ -115,6 +117,29 @@ pub fn put_bytes(text: &mut String, bytes: &[u8]) -> Mem<()> {
         write!(text, " {byte:02x}")?;
     }
     Ok(())
+}
+
+/// Adds the `Debug` text of a value in quotes, in which `~` stands for a space and `|` for the end
+/// of a line. No such text has one of these characters.
+pub fn put_debug<T: Debug>(alloc: Global, value: &T, text: &mut String) -> Mem<()> {
+    let printed = format!(in alloc; "{value:?}")?;
+    text.push_str(" \"")?;
+    for c in printed.chars() {
+        text.push(match c {
+            ' ' => '~',
+            '\n' => '|',
+            _ => c,
+        })?;
+    }
+    text.push('"')
+}
+
+/// Whether two values are equal, by their own equality.
+pub fn are_equal<T: Object>(alloc: Global, a: &T, b: &T) -> Mem<bool> {
+    let given = begin(alloc, &(a, b));
+    let out = a.equals(alloc, b);
+    end(alloc, given, &(a, b), out.is_err());
+    out
 }
 
 /// The place of the first item that equals this one.

@@ -16,13 +16,13 @@ pub enum Fault {
     /// The arguments are outside of what the call asks for.
     #[error("can't be run: {0}")]
     OutOfRange(&'static str),
-    /// The call refused its bytes.
+    /// The call refused its bytes, not for want of memory.
     #[error("refused {0}")]
     Bytes(codec::Error),
-    /// The call refused its pairs.
+    /// The call refused its pairs, not for want of memory.
     #[error("refused {0}")]
     Pairs(ordered::Error),
-    /// The call refused its source.
+    /// The call refused its source, not for want of memory.
     #[error("refused {0}")]
     Source(RandomError),
 }
@@ -49,20 +49,32 @@ impl<T: Drop> From<AllocFailed<T>> for Fault {
     }
 }
 
+/// Want of memory is told apart from what the call says of its bytes.
 impl From<codec::Error> for Fault {
     fn from(e: codec::Error) -> Fault {
-        Fault::Bytes(e)
+        match e {
+            codec::Error::Memory(e) => Fault::Memory(e),
+            e => Fault::Bytes(e),
+        }
     }
 }
 
+/// Want of memory is told apart from what the call says of its pairs.
 impl From<ordered::Error> for Fault {
     fn from(e: ordered::Error) -> Fault {
-        Fault::Pairs(e)
+        match e {
+            ordered::Error::Memory(e) => Fault::Memory(e),
+            e => Fault::Pairs(e),
+        }
     }
 }
 
+/// Want of memory is told apart from what the call says of its source.
 impl From<RandomError> for Fault {
     fn from(e: RandomError) -> Fault {
-        Fault::Source(e)
+        match e {
+            RandomError::Memory(e) => Fault::Memory(e),
+            e => Fault::Source(e),
+        }
     }
 }

@@ -1,12 +1,20 @@
 //! What the Goldilocks field alone has: its operators, its bytes and packing. Elements are numbers.
+//!
+//! Packing takes no memory, so no call is marked: the lists that items are put into are ours.
+
+ghost use Rattle.std.specs.Prelude.{◌≡◌, ◌<◌, ◌*◌, ◌^◌, min, length, IfOk};
+ghost use Rattle.std.specs.Iterator.{IsFinite};
+ghost use Rattle.math_numbers.specs.Bits.{piece_count};
+ghost use Rattle.math_base.specs.Packing.{elements_of, words_of};
 
 use crate::answer::{put, put_all, put_bytes};
 use crate::fault::Fault;
-use crate::words::{element, elements, number, numbers, two_numbers};
+use crate::words::{element, elements, number, numbers, parted, short, two_numbers};
 use math_base::algebra::Mem;
-use math_base::fields::goldilocks::F;
+use math_base::fields::goldilocks::{ElementsToWords, F, WordsToElements};
 use math_samples::elements::Element;
 use std::alloc::Global;
+use std::cell::Cell;
 
 /// Runs a call of this module; `false` where it is none.
 pub fn run(alloc: Global, call: &str, arguments: &str, text: &mut String) -> Result<bool, Fault> {
@@ -18,7 +26,10 @@ pub fn run(alloc: Global, call: &str, arguments: &str, text: &mut String) -> Res
         "bits_to_elements" => bits_to_elements(arguments, text),
         "pack" => pack(alloc, arguments, text),
         "unpack" => unpack(alloc, arguments, text),
-        "pack_unpack" => pack_unpack(alloc, arguments, text),
+        "pack_unpack" | "pack_unpack_all" => pack_unpack(alloc, call, arguments, text),
+        "word_count" => put_word_count(alloc, arguments, text),
+        "pair_count" => put_pair_count(alloc, arguments, text),
+        "pack_asked" | "unpack_asked" => put_asked(call, arguments, text),
         _ => return Ok(false),
     };
     done.and(Ok(true))
@@ -102,16 +113,150 @@ fn put_packed_count(alloc: Global, words: &[u64], text: &mut String) -> Mem<()> 
     put(text, packed.len() as u64)
 }
 
-/// Adds the words that these elements hold.
-fn put_back(alloc: Global, words: &[u64], text: &mut String) -> Mem<()> {
-    let packed = F::stream_from_u64s(words.iter().copied());
-    let back: Vec<u64> = F::stream_to_u64s(packed).collect(alloc)?;
-    put_all(text, &back)
+/// The words that the elements hold which these words are packed into.
+fn there_and_back(alloc: Global, words: &[u64]) -> Mem<Vec<u64>>
+    ensures { IfOk result (λ v. v.items ≡ words_of (elements_of words.now)) }
+{
+    F::stream_to_u64s(F::stream_from_u64s(words.iter().copied())).collect(alloc)
 }
 
-/// `pack_unpack W ..`: how many elements the words are packed into, and the words that these hold.
-fn pack_unpack(alloc: Global, arguments: &str, text: &mut String) -> Result<(), Fault> {
+/// The words of any iterator, there and back.
+fn all_there_and_back<I: Iterator<Item = u64> + Drop>(alloc: Global, words: I) -> Mem<Vec<u64>>
+    requires can { I.can_next words }
+    requires ends { IsFinite (I.remaining words) }
+{
+    F::stream_to_u64s(F::stream_from_u64s(words)).collect(alloc)
+}
+
+/// How many words the elements hold.
+fn word_count(elements: &[F]) -> usize
+    requires { length elements.now < 2 ^ 57 }
+    ensures { result ≡ piece_count 64 (63 * length elements.now) }
+{
+    F::stream_to_u64s(elements.iter().copied()).count()
+}
+
+/// How many pairs there are of an element that the words are packed into and one of these.
+fn pair_count(words: &[u64], elements: &[F]) -> usize
+    requires { length words.now < 2 ^ 57 }
+    ensures { result ≡ min (piece_count 63 (64 * length words.now)) (length elements.now) }
+{
+    F::stream_from_u64s(words.iter().copied())
+        .zip(elements)
+        .count()
+}
+
+/// Adds the words, there and back, of the list or of its iterator.
+fn put_back(alloc: Global, call: &str, words: &[u64], text: &mut String) -> Mem<()> {
+    let back = match call {
+        "pack_unpack" => there_and_back(alloc, words),
+        _ => all_there_and_back(alloc, words.iter().copied()),
+    };
+    put_all(text, &back?)
+}
+
+/// `pack_unpack W ..`, `pack_unpack_all W ..`: how many elements the words are packed into, and the
+/// words that these hold.
+fn pack_unpack(alloc: Global, call: &str, arguments: &str, text: &mut String) -> Result<(), Fault> {
     let words = numbers(alloc, arguments)?;
     put_packed_count(alloc, &words, text)?;
-    put_back(alloc, &words, text).map_err(Fault::Memory)
+    put_back(alloc, call, &words, text).map_err(Fault::Memory)
+}
+
+/// `word_count E ..`: how many words the elements hold.
+fn put_word_count(alloc: Global, arguments: &str, text: &mut String) -> Result<(), Fault> {
+    let elements = elements::<F>(alloc, arguments)?;
+    if elements.len() >= 1 << 57 {
+        return Err(Fault::OutOfRange("2^57 elements"));
+    }
+    put(text, word_count(&elements) as u64).map_err(Fault::Memory)
+}
+
+/// `pair_count W .. @ E ..`: how many pairs there are of an element that the words are packed into
+/// and one of these.
+fn put_pair_count(alloc: Global, arguments: &str, text: &mut String) -> Result<(), Fault> {
+    let (words, others) = parted(arguments, '@')?;
+    let words = numbers(alloc, words)?;
+    if words.len() >= 1 << 57 {
+        return Err(Fault::OutOfRange("2^57 words"));
+    }
+    let others = elements::<F>(alloc, others)?;
+    put(text, pair_count(&words, &others) as u64).map_err(Fault::Memory)
+}
+
+/// Gives its item at each call but that of the number `end`. It counts the calls.
+#[derive(Drop)]
+struct EndsOnce<'a, T> {
+    item: T,
+    end: u64,
+    calls: &'a Cell<u64>,
+}
+
+impl<'a, T: Copy> Iterator for EndsOnce<'a, T> {
+    type Item = T;
+
+    fn next(&mut self) -> Option<T> {
+        let calls = self.calls.get().wrapping_add(1);
+        self.calls.set(calls);
+        if calls == self.end {
+            None
+        } else {
+            Some(self.item)
+        }
+    }
+}
+
+/// Adds the next element that words are packed into, or `none`.
+fn put_element_asked(items: &mut WordsToElements<EndsOnce<'_, u64>>, text: &mut String) -> Mem<()> {
+    match items.next() {
+        Some(x) => put_element(text, x),
+        None => text.push_str(" none"),
+    }
+}
+
+/// Adds the next word that elements hold, or `none`.
+fn put_word_asked(items: &mut ElementsToWords<EndsOnce<'_, F>>, text: &mut String) -> Mem<()> {
+    match items.next() {
+        Some(word) => put(text, word),
+        None => text.push_str(" none"),
+    }
+}
+
+/// Adds the next items of a source of words that ends once, packed.
+fn put_elements_asked(words: EndsOnce<'_, u64>, count: u32, text: &mut String) -> Mem<()> {
+    let mut items = F::stream_from_u64s(words);
+    for _ in 0..count {
+        put_element_asked(&mut items, text)?;
+    }
+    Ok(())
+}
+
+/// Adds the next items of a source of elements that ends once, unpacked.
+fn put_words_asked(elements: EndsOnce<'_, F>, count: u32, text: &mut String) -> Mem<()> {
+    let mut items = F::stream_to_u64s(elements);
+    for _ in 0..count {
+        put_word_asked(&mut items, text)?;
+    }
+    Ok(())
+}
+
+/// `pack_asked A @ END COUNT`, `unpack_asked A @ END COUNT`: a source gives A at each call but at
+/// call END, where it ends. So many items of it, packed or unpacked, or `none`; `asked`, and how
+/// often the source was asked.
+fn put_asked(call: &str, arguments: &str, text: &mut String) -> Result<(), Fault> {
+    let (item, rest) = parted(arguments, '@')?;
+    let item = number(item.trim())?;
+    let (end, count) = parted(rest.trim(), ' ')?;
+    let (end, count) = (number(end)?, short(count)?);
+    let calls = Cell::new(0);
+    let calls = &calls;
+    match call {
+        "pack_asked" => put_elements_asked(EndsOnce { item, end, calls }, count, text)?,
+        _ => {
+            let item = F::from(item);
+            put_words_asked(EndsOnce { item, end, calls }, count, text)?
+        }
+    }
+    text.push_str(" asked")?;
+    put(text, calls.get()).map_err(Fault::Memory)
 }

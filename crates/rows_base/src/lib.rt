@@ -7,4 +7,5 @@ pub mod answer;
 pub mod fault;
 pub mod goldilocks;
 pub mod maps;
+pub mod refusals;
 pub mod words;

@@ -2,9 +2,10 @@
 
 use crate::answer::put;
 use crate::fault::Fault;
+use crate::refusals::{begin, end};
 use crate::words::{numbers, pair, parted};
 use math_base::algebra::Mem;
-use math_codec::ordered::{BiMap, Map};
+use math_codec::ordered::{BiMap, Error, Map};
 use std::alloc::Global;
 
 /// Runs a call of this module; `false` where it is none.
@@ -52,12 +53,20 @@ fn put_found_map(map: Result<Map<u64, u64>, Fault>, text: &mut String) -> Result
 
 /// `map K:V ..`: the pairs, of each key the first.
 fn map(alloc: Global, arguments: &str) -> Result<Map<u64, u64>, Fault> {
-    Map::from_iter_dedup(alloc, pairs(alloc, arguments)?).map_err(Fault::Memory)
+    let pairs = pairs(alloc, arguments)?;
+    let given = begin(alloc, &());
+    let out = Map::from_iter_dedup(alloc, pairs);
+    end(alloc, given, &(), out.is_err());
+    out.map_err(Fault::Memory)
 }
 
 /// `try_map K:V ..`: the pairs, refused where two of them have one key.
 fn try_map(alloc: Global, arguments: &str) -> Result<Map<u64, u64>, Fault> {
-    Map::try_from_iter(alloc, pairs(alloc, arguments)?).map_err(Fault::Pairs)
+    let pairs = pairs(alloc, arguments)?;
+    let given = begin(alloc, &());
+    let out = Map::try_from_iter(alloc, pairs);
+    end(alloc, given, &(), matches!(out, Err(Error::Memory(_))));
+    out.map_err(Fault::from)
 }
 
 /// Adds a number that was found, or `none`.
@@ -100,7 +109,11 @@ fn with_values(alloc: Global, arguments: &str) -> Result<Map<u64, u64>, Fault> {
 
 /// The two-way map of the pairs, refused where two of them have one key or one value.
 fn two_way(alloc: Global, text: &str) -> Result<BiMap<u64, u64>, Fault> {
-    BiMap::try_from_iter(alloc, pairs(alloc, text)?).map_err(Fault::Pairs)
+    let pairs = pairs(alloc, text)?;
+    let given = begin(alloc, &());
+    let out = BiMap::try_from_iter(alloc, pairs);
+    end(alloc, given, &(), matches!(out, Err(Error::Memory(_))));
+    out.map_err(Fault::from)
 }
 
 /// `two_way_map K:V ..`: the pairs in the order of the keys.

@@ -1,10 +1,14 @@
 //! Bitmaps of points. One is written `LG I ..`: 2^LG points, and the indices of those that don't vanish.
 
+ghost use Rattle.std.specs.Prelude.{◌<◌, IfOk};
+
 use crate::compared::put_firsts;
 use math_base::algebra::Mem;
+use math_codec::codec;
 use math_ntt::ntt::VanishingPoints;
 use rows_base::answer::put;
 use rows_base::fault::Fault;
+use rows_base::refusals::{begin, end};
 use rows_base::words::{number, short};
 use std::alloc::Global;
 
@@ -14,6 +18,7 @@ pub fn run(alloc: Global, call: &str, arguments: &str, text: &mut String) -> Res
         "bitmap" => put_bitmap(alloc, arguments, text),
         "full_bitmap" => put_full(alloc, arguments, text),
         "bitmap_equals" => same(alloc, arguments, text),
+        "bitmap_too_large" => put_too_large(alloc, arguments, text),
         _ => return Ok(false),
     };
     done.and(Ok(true))
@@ -25,22 +30,51 @@ fn put_full(alloc: Global, arguments: &str, text: &mut String) -> Result<(), Fau
     put(text, points.count_non_vanishing()).map_err(Fault::Memory)
 }
 
-/// The bitmap of 2^LG points, none of which vanishes.
-fn full(alloc: Global, text: &str) -> Result<VanishingPoints, Fault> {
+/// The binary logarithm of a number of points that a bitmap may be asked for.
+fn lg_size(text: &str) -> Result<u32, Fault>
+    ensures { IfOk result (λ lg. lg < 64) }
+{
     let lg = short(text)?;
     if lg >= 64 {
         return Err(Fault::OutOfRange("lg above 63"));
     }
-    VanishingPoints::all_non_vanishing(alloc, lg).map_err(Fault::Memory)
+    Ok(lg)
+}
+
+/// The bitmap of 2^LG points, none of which vanishes.
+fn full(alloc: Global, text: &str) -> Result<VanishingPoints, Fault> {
+    let lg = lg_size(text)?;
+    let given = begin(alloc, &());
+    let points = VanishingPoints::all_non_vanishing(alloc, lg);
+    end(alloc, given, &(), points.is_err());
+    points.map_err(Fault::Memory)
 }
 
 /// The bitmap of 2^LG points, all of which vanish.
 pub fn empty(alloc: Global, text: &str) -> Result<VanishingPoints, Fault> {
-    let lg = short(text)?;
-    if lg >= 64 {
-        return Err(Fault::OutOfRange("lg above 63"));
+    let lg = lg_size(text)?;
+    let given = begin(alloc, &());
+    let points = VanishingPoints::new(alloc, lg);
+    end(alloc, given, &(), points.is_err());
+    points.map_err(Fault::Memory)
+}
+
+/// The bitmap of 2^LG points, all of which vanish, or after `full` none of which does. The call is
+/// not marked: that it is refused memory has to come without an allocation that is refused for it.
+fn unmarked(alloc: Global, text: &str) -> Result<Mem<VanishingPoints>, Fault> {
+    match text.trim().strip_prefix("full ") {
+        Some(lg) => Ok(VanishingPoints::all_non_vanishing(alloc, lg_size(lg)?)),
+        None => Ok(VanishingPoints::new(alloc, lg_size(text)?)),
     }
-    VanishingPoints::new(alloc, lg).map_err(Fault::Memory)
+}
+
+/// `bitmap_too_large LG`, `bitmap_too_large full LG`: that there is no memory for so many points,
+/// which is refused by the words of `codec::Error`; else how many there are.
+fn put_too_large(alloc: Global, arguments: &str, text: &mut String) -> Result<(), Fault> {
+    match unmarked(alloc, arguments)? {
+        Ok(points) => put(text, points.size()).map_err(Fault::Memory),
+        Err(refused) => Err(Fault::Bytes(codec::Error::from(refused))),
+    }
 }
 
 /// Sets a point to one that does not vanish.

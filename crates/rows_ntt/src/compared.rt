@@ -4,10 +4,12 @@ use math_base::algebra::Mem;
 use math_ntt::ntt::{EvaluationVector, Matrix, PolynomialVector, VanishingPoints};
 use math_samples::elements::Element;
 use rows_base::answer::put;
+use rows_base::refusals::{begin, end};
 use std::alloc::Global;
+use std::fmt;
 
 /// Values that can be compared.
-pub trait Compared {
+pub trait Compared: fmt::Debug {
     /// Whether they are equal.
     fn is(&self, alloc: Global, other: &Self) -> Mem<bool>;
 }
@@ -36,10 +38,18 @@ impl Compared for VanishingPoints {
     }
 }
 
+/// Whether two values are equal.
+fn are_equal<T: Compared>(alloc: Global, a: &T, b: &T) -> Mem<bool> {
+    let given = begin(alloc, &(a, b));
+    let same = a.is(alloc, b);
+    end(alloc, given, &(a, b), same.is_err());
+    same
+}
+
 /// The place of the first item that equals this one.
 fn first<T: Compared>(alloc: Global, items: &[T], item: &T) -> Mem<u64> {
     for i in 0..items.len() {
-        if items[i].is(alloc, item)? {
+        if are_equal(alloc, &items[i], item)? {
             return Ok(i as u64);
         }
     }

@@ -2,6 +2,11 @@
 #![tactic(auto)]
 
 pub mod bitmaps;
+mod bounds;
 mod compared;
+pub mod correction;
 pub mod matrices;
+pub mod recovery;
+mod refusing;
+pub mod transforms;
 pub mod vectors;

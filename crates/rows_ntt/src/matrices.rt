@@ -1,6 +1,6 @@
 //! Matrices. One is written `ROWS COLUMNS : CELL ..`, row by row.
 
-ghost use Rattle.std.specs.Prelude.{◌≡◌, ◌*◌, length, IfOk};
+ghost use Rattle.std.specs.Prelude.{◌≡◌, ◌*◌, ◌^◌, ◌<◌, length, IfOk};
 
 use crate::compared::put_firsts;
 use math_base::algebra::Mem;
@@ -8,8 +8,10 @@ use math_ntt::ntt::Matrix;
 use math_samples::elements::Element;
 use rows_base::answer::{Answer, put};
 use rows_base::fault::Fault;
+use rows_base::refusals::{begin, end};
 use rows_base::words::{element, elements, number, parted, two_numbers};
 use std::alloc::Global;
+use std::cell::Cell;
 
 /// Runs a call of this module; `false` where it is none.
 pub fn run<R: Element>(
@@ -19,7 +21,7 @@ pub fn run<R: Element>(
     answer: &mut Answer<R>,
 ) -> Result<bool, Fault> {
     let m = match call {
-        "matrix" => matrix(alloc, arguments),
+        "matrix" => made(alloc, arguments),
         "matrix_clone" => copy(alloc, arguments),
         "matrix_mul" => product(alloc, arguments),
         "set_cell" | "set_in_row" => changed(alloc, call, arguments),
@@ -40,23 +42,106 @@ fn run_others<R: Element>(
         "rows" => rows(alloc, arguments, answer),
         "row" => row(alloc, arguments, answer),
         "cell" => answer.found(cell(alloc, arguments)),
+        "matrix_asked" => put_asked(alloc, arguments, answer),
         _ => return Ok(false),
     };
     done.and(Ok(true))
 }
 
-/// `matrix M`: the matrix with these cells, and with zeros after them.
-pub fn matrix<R: Element>(alloc: Global, text: &str) -> Result<Matrix<R>, Fault>
-    ensures { IfOk result (λ m. length m.cells ≡ m.rows * m.cols) }
+/// Numbers of rows and columns, where the number of cells fits.
+fn shape(text: &str) -> Result<(usize, usize), Fault>
+    ensures { IfOk result (λ size. size.0 * size.1 < 2 ^ 64) }
 {
-    let (size, cells) = parted(text, ':')?;
-    let (rows, cols) = two_numbers(size)?;
+    let (rows, cols) = two_numbers(text)?;
     let (rows, cols) = (rows as usize, cols as usize);
     if rows.checked_mul(cols).is_none() {
         return Err(Fault::OutOfRange("2^64 cells"));
     }
+    Ok((rows, cols))
+}
+
+/// The matrix with these cells, and with zeros after them.
+pub fn matrix<R: Element>(alloc: Global, text: &str) -> Result<Matrix<R>, Fault>
+    ensures { IfOk result (λ m. length m.cells ≡ m.rows * m.cols) }
+{
+    let (size, cells) = parted(text, ':')?;
+    let (rows, cols) = shape(size)?;
     let cells = elements::<R>(alloc, cells)?;
     Matrix::init(alloc, rows, cols, cells).map_err(Fault::Memory)
+}
+
+/// `matrix M`: the matrix with these cells, and with zeros after them.
+fn made<R: Element>(alloc: Global, arguments: &str) -> Result<Matrix<R>, Fault> {
+    let (size, cells) = parted(arguments, ':')?;
+    let (rows, cols) = shape(size)?;
+    let cells = elements::<R>(alloc, cells)?;
+    let given = begin(alloc, &());
+    let m = Matrix::init(alloc, rows, cols, cells);
+    end(alloc, given, &(), m.is_err());
+    m.map_err(Fault::Memory)
+}
+
+/// Items from the last to the first, but `None` at the call that has the number `end`. It counts
+/// the calls.
+#[derive(Drop)]
+struct Counting<'a, R: Element> {
+    calls: &'a Cell<u64>,
+    end: u64,
+    items: Vec<R>,
+}
+
+impl<'a, R: Element> Iterator for Counting<'a, R> {
+    type Item = R;
+
+    fn next(&mut self) -> Option<R> {
+        let n = self.calls.get().wrapping_add(1);
+        self.calls.set(n);
+        if n == self.end {
+            return None;
+        }
+        self.items.pop()
+    }
+}
+
+/// How often a matrix of so many rows and columns asks for an item, where there is none at the call
+/// of the number `last`, and the matrix.
+fn asked<R: Element>(
+    alloc: Global,
+    rows: usize,
+    cols: usize,
+    items: Vec<R>,
+    last: u64,
+) -> Mem<(u64, Matrix<R>)>
+    requires { rows * cols < 2 ^ 64 }
+{
+    let calls = Cell::new(0);
+    let data = Counting {
+        calls: &calls,
+        end: last,
+        items,
+    };
+    let given = begin(alloc, &());
+    let m = Matrix::init(alloc, rows, cols, data);
+    end(alloc, given, &(), m.is_err());
+    Ok((calls.get(), m?))
+}
+
+/// `matrix_asked M @ END`: how often `Matrix::init` asks for an item, where the items are the cells
+/// of M but there is none at the call of the number END, and the matrix.
+fn put_asked<R: Element>(
+    alloc: Global,
+    arguments: &str,
+    answer: &mut Answer<R>,
+) -> Result<(), Fault> {
+    let (m, last) = parted(arguments, '@')?;
+    let last = number(last.trim())?;
+    let (size, cells) = parted(m, ':')?;
+    let (rows, cols) = shape(size)?;
+    let mut items = elements::<R>(alloc, cells)?;
+    items.reverse();
+    let (calls, m) = asked(alloc, rows, cols, items, last)?;
+    put(&mut answer.text, calls)?;
+    put_matrix(alloc, &m, answer).map_err(Fault::Memory)
 }
 
 /// The matrices of a text, with `;` between them.
@@ -90,9 +175,11 @@ fn put_found<R: Element>(
 
 /// `matrix_clone M`: a copy of the matrix.
 fn copy<R: Element>(alloc: Global, arguments: &str) -> Result<Matrix<R>, Fault> {
-    matrix::<R>(alloc, arguments)?
-        .clone(alloc)
-        .map_err(Fault::Memory)
+    let m = matrix::<R>(alloc, arguments)?;
+    let given = begin(alloc, &m);
+    let out = m.clone(alloc);
+    end(alloc, given, &m, out.is_err());
+    out.map_err(Fault::Memory)
 }
 
 /// Adds the rows, each after `;`.
@@ -114,7 +201,10 @@ fn multiplied<R: Element>(alloc: Global, a: &Matrix<R>, b: &Matrix<R>) -> Result
     if a.cols() != b.rows() || a.rows().checked_mul(b.cols()).is_none() {
         return Err(Fault::OutOfRange("shapes that don't fit"));
     }
-    a.mul(alloc, b).map_err(Fault::Memory)
+    let given = begin(alloc, &(a, b));
+    let out = a.mul(alloc, b);
+    end(alloc, given, &(a, b), out.is_err());
+    out.map_err(Fault::Memory)
 }
 
 /// `matrix_mul M @ N`: the product.

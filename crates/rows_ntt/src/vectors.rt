@@ -10,6 +10,7 @@ use math_ntt::ntt::{EvaluationVector, Matrix, PolynomialVector};
 use math_samples::elements::Element;
 use rows_base::answer::{Answer, put};
 use rows_base::fault::Fault;
+use rows_base::refusals::{begin, end};
 use rows_base::words::{elements, number, parted, two_numbers};
 use std::alloc::Global;
 
@@ -54,7 +55,10 @@ pub fn padded<R: Element>(
     let Some(_cells) = rows.checked_mul(m.cols()) else {
         return Err(Fault::OutOfRange("too many cells"));
     };
-    m.as_polynomials(alloc, n).map_err(Fault::Memory)
+    let given = begin(alloc, m);
+    let out = m.as_polynomials(alloc, n);
+    end(alloc, given, m, out.is_err());
+    out.map_err(Fault::Memory)
 }
 
 /// Adds the first rows of coefficients, each after `;`.
@@ -87,10 +91,18 @@ fn first_rows<R: Element>(
     done.map_err(Fault::Memory)
 }
 
+/// A copy of a vector of polynomials.
+fn copy<R: Element>(alloc: Global, v: &PolynomialVector<R>) -> Result<PolynomialVector<R>, Fault> {
+    let given = begin(alloc, v);
+    let out = v.clone(alloc);
+    end(alloc, given, v, out.is_err());
+    out.map_err(Fault::Memory)
+}
+
 /// A copy of a vector of polynomials, from `N @ M`.
 fn copied<R: Element>(alloc: Global, text: &str) -> Result<PolynomialVector<R>, Fault> {
     match polynomials::<R>(alloc, text)? {
-        Some(v) => v.clone(alloc).map_err(Fault::Memory),
+        Some(v) => copy(alloc, &v),
         None => Err(Fault::OutOfRange("no polynomials")),
     }
 }
@@ -109,7 +121,7 @@ fn same_polynomials<R: Element>(
 }
 
 /// Rows of values, some of which are filled.
-#[derive(Drop)]
+#[derive(Debug, Drop)]
 pub struct Values<R: Element> {
     pub vector: EvaluationVector<R>,
     pub rows: usize,
@@ -133,6 +145,15 @@ impl<R: Element> Values<R> {
         Ok(Values { vector, rows, cols })
     }
 
+    /// The same, by a call that is marked.
+    fn empty_marked(alloc: Global, lg: u64, cols: u64) -> Result<Values<R>, Fault> {
+        let given = begin(alloc, &());
+        let values = Values::empty(alloc, lg, cols);
+        let refused = matches!(values, Err(Fault::Memory(_)));
+        end(alloc, given, &(), refused);
+        values
+    }
+
     /// Fills a row.
     pub fn fill(&mut self, alloc: Global, row: usize, cells: &[R]) -> Result<(), Fault> {
         if row >= self.rows || cells.len() > self.cols {
@@ -142,11 +163,21 @@ impl<R: Element> Values<R> {
         Ok(())
     }
 
-    /// Fills a row, from `ROW : CELL ..`.
+    /// The same, by a call that is marked.
+    fn fill_marked(&mut self, alloc: Global, row: usize, cells: &[R]) -> Result<(), Fault> {
+        let given = begin(alloc, &(&*self, cells));
+        let done = self.fill(alloc, row, cells);
+        let refused = matches!(done, Err(Fault::Memory(_)));
+        end(alloc, given, &(&*self, cells), refused);
+        done
+    }
+
+    /// Fills a row by a call that is marked, from `ROW : CELL ..`.
     pub fn fill_from(&mut self, alloc: Global, text: &str) -> Result<(), Fault> {
         let (row, cells) = parted(text, ':')?;
         let row = number(row.trim())? as usize;
-        self.fill(alloc, row, &elements::<R>(alloc, cells)?)
+        let cells = elements::<R>(alloc, cells)?;
+        self.fill_marked(alloc, row, &cells)
     }
 }
 
@@ -155,7 +186,7 @@ impl<R: Element> Values<R> {
 pub fn filled<R: Element>(alloc: Global, text: &str) -> Result<Values<R>, Fault> {
     let (size, _fills) = text.split_once('@').unwrap_or((text, ""));
     let (lg, cols) = two_numbers(size)?;
-    let mut values = Values::empty(alloc, lg, cols)?;
+    let mut values = Values::empty_marked(alloc, lg, cols)?;
     for part in text.split('@').skip(1) {
         values.fill_from(alloc, part)?;
     }

@@ -7,7 +7,8 @@ use math_decoding::points::are_distinct;
 use math_samples::elements::Element;
 use rows_base::answer::{Answer, put};
 use rows_base::fault::Fault;
-use rows_base::words::{elements, number, parted};
+use rows_base::refusals::{begin, end, has_come, refuse};
+use rows_base::words::{elements, number, parted, two_numbers};
 use std::alloc::Global;
 
 /// Runs a call of this module; `false` where it is none.
@@ -20,6 +21,7 @@ pub fn run<R: Element>(
     let done = match call {
         "divide" => put_division(alloc, arguments, answer),
         "decode" => put_decoded(alloc, arguments, answer),
+        "decode_within" => decode_within(alloc, arguments, answer),
         _ => return Ok(false),
     };
     done.and(Ok(true))
@@ -54,7 +56,10 @@ fn put_quotient<R: Element>(
     let Some(_) = degree(alloc, d)? else {
         return Err(Fault::OutOfRange("a division by zero"));
     };
-    let (quotient, remainder) = divide(alloc, p, d)?;
+    let given = begin(alloc, &(p, d));
+    let out = divide(alloc, p, d);
+    end(alloc, given, &(p, d), out.is_err());
+    let (quotient, remainder) = out?;
     put_two(alloc, &quotient, &remainder, answer).map_err(Fault::Memory)
 }
 
@@ -94,7 +99,10 @@ fn decoded<R: Field>(
     if !are_distinct(alloc, points)? {
         return Err(Fault::OutOfRange("points that repeat"));
     }
-    decode(alloc, points, values, count).map_err(Fault::Memory)
+    let given = begin(alloc, &(points, values));
+    let out = decode(alloc, points, values, count);
+    end(alloc, given, &(points, values), out.is_err());
+    out.map_err(Fault::Memory)
 }
 
 /// Adds the coefficients, `;`, and the wrong places.
@@ -105,4 +113,60 @@ fn put_found<R: Element>(alloc: Global, found: &Decoded<R>, answer: &mut Answer<
         put(&mut answer.text, *place as u64)?;
     }
     Ok(())
+}
+
+/// The points 0, 1 and so on, and at each the value 100, but the point itself at the odd points
+/// below twice `wrong`.
+fn spoiled<R: Element>(alloc: Global, count: u64, wrong: u64) -> Mem<(Vec<R>, Vec<R>)> {
+    let mut points = Vec::new(alloc);
+    let mut values = Vec::new(alloc);
+    for n in 0..count {
+        points.push(R::from_number(alloc, n)?)?;
+        let is_wrong = n % 2 == 1 && n / 2 < wrong;
+        values.push(R::from_number(alloc, if is_wrong { n } else { 100 })?)?;
+    }
+    Ok((points, values))
+}
+
+/// Whether the n-th allocation of decoding these values is made, which is refused then, and how
+/// many values are wrong. No allocation is refused from then on.
+fn refused_at<R: Element>(
+    alloc: Global,
+    points: &[R],
+    values: &[R],
+    n: u32,
+) -> (bool, Result<u64, Fault>) {
+    refuse(alloc, n);
+    let out = decoded(alloc, points, values, 3);
+    let met = has_come(alloc);
+    refuse(alloc, 0);
+    let wrong = match out {
+        Ok(Some(found)) => Ok(found.wrong.len() as u64),
+        Ok(None) => Ok(0),
+        Err(fault) => Err(fault),
+    };
+    (met, wrong)
+}
+
+/// `decode_within COUNT WRONG N`: of the values 100 at so many points, so many of which are wrong,
+/// the polynomial of three coefficients is looked for, with the N-th allocation refused. How many
+/// values are found to be wrong, and whether that allocation was `met`. No allocation is refused
+/// from then on.
+fn decode_within<R: Element>(
+    alloc: Global,
+    arguments: &str,
+    answer: &mut Answer<R>,
+) -> Result<(), Fault> {
+    let (count, rest) = parted(arguments.trim(), ' ')?;
+    let (wrong, n) = two_numbers(rest)?;
+    let (points, values) = spoiled::<R>(alloc, number(count)?, wrong)?;
+    let Ok(n) = u32::try_from(n) else {
+        return Err(Fault::OutOfRange("an allocation of number 2^32 or more"));
+    };
+    let (met, wrong) = refused_at(alloc, &points, &values, n);
+    if met {
+        return answer.text.push_str(" met").map_err(Fault::Memory);
+    }
+    put(&mut answer.text, wrong?)?;
+    answer.text.push_str(" not met").map_err(Fault::Memory)
 }

@@ -7,6 +7,7 @@ use math_samples::elements::Element;
 use math_samples::sources::Listed;
 use rows_base::answer::Answer;
 use rows_base::fault::Fault;
+use rows_base::refusals::{begin, end};
 use rows_base::words::{bytes, element, numbers, parted};
 use std::alloc::Global;
 
@@ -21,7 +22,7 @@ where
     <G as CryptoGroup>::Scalar: Element,
 {
     let done = match call {
-        "generator" => answer.found(G::generator(alloc).map_err(Fault::Memory)),
+        "generator" => answer.found(generator(alloc)),
         "commit" => commit(alloc, arguments, answer),
         "commit_eval" => answer.found(commit_eval(alloc, arguments)),
         "hash_to_group" => answer.found(hash(alloc, arguments)),
@@ -31,13 +32,24 @@ where
     done.and(Ok(true))
 }
 
+/// `generator`: the generator of the group.
+fn generator<G: Element + HashToGroup>(alloc: Global) -> Result<G, Fault> {
+    let given = begin(alloc, &());
+    let out = G::generator(alloc);
+    end(alloc, given, &(), out.is_err());
+    out.map_err(Fault::Memory)
+}
+
 /// The commitment of the polynomial with these coefficients.
 fn committed<G: Element + HashToGroup>(alloc: Global, text: &str) -> Result<Poly<G>, Fault>
 where
     <G as CryptoGroup>::Scalar: Element,
 {
     let p = polynomial::<<G as CryptoGroup>::Scalar>(alloc, text)?;
-    Poly::<G>::commit(alloc, p).map_err(Fault::Memory)
+    let given = begin(alloc, &());
+    let out = Poly::<G>::commit(alloc, p);
+    end(alloc, given, &(), out.is_err());
+    out.map_err(Fault::Memory)
 }
 
 /// `commit C ..`: the stored coefficients of the commitment.
@@ -60,7 +72,10 @@ where
     let (coefficients, x) = parted(arguments, '@')?;
     let commitment = committed::<G>(alloc, coefficients)?;
     let x = element::<<G as CryptoGroup>::Scalar>(alloc, x)?;
-    commitment.eval(alloc, &x).map_err(Fault::Memory)
+    let given = begin(alloc, &(&commitment, &x));
+    let out = commitment.eval(alloc, &x);
+    end(alloc, given, &(&commitment, &x), out.is_err());
+    out.map_err(Fault::Memory)
 }
 
 /// `hash_to_group BYTE .. @ BYTE ..`: the element that a separator and a message hash to.
@@ -68,11 +83,18 @@ fn hash<G: Element + HashToGroup>(alloc: Global, arguments: &str) -> Result<G, F
     let (separator, message) = parted(arguments, '@')?;
     let separator = bytes(alloc, separator)?;
     let message = bytes(alloc, message)?;
-    G::hash_to_group(alloc, &separator, &message).map_err(Fault::Memory)
+    let given = begin(alloc, &(&separator, &message));
+    let out = G::hash_to_group(alloc, &separator, &message);
+    end(alloc, given, &(&separator, &message), out.is_err());
+    out.map_err(Fault::Memory)
 }
 
 /// `rand_to_group W ..`: the element of a source.
 fn random<G: Element + HashToGroup>(alloc: Global, arguments: &str) -> Result<G, Fault> {
     let words = numbers(alloc, arguments)?;
-    G::rand_to_group(alloc, &mut Listed::new(&words)).map_err(Fault::Memory)
+    let mut source = Listed::new(&words);
+    let given = begin(alloc, &());
+    let out = G::rand_to_group(alloc, &mut source);
+    end(alloc, given, &(), out.is_err());
+    out.map_err(Fault::Memory)
 }

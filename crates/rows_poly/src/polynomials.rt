@@ -3,8 +3,9 @@
 use math_base::algebra::{Additive, Mem, Object, Space};
 use math_poly::poly::Poly;
 use math_samples::elements::Element;
-use rows_base::answer::{Answer, put, put_firsts};
+use rows_base::answer::{Answer, are_equal, put, put_firsts};
 use rows_base::fault::Fault;
+use rows_base::refusals::{begin, end};
 use rows_base::words::{element, elements, numbers, parted};
 use std::alloc::Global;
 
@@ -16,15 +17,27 @@ pub fn run<R: Element>(
     answer: &mut Answer<R>,
 ) -> Result<bool, Fault> {
     let p = match call {
-        "poly_zero" => Poly::<R>::zero(alloc).map_err(Fault::Memory),
-        "poly_clone" | "poly_neg" | "poly_double" => of_one(alloc, call, arguments),
+        "poly_zero" => zero(alloc),
+        "poly_clone" | "poly_neg" => of_one(alloc, call, arguments),
+        "poly_double" => doubled(alloc, arguments),
         "poly_add" | "poly_sub" => of_two(alloc, call, arguments),
-        "poly_scaled" | "translate" => by_element(alloc, call, arguments),
+        "poly_add_assign" | "poly_sub_assign" => by_another(alloc, call, arguments),
+        "poly_scaled" => scaled(alloc, arguments),
+        "poly_scale_assign" => scaled_in_place(alloc, arguments),
+        "translate" => translated(alloc, arguments),
         "poly_scale" => by_limbs(alloc, arguments),
         "poly_msm" => weighted(alloc, arguments),
         _ => return run_others(alloc, call, arguments, answer),
     };
     put_found(alloc, p, answer).and(Ok(true))
+}
+
+/// `poly_zero`.
+fn zero<R: Element>(alloc: Global) -> Result<Poly<R>, Fault> {
+    let given = begin(alloc, &());
+    let out = Poly::<R>::zero(alloc);
+    end(alloc, given, &(), out.is_err());
+    out.map_err(Fault::Memory)
 }
 
 /// Runs a call that answers no polynomial; `false` where it is none.
@@ -89,7 +102,10 @@ fn eval<R: Element>(alloc: Global, call: &str, arguments: &str) -> Result<R, Fau
     let (coefficients, point) = parted(arguments, '@')?;
     let p = polynomial::<R>(alloc, coefficients)?;
     let x = element::<R>(alloc, point)?;
-    value(alloc, call, &p, &x).map_err(Fault::Memory)
+    let given = begin(alloc, &(&p, &x));
+    let out = value(alloc, call, &p, &x);
+    end(alloc, given, &(&p, &x), out.is_err());
+    out.map_err(Fault::Memory)
 }
 
 /// The weight and the point of `W:X`, with this mark between them.
@@ -113,24 +129,46 @@ fn combined<R: Element>(alloc: Global, arguments: &str) -> Result<R, Fault> {
     let (coefficients, pairs) = parted(arguments, '@')?;
     let p = polynomial::<R>(alloc, coefficients)?;
     let pairs = weighted_points::<R>(alloc, pairs)?;
-    p.lin_comb_eval(alloc, &pairs).map_err(Fault::Memory)
+    let given = begin(alloc, &(&p, &pairs));
+    let out = p.lin_comb_eval(alloc, &pairs);
+    end(alloc, given, &(&p, &pairs), out.is_err());
+    out.map_err(Fault::Memory)
 }
 
-/// The operation of one polynomial.
-fn changed<R: Element>(alloc: Global, call: &str, p: Poly<R>) -> Mem<Poly<R>> {
-    let mut p = p;
-    match call {
-        "poly_clone" => return p.clone(alloc),
-        "poly_neg" => return p.neg(alloc),
-        _ => p.double(alloc)?,
-    }
-    Ok(p)
+/// A copy of the polynomial.
+fn copied<R: Element>(alloc: Global, p: &Poly<R>) -> Mem<Poly<R>> {
+    let given = begin(alloc, p);
+    let out = p.clone(alloc);
+    end(alloc, given, p, out.is_err());
+    out
 }
 
-/// `poly_clone C ..`, `poly_neg C ..`, `poly_double C ..`.
+/// The negative, of a polynomial that is taken.
+fn negative<R: Element>(alloc: Global, p: Poly<R>) -> Mem<Poly<R>> {
+    let given = begin(alloc, &());
+    let out = p.neg(alloc);
+    end(alloc, given, &(), out.is_err());
+    out
+}
+
+/// `poly_clone C ..`, `poly_neg C ..`.
 fn of_one<R: Element>(alloc: Global, call: &str, arguments: &str) -> Result<Poly<R>, Fault> {
     let p = polynomial::<R>(alloc, arguments)?;
-    changed(alloc, call, p).map_err(Fault::Memory)
+    let out = match call {
+        "poly_clone" => copied(alloc, &p),
+        _ => negative(alloc, p),
+    };
+    out.map_err(Fault::Memory)
+}
+
+/// `poly_double C ..`.
+fn doubled<R: Element>(alloc: Global, arguments: &str) -> Result<Poly<R>, Fault> {
+    let mut p = polynomial::<R>(alloc, arguments)?;
+    let given = begin(alloc, &p);
+    let done = p.double(alloc);
+    end(alloc, given, &p, done.is_err());
+    done?;
+    Ok(p)
 }
 
 /// The sum for `poly_add`, else the difference.
@@ -146,24 +184,72 @@ fn sum_or_difference<R: Element>(
     }
 }
 
-/// `poly_add A .. @ B ..`, `poly_sub A .. @ B ..`.
-fn of_two<R: Element>(alloc: Global, call: &str, arguments: &str) -> Result<Poly<R>, Fault> {
-    let (a, b) = parted(arguments, '@')?;
+/// The polynomials of `A .. @ B ..`.
+fn two<R: Element>(alloc: Global, text: &str) -> Result<(Poly<R>, Poly<R>), Fault> {
+    let (a, b) = parted(text, '@')?;
     let p = polynomial::<R>(alloc, a)?;
-    let q = polynomial::<R>(alloc, b)?;
-    sum_or_difference(alloc, call, p, &q).map_err(Fault::Memory)
+    Ok((p, polynomial::<R>(alloc, b)?))
 }
 
-/// `poly_scaled C .. @ X`: the multiple by X; `translate C .. @ X`: X is added to each coefficient.
-fn by_element<R: Element>(alloc: Global, call: &str, arguments: &str) -> Result<Poly<R>, Fault> {
-    let (coefficients, x) = parted(arguments, '@')?;
+/// `poly_add A .. @ B ..`, `poly_sub A .. @ B ..`.
+fn of_two<R: Element>(alloc: Global, call: &str, arguments: &str) -> Result<Poly<R>, Fault> {
+    let (p, q) = two::<R>(alloc, arguments)?;
+    let given = begin(alloc, &q);
+    let out = sum_or_difference(alloc, call, p, &q);
+    end(alloc, given, &q, out.is_err());
+    out.map_err(Fault::Memory)
+}
+
+/// Adds q for `poly_add_assign`, else takes it away.
+fn change_by<R: Element>(alloc: Global, call: &str, p: &mut Poly<R>, q: &Poly<R>) -> Mem<()> {
+    match call {
+        "poly_add_assign" => p.add_assign(alloc, q),
+        _ => p.sub_assign(alloc, q),
+    }
+}
+
+/// `poly_add_assign A .. @ B ..`, `poly_sub_assign A .. @ B ..`.
+fn by_another<R: Element>(alloc: Global, call: &str, arguments: &str) -> Result<Poly<R>, Fault> {
+    let (mut p, q) = two::<R>(alloc, arguments)?;
+    let given = begin(alloc, &(&p, &q));
+    let done = change_by(alloc, call, &mut p, &q);
+    end(alloc, given, &(&p, &q), done.is_err());
+    done?;
+    Ok(p)
+}
+
+/// The polynomial and the element of `C .. @ X`.
+fn with_element<R: Element>(alloc: Global, text: &str) -> Result<(Poly<R>, R), Fault> {
+    let (coefficients, x) = parted(text, '@')?;
     let p = polynomial::<R>(alloc, coefficients)?;
-    let x = element::<R>(alloc, x)?;
-    let out = if call == "translate" {
-        p.translate(alloc, |c: &R| c.clone(alloc)?.add(alloc, &x))
-    } else {
-        Space::<R>::scaled(p, alloc, &x)
-    };
+    Ok((p, element::<R>(alloc, x)?))
+}
+
+/// `poly_scaled C .. @ X`: the multiple by X.
+fn scaled<R: Element>(alloc: Global, arguments: &str) -> Result<Poly<R>, Fault> {
+    let (p, x) = with_element::<R>(alloc, arguments)?;
+    let given = begin(alloc, &x);
+    let out = Space::<R>::scaled(p, alloc, &x);
+    end(alloc, given, &x, out.is_err());
+    out.map_err(Fault::Memory)
+}
+
+/// `poly_scale_assign C .. @ X`: the multiple by X.
+fn scaled_in_place<R: Element>(alloc: Global, arguments: &str) -> Result<Poly<R>, Fault> {
+    let (mut p, x) = with_element::<R>(alloc, arguments)?;
+    let given = begin(alloc, &(&p, &x));
+    let done = Space::<R>::scale_assign(&mut p, alloc, &x);
+    end(alloc, given, &(&p, &x), done.is_err());
+    done?;
+    Ok(p)
+}
+
+/// `translate C .. @ X`: X is added to each coefficient.
+fn translated<R: Element>(alloc: Global, arguments: &str) -> Result<Poly<R>, Fault> {
+    let (p, x) = with_element::<R>(alloc, arguments)?;
+    let given = begin(alloc, &(&p, &x));
+    let out = p.translate(alloc, |c: &R| c.clone(alloc)?.add(alloc, &x));
+    end(alloc, given, &(&p, &x), out.is_err());
     out.map_err(Fault::Memory)
 }
 
@@ -172,7 +258,10 @@ fn by_limbs<R: Element>(alloc: Global, arguments: &str) -> Result<Poly<R>, Fault
     let (coefficients, limbs) = parted(arguments, '@')?;
     let limbs = numbers(alloc, limbs)?;
     let p = polynomial::<R>(alloc, coefficients)?;
-    p.scale(alloc, &limbs).map_err(Fault::Memory)
+    let given = begin(alloc, &(&p, &limbs));
+    let out = p.scale(alloc, &limbs);
+    end(alloc, given, &(&p, &limbs), out.is_err());
+    out.map_err(Fault::Memory)
 }
 
 /// `poly_msm A .. ; B .. ; .. @ S ..`: the sum of the multiples.
@@ -180,22 +269,28 @@ fn weighted<R: Element>(alloc: Global, arguments: &str) -> Result<Poly<R>, Fault
     let (points, scalars) = parted(arguments, '@')?;
     let points = polynomials::<R>(alloc, points)?;
     let scalars = elements::<R>(alloc, scalars)?;
-    Space::<R>::msm(alloc, &points, &scalars).map_err(Fault::Memory)
+    let given = begin(alloc, &(&points, &scalars));
+    let out = Space::<R>::msm(alloc, &points, &scalars);
+    end(alloc, given, &(&points, &scalars), out.is_err());
+    out.map_err(Fault::Memory)
 }
 
 /// `poly_equals A .. ; B .. ; ..`: for each polynomial the place of the first that it equals.
 fn same<R: Element>(alloc: Global, arguments: &str, answer: &mut Answer<R>) -> Result<(), Fault> {
     let items = polynomials::<R>(alloc, arguments)?;
     put_firsts(&mut answer.text, &items, |a: &Poly<R>, b: &Poly<R>| {
-        a.equals(alloc, b)
+        are_equal(alloc, a, b)
     })
     .map_err(Fault::Memory)
 }
 
 /// Adds the degree, the exact degree, and the number of values that fix the polynomial.
 fn put_sizes<R: Element>(alloc: Global, p: &Poly<R>, text: &mut String) -> Mem<()> {
+    let given = begin(alloc, p);
+    let exact = p.degree_exact(alloc);
+    end(alloc, given, p, exact.is_err());
     put(text, u64::from(p.degree()))?;
-    put(text, u64::from(p.degree_exact(alloc)?))?;
+    put(text, u64::from(exact?))?;
     put(text, u64::from(p.required().get()))
 }
 

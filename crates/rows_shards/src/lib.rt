@@ -3,11 +3,12 @@
 
 use math_base::algebra::Mem;
 use math_base::fields::goldilocks::F;
-use math_codec::codec::{EncodeSize, Read, Write};
+use math_codec::codec::{self, EncodeSize, Read, Write};
 use math_samples::elements::Element;
 use math_shards::shards::{Error, Joined, Shard, join, join_corrected, split};
 use rows_base::answer::{put, put_all, put_bytes, put_rest};
 use rows_base::fault::Fault;
+use rows_base::refusals::{begin, end};
 use rows_base::words::{bytes, elements, numbers, parted, short};
 use std::alloc::{AllocError, Global};
 
@@ -20,6 +21,7 @@ pub fn run(alloc: Global, call: &str, arguments: &str, text: &mut String) -> Res
         "join_each_pair" => join_each_pair(alloc, arguments, text),
         "join_each_set" => join_each_set(alloc, arguments, text),
         "write_shard" => write_shard(alloc, arguments, text),
+        "write_shard_after" => write_shard_after(alloc, arguments, text),
         "read_shard" => read_shard(alloc, arguments, text),
         _ => return Ok(false),
     };
@@ -80,13 +82,26 @@ fn put_shards(text: &mut String, shards: &[Shard]) -> Mem<()> {
     Ok(())
 }
 
+/// Adds the shards of some words, with `;` between them.
+fn put_split(
+    alloc: Global,
+    data: &[u64],
+    min: u32,
+    total: u32,
+    text: &mut String,
+) -> Result<(), Fault> {
+    let given = begin(alloc, &data);
+    let shards = shards_of(alloc, data, min, total);
+    end(alloc, given, &data, matches!(shards, Err(Fault::Memory(_))));
+    put_shards(text, &shards?).map_err(Fault::Memory)
+}
+
 /// `split MIN TOTAL ; W ..`: the shards, with `;` between them.
 fn split_words(alloc: Global, arguments: &str, text: &mut String) -> Result<(), Fault> {
     let (head, data) = parted(arguments, ';')?;
     let (min, total) = min_and_total(head)?;
     let data = numbers(alloc, data)?;
-    let shards = shards_of(alloc, &data, min, total)?;
-    put_shards(text, &shards).map_err(Fault::Memory)
+    put_split(alloc, &data, min, total, text)
 }
 
 /// Adds words, after `data`.
@@ -103,9 +118,25 @@ fn put_refusal(text: &mut String, error: &Error) -> Mem<()> {
     }
 }
 
+/// The words that shards give back.
+fn joined(alloc: Global, shards: &[Shard]) -> Result<Vec<u64>, Error> {
+    let given = begin(alloc, &shards);
+    let out = join(alloc, shards);
+    end(alloc, given, &shards, matches!(out, Err(Error::Memory(_))));
+    out
+}
+
+/// The words that shards give back, of which some are wrong, and the positions of these.
+fn corrected(alloc: Global, shards: &[Shard]) -> Result<Joined, Error> {
+    let given = begin(alloc, &shards);
+    let out = join_corrected(alloc, shards);
+    end(alloc, given, &shards, matches!(out, Err(Error::Memory(_))));
+    out
+}
+
 /// Adds the words that shards give back, after `data`, or why they give none.
 fn put_joined(alloc: Global, shards: &[Shard], text: &mut String) -> Mem<()> {
-    match join(alloc, shards) {
+    match joined(alloc, shards) {
         Ok(data) => put_data(text, &data),
         Err(error) => put_refusal(text, &error),
     }
@@ -141,7 +172,7 @@ fn put_corrected(text: &mut String, joined: &Joined) -> Mem<()> {
 /// `join_corrected SHARD ; ..`: `data` and the words, `left out` and the positions, or the refusal.
 fn join_wrong_shards(alloc: Global, arguments: &str, text: &mut String) -> Result<(), Fault> {
     let shards = shards_in(alloc, arguments)?;
-    let done = match join_corrected(alloc, &shards) {
+    let done = match corrected(alloc, &shards) {
         Ok(joined) => put_corrected(text, &joined),
         Err(error) => put_refusal(text, &error),
     };
@@ -158,8 +189,8 @@ fn with_pair_changed(alloc: Global, shards: &[Shard], pair: &[usize], k: usize) 
     Ok(out)
 }
 
-/// Whether the shards, with one more in cell k of each of two, are corrected to the words, and these
-/// two left out.
+/// Whether the shards, with one more in cell k of each of two, are corrected to the words, and
+/// these two left out.
 fn is_pair_left_out(
     alloc: Global,
     shards: &[Shard],
@@ -168,7 +199,7 @@ fn is_pair_left_out(
     words: &[u64],
 ) -> Mem<bool> {
     let given = with_pair_changed(alloc, shards, pair, k)?;
-    match join_corrected(alloc, &given) {
+    match corrected(alloc, &given) {
         Ok(joined) => Ok(joined.words.as_slice() == words && joined.left_out.as_slice() == pair),
         Err(Error::Memory(e)) => Err(e),
         Err(_) => Ok(false),
@@ -244,8 +275,8 @@ fn is_damage_found(alloc: Global, shards: &[Shard], set: u64, changed: u32, k: u
     is_of_no_data(alloc, &all)
 }
 
-/// In how many ways a shard of a set with one more in a cell, beside a further shard, is found to be
-/// of no data.
+/// In how many ways a shard of a set with one more in a cell, beside a further shard, is found to
+/// be of no data.
 fn damages_found(alloc: Global, shards: &[Shard], set: u64) -> Mem<u64> {
     let mut found = 0u64;
     for further in shards {
@@ -268,7 +299,7 @@ fn damages_found(alloc: Global, shards: &[Shard], set: u64) -> Mem<u64> {
 
 /// Whether the shards are refused as those of no data.
 fn is_of_no_data(alloc: Global, shards: &[Shard]) -> Mem<bool> {
-    match join(alloc, shards) {
+    match joined(alloc, shards) {
         Err(Error::Memory(e)) => Err(e),
         Err(Error::Inconsistent) => Ok(true),
         _ => Ok(false),
@@ -277,7 +308,7 @@ fn is_of_no_data(alloc: Global, shards: &[Shard]) -> Mem<bool> {
 
 /// Whether the shards give these words back.
 fn give_back(alloc: Global, shards: &[Shard], data: &[u64]) -> Mem<bool> {
-    match join(alloc, shards) {
+    match joined(alloc, shards) {
         Err(Error::Memory(e)) => Err(e),
         Ok(found) => Ok(found.as_slice() == data),
         _ => Ok(false),
@@ -312,8 +343,8 @@ fn sets_joined(
     Ok((joined, found))
 }
 
-/// `join_each_set MIN TOTAL ; W ..`: how many sets of `min` shards give the words back, and in how many
-/// ways one more in a cell of such a set, beside a further shard, is refused as of no data.
+/// `join_each_set MIN TOTAL ; W ..`: how many sets of `min` shards give the words back, and in how
+/// many ways one more in a cell of such a set, beside a further shard, is refused as of no data.
 fn join_each_set(alloc: Global, arguments: &str, text: &mut String) -> Result<(), Fault> {
     let (head, data) = parted(arguments, ';')?;
     let (min, total) = min_and_total(head)?;
@@ -327,6 +358,18 @@ fn join_each_set(alloc: Global, arguments: &str, text: &mut String) -> Result<()
     put(text, found).map_err(Fault::Memory)
 }
 
+/// Appends the bytes of a shard of fewer than 2^32 cells, and answers how many it says there are.
+fn append(alloc: Global, shard: &Shard, out: &mut Vec<u8>) -> Result<usize, Fault> {
+    if shard.cells.len() >= 1 << 32 {
+        return Err(Fault::OutOfRange("too many cells"));
+    }
+    let given = begin(alloc, &(shard, &*out));
+    let done = shard.write(alloc, out);
+    end(alloc, given, &(shard, &*out), done.is_err());
+    done?;
+    Ok(shard.encode_size())
+}
+
 /// Adds bytes, and how many a value says that there are.
 fn put_written(text: &mut String, bytes: &[u8], size: usize) -> Mem<()> {
     put_bytes(text, bytes)?;
@@ -337,12 +380,52 @@ fn put_written(text: &mut String, bytes: &[u8], size: usize) -> Mem<()> {
 /// `write_shard INDEX MIN TOTAL : CELL ..`: the bytes, and how many there are.
 fn write_shard(alloc: Global, arguments: &str, text: &mut String) -> Result<(), Fault> {
     let shard = shard_in(alloc, arguments)?;
-    if shard.cells.len() >= 1 << 32 {
-        return Err(Fault::OutOfRange("too many cells"));
-    }
     let mut out = Vec::new(alloc);
-    shard.write(alloc, &mut out)?;
-    put_written(text, &out, shard.encode_size()).map_err(Fault::Memory)
+    let size = append(alloc, &shard, &mut out)?;
+    put_written(text, &out, size).map_err(Fault::Memory)
+}
+
+/// `write_shard_after BYTE .. @ INDEX MIN TOTAL : CELL ..`: these bytes, and then those of the
+/// shard.
+fn write_shard_after(alloc: Global, arguments: &str, text: &mut String) -> Result<(), Fault> {
+    let (before, shard) = parted(arguments, '@')?;
+    let mut out = bytes(alloc, before)?;
+    let shard = shard_in(alloc, shard)?;
+    let _size = append(alloc, &shard, &mut out)?;
+    put_bytes(text, &out).map_err(Fault::Memory)
+}
+
+/// Why bytes are those of no shard.
+fn fault_of(error: codec::Error) -> Fault {
+    match error {
+        codec::Error::Memory(e) => Fault::Memory(e),
+        other => Fault::Bytes(other),
+    }
+}
+
+/// Reads a shard of at most so many cells from the front of the input.
+fn taken(alloc: Global, most: u32, input: &mut &[u8]) -> Result<Shard, codec::Error> {
+    let given = begin(alloc, &*input);
+    let shard = Shard::read_cfg(alloc, input, &most);
+    end(
+        alloc,
+        given,
+        &*input,
+        matches!(shard, Err(codec::Error::Memory(_))),
+    );
+    shard
+}
+
+/// Reads a shard from bytes, and adds how many are left. Where it is refused, the input has to
+/// stand as it was.
+fn read_all(alloc: Global, most: u32, all: &[u8], text: &mut String) -> Result<(), Fault> {
+    let mut input = all;
+    let shard = taken(alloc, most, &mut input);
+    if shard.is_err() && input.len() != all.len() {
+        return Err(Fault::Unreadable("input that stands"));
+    }
+    put_shard(text, &shard.map_err(fault_of)?)?;
+    put_rest(text, input.len()).map_err(Fault::Memory)
 }
 
 /// `read_shard MOST @ BYTE ..`: the shard, `rest` and how many bytes are left.
@@ -350,8 +433,5 @@ fn read_shard(alloc: Global, arguments: &str, text: &mut String) -> Result<(), F
     let (most, given) = parted(arguments, '@')?;
     let most = short(most)?;
     let given = bytes(alloc, given)?;
-    let mut rest: &[u8] = &given;
-    let shard = Shard::read_cfg(alloc, &mut rest, &most)?;
-    put_shard(text, &shard)?;
-    put_rest(text, rest.len()).map_err(Fault::Memory)
+    read_all(alloc, most, &given, text)
 }

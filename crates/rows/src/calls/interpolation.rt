@@ -1,11 +1,12 @@
 //! Interpolation at keyed points.
 
-use commonware_math::algebra::Mem;
+use commonware_math::algebra::{Mem, Space};
 use commonware_math::ordered::Map;
 use commonware_math::poly::Interpolator;
 use math_samples::elements::Element;
 use rows_base::answer::Answer;
 use rows_base::fault::Fault;
+use rows_base::refusals::{begin, end};
 use rows_base::words::{element, elements, keyed, parted};
 use rows_poly::polynomials::{polynomials, put_stored};
 use std::alloc::Global;
@@ -44,7 +45,19 @@ fn interpolator_at<R: Element>(
 ) -> Result<Interpolator<u64, R>, Fault> {
     let (x, points) = parted(arguments, '@')?;
     let x = element::<R>(alloc, x)?;
-    Ok(Interpolator::at(alloc, keyed::<R>(alloc, points)?, &x)?)
+    let points = keyed::<R>(alloc, points)?;
+    let given = begin(alloc, &x);
+    let out = Interpolator::at(alloc, points, &x);
+    end(alloc, given, &x, out.is_err());
+    Ok(out?)
+}
+
+/// The interpolator for the value at zero.
+fn at_zero<R: Element>(alloc: Global, points: Vec<(u64, R)>) -> Mem<Interpolator<u64, R>> {
+    let given = begin(alloc, &());
+    let out = Interpolator::new(alloc, points);
+    end(alloc, given, &(), out.is_err());
+    out
 }
 
 /// Adds the weights with their keys.
@@ -67,7 +80,7 @@ fn weights<R: Element>(
     answer: &mut Answer<R>,
 ) -> Result<(), Fault> {
     let points = counted(alloc, elements::<R>(alloc, arguments)?)?;
-    let interpolator = Interpolator::new(alloc, points)?;
+    let interpolator = at_zero(alloc, points)?;
     answer.copies(alloc, interpolator.weights().values())?;
     Ok(())
 }
@@ -78,7 +91,7 @@ fn interpolator<R: Element>(
     arguments: &str,
     answer: &mut Answer<R>,
 ) -> Result<(), Fault> {
-    let interpolator = Interpolator::new(alloc, keyed::<R>(alloc, arguments)?)?;
+    let interpolator = at_zero(alloc, keyed::<R>(alloc, arguments)?)?;
     put_weights(alloc, &interpolator, answer)?;
     Ok(())
 }
@@ -89,6 +102,26 @@ fn put_at<R: Element>(alloc: Global, arguments: &str, answer: &mut Answer<R>) ->
     Ok(())
 }
 
+/// The map of these pairs.
+fn map_of<V: Drop>(alloc: Global, pairs: Vec<(u64, V)>) -> Mem<Map<u64, V>> {
+    let given = begin(alloc, &());
+    let out = Map::from_iter_dedup(alloc, pairs);
+    end(alloc, given, &(), out.is_err());
+    out
+}
+
+/// The value that these weights give, or `None`.
+fn interpolated<R: Element, K: Space<R>>(
+    alloc: Global,
+    interpolator: &Interpolator<u64, R>,
+    values: &Map<u64, K>,
+) -> Mem<Option<K>> {
+    let given = begin(alloc, &(interpolator, values));
+    let out = interpolator.interpolate(alloc, values);
+    end(alloc, given, &(interpolator, values), out.is_err());
+    out
+}
+
 /// `interpolate K:V .. @ X @ K:P ..`: the value at X, or `none`.
 fn interpolate<R: Element>(
     alloc: Global,
@@ -96,8 +129,9 @@ fn interpolate<R: Element>(
     answer: &mut Answer<R>,
 ) -> Result<(), Fault> {
     let (values, points) = parted(arguments, '@')?;
-    let values = Map::from_iter_dedup(alloc, keyed::<R>(alloc, values)?)?;
-    match interpolator_at::<R>(alloc, points)?.interpolate(alloc, &values)? {
+    let values = map_of(alloc, keyed::<R>(alloc, values)?)?;
+    let interpolator = interpolator_at::<R>(alloc, points)?;
+    match interpolated(alloc, &interpolator, &values)? {
         Some(value) => answer.element(value)?,
         None => answer.text.push_str(" none")?,
     }
@@ -113,8 +147,9 @@ fn interpolate_polynomials<R: Element>(
 ) -> Result<(), Fault> {
     let (values, points) = parted(arguments, '@')?;
     let values = counted(alloc, polynomials::<R>(alloc, values)?)?;
-    let values = Map::from_iter_dedup(alloc, values)?;
-    match interpolator_at::<R>(alloc, points)?.interpolate(alloc, &values)? {
+    let values = map_of(alloc, values)?;
+    let interpolator = interpolator_at::<R>(alloc, points)?;
+    match interpolated(alloc, &interpolator, &values)? {
         Some(value) => put_stored(alloc, &value, answer)?,
         None => answer.text.push_str(" none")?,
     }

@@ -11,8 +11,9 @@ use commonware_math::poly::Interpolator;
 use math_samples::elements::Element;
 use rows_base::answer::{Answer, put};
 use rows_base::fault::Fault;
+use rows_base::refusals::{begin, end};
 use rows_base::words::{element, elements, number, parted, short};
-use rows_recovery::transforms::has_domain;
+use rows_ntt::transforms::has_domain;
 use std::alloc::Global;
 use std::num::NonZeroU32;
 
@@ -86,6 +87,31 @@ fn put_indexed<R: Element>(weights: Vec<(u32, R)>, answer: &mut Answer<R>) -> Me
     Ok(())
 }
 
+/// The weights for the value at zero.
+fn weights<R: Element>(alloc: Global, total: NonZeroU32, indices: Vec<u32>) -> Mem<Vec<(u32, R)>>
+    requires { HasDomainOf R.MAX_LG_ROOT_ORDER total.value }
+{
+    let given = begin(alloc, &());
+    let weights = lagrange_coefficients(alloc, total, indices);
+    end(alloc, given, &(), weights.is_err());
+    weights
+}
+
+/// The weights for the value at x.
+fn weights_at<R: Element>(
+    alloc: Global,
+    total: NonZeroU32,
+    indices: Vec<u32>,
+    x: &R,
+) -> Mem<Vec<(u32, R)>>
+    requires { HasDomainOf R.MAX_LG_ROOT_ORDER total.value }
+{
+    let given = begin(alloc, x);
+    let weights = lagrange_coefficients_at(alloc, total, indices, x);
+    end(alloc, given, x, weights.is_err());
+    weights
+}
+
 /// `lagrange TOTAL ; [I, ..]`: the weights for the value at zero, with their indices.
 fn lagrange<R: Element>(
     alloc: Global,
@@ -94,7 +120,7 @@ fn lagrange<R: Element>(
 ) -> Result<(), Fault> {
     let (total, list) = parted(arguments, ';')?;
     let total = total_in::<R>(total)?;
-    let weights = lagrange_coefficients(alloc, total, indices(alloc, list)?)?;
+    let weights = weights(alloc, total, indices(alloc, list)?)?;
     put_indexed(weights, answer)?;
     Ok(())
 }
@@ -109,7 +135,7 @@ fn lagrange_at<R: Element>(
     let (total, list) = parted(rest, ';')?;
     let total = total_in::<R>(total)?;
     let x = element::<R>(alloc, x)?;
-    let weights = lagrange_coefficients_at(alloc, total, indices(alloc, list)?, &x)?;
+    let weights = weights_at(alloc, total, indices(alloc, list)?, &x)?;
     put_indexed(weights, answer)?;
     Ok(())
 }
@@ -122,8 +148,11 @@ fn roots_of_unity<R: Element>(
 ) -> Result<(), Fault> {
     let (total, points) = parted(arguments, ';')?;
     let total = total_in::<R>(total)?;
-    let interpolator = Interpolator::roots_of_unity(alloc, total, keys(alloc, points)?)?;
-    put_weights(alloc, &interpolator, answer)?;
+    let points = keys(alloc, points)?;
+    let given = begin(alloc, &());
+    let interpolator = Interpolator::roots_of_unity(alloc, total, points);
+    end(alloc, given, &(), interpolator.is_err());
+    put_weights(alloc, &interpolator?, answer)?;
     Ok(())
 }
 
@@ -138,8 +167,10 @@ fn roots_of_unity_at<R: Element>(
     let total = total_in::<R>(total)?;
     let points = keys(alloc, points)?;
     let x = element::<R>(alloc, x)?;
-    let interpolator = Interpolator::roots_of_unity_at(alloc, total, points, &x)?;
-    put_weights(alloc, &interpolator, answer)?;
+    let given = begin(alloc, &x);
+    let interpolator = Interpolator::roots_of_unity_at(alloc, total, points, &x);
+    end(alloc, given, &x, interpolator.is_err());
+    put_weights(alloc, &interpolator?, answer)?;
     Ok(())
 }
 
@@ -209,7 +240,7 @@ fn is_as_at<R: Element>(
     let indices = multiples(alloc, total, d)?;
     let pairs = indexed(alloc, &indices, points)?;
     let expected = Interpolator::at(alloc, pairs, x)?;
-    let weights = lagrange_coefficients_at(alloc, total, indices, x)?;
+    let weights = weights_at(alloc, total, indices, x)?;
     let weights = Map::from_iter_dedup(alloc, weights)?;
     Ok(are_same(alloc, &weights, expected.weights())?)
 }
@@ -277,7 +308,10 @@ fn of_all_indices<R: Element>(
         pairs.push((index, index))?;
     }
     let keys = BiMap::try_from_iter(alloc, pairs)?;
-    Ok(Interpolator::roots_of_unity(alloc, total, keys)?)
+    let given = begin(alloc, &());
+    let interpolator = Interpolator::roots_of_unity(alloc, total, keys);
+    end(alloc, given, &(), interpolator.is_err());
+    interpolator.map_err(Fault::Memory)
 }
 
 /// The interpolator of these points by `Interpolator::new`.

@@ -1,8 +1,0 @@
-use Rattle.std.proofs.Common.{◌∙◌, refl}
-use Rattle.math_ntt.proofs.PaddedPolynomials.{next_power_of_two-once}
-use Rattle.sweeps_base.proofs.values.evaluated.Goals as goal
-
-pub evaluate_counted-requires-clause-domain : goal.evaluate_counted-requires-clause-domain
-evaluate_counted-requires-clause-domain g c = λ lg e.
-    let same = next_power_of_two-once _ _ _ c.in-Some.ensures c.in_ok-v.ensures in
-    c.if-not-has_domain.ensures refl lg (same ∙ e)
