@@ -1,3 +1,10 @@
+pub mod PackedBytes
+pub mod UnpackedBytes
+pub mod SeenChanges
+pub mod LettersRead
+pub mod SharesAreBytes
+pub mod SeenSlips
+pub mod LinesRead
 pub mod SpelledLines
 pub mod KeyedBytes
 pub mod DealtColumns

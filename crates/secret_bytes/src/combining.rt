@@ -11,9 +11,9 @@ ghost use Rattle.secret_bytes.specs.Passes.{AreReady, IsDueRecovering, IsPass, i
 use crate::error::CombineError;
 use crate::keyed::unkeyed;
 use crate::settling::{Deal, firsts, settled};
+use crate::share::SecretShare;
 use math_base::algebra::Mem;
 use math_base::fields::goldilocks::F;
-use share_lines::SecretShare;
 use shared_secret::CombineError::{Memory, RepeatedIndex, TooFewShares, ZeroIndex};
 use shared_secret::{Corrected, Share, combine_corrected};
 use std::alloc::Global;

@@ -5,9 +5,10 @@ use commonware_math::algebra::Mem;
 use commonware_math::codec::{Read, Write};
 use commonware_math::fields::goldilocks::F;
 use math_samples::sources::Listed;
-use secret_bytes::{CombineError, Combined, DealError, combine, deal, read_lines, text_of};
-use secret_elements::{bytes_of, elements_of};
-use share_lines::{LineError, SecretShare, line_of, share_in};
+use secret_bytes::{
+    CombineError, Combined, DealError, LineError, SecretShare, bytes_of, combine, deal,
+    elements_of, line_of, read_lines, share_in, text_of,
+};
 use std::alloc::{AllocError, Global};
 use sweeps_base::handed::Handed;
 use sweeps_base::table::Calls;
