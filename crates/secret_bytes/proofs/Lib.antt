@@ -12,6 +12,7 @@ pub mod SettledShares
 pub mod ElementPoints
 pub mod LeftShares
 pub mod RecoveredShares
+pub mod WeighedColumns
 pub mod RefusedRecoveries
 pub mod CombinedShares
 pub mod AnyShares
