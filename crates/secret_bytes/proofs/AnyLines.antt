@@ -8,11 +8,11 @@ use Rattle.rand_core.specs.Stream.{Stream}
 use Rattle.math_numbers.specs.Goldilocks.{P}
 use Rattle.math_codec.specs.Lists.{AdmitsList}
 use Rattle.math_base.specs.Elements.{number}
-use Rattle.share_lines.specs.declared.shares.SecretShare.{SecretShare}
-use Rattle.share_lines.specs.Refusals as line
-use Rattle.share_lines.specs.SecretShares.{AdmitsShare, AreSameShares, at_most}
-use Rattle.secret_elements.specs.Packings.{number_count}
-use Rattle.secret_elements.proofs.UnpackedBytes.{length-sevens}
+use Rattle.secret_bytes.specs.declared.share.SecretShare.{SecretShare}
+use Rattle.secret_bytes.specs.Refusals as line
+use Rattle.secret_bytes.specs.SecretShares.{AdmitsShare, AreSameShares, at_most}
+use Rattle.secret_bytes.specs.Packings.{number_count}
+use Rattle.secret_bytes.proofs.UnpackedBytes.{length-sevens}
 use Rattle.secret_bytes.specs.CombiningLaws.{AnyLinesCombine, CombineToAlone, IsSameAsOne}
 use Rattle.secret_bytes.specs.Deals.{AreDealtBytes, IsOfDeal}
 use Rattle.secret_bytes.specs.Settled.{firsts, firsts_after, has_index}

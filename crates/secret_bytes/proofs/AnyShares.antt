@@ -14,8 +14,8 @@ use Rattle.math_base.specs.ElementLaws.{commutes, equality, group, ring}
 use Rattle.math_base.specs.Elements.{number, residue, same}
 use Rattle.math_base.specs.Polynomials.{value_in_ring}
 use Rattle.math_base.proofs.ElementNumbers.{same_number}
-use Rattle.share_lines.specs.declared.shares.SecretShare.{SecretShare}
-use Rattle.share_lines.specs.SecretShares.{AreSameShares}
+use Rattle.secret_bytes.specs.declared.share.SecretShare.{SecretShare}
+use Rattle.secret_bytes.specs.SecretShares.{AreSameShares}
 use Rattle.shared_secret.specs.declared.shares.Share.{Share}
 use Rattle.shared_secret.specs.CorrectedShares.{AreWithinRadius}
 use Rattle.shared_secret.specs.Shares.{point, points}

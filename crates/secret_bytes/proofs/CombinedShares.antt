@@ -6,7 +6,7 @@ use Rattle.std.proofs.lemmas.Bool.{cases_Bool, eq-eqb}
 use Rattle.std.proofs.lemmas.List.Elements.{All-cons, All-head, All-nil, All-push, All-tail}
 use Rattle.std.proofs.lemmas.List.Quantifiers.{all_pairs_push}
 use Rattle.math_base.specs.declared.fields.goldilocks.F.{F}
-use Rattle.share_lines.specs.declared.shares.SecretShare.{SecretShare}
+use Rattle.secret_bytes.specs.declared.share.SecretShare.{SecretShare}
 use Rattle.secret_bytes.specs.Combined.{AreOfOneDeal, IsDueCombining}
 use Rattle.secret_bytes.specs.Passes.{AreReady, IsDueRecovering, IsPlain}
 use Rattle.secret_bytes.specs.Settled.{IsFirstFault, StandBelow, firsts, firsts_after, has_index}

@@ -7,7 +7,7 @@ use Rattle.math_numbers.specs.Goldilocks.{P}
 use Rattle.math_base.specs.declared.fields.goldilocks.F.{F}
 use Rattle.math_base.specs.Elements.{number, same}
 use Rattle.math_base.proofs.ElementNumbers.{same_number}
-use Rattle.share_lines.specs.declared.shares.SecretShare.{SecretShare}
+use Rattle.secret_bytes.specs.declared.share.SecretShare.{SecretShare}
 use Rattle.shared_secret.proofs.ListsOfElements.{contains-map, pairs-map}
 use Rattle.secret_bytes.specs.Explanations.{AreExplained, EachSecretOfBytesExplains, EachSecretOfBytesExplainsEquallyOften, IsDealing, IsExplainedOnce}
 use Rattle.secret_bytes.specs.Keyed.{AreKeyedBy}

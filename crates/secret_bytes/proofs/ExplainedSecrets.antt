@@ -5,7 +5,7 @@ use Rattle.math_base.specs.declared.fields.goldilocks.F.{F}
 use Rattle.math_base.specs.ElementLaws.{commutes, equality, group, ring}
 use Rattle.math_base.specs.ElementRootLaws.{field}
 use Rattle.math_base.specs.Elements.{residue}
-use Rattle.share_lines.specs.declared.shares.SecretShare.{SecretShare}
+use Rattle.secret_bytes.specs.declared.share.SecretShare.{SecretShare}
 use Rattle.shared_secret.specs.Explanations.{ExplainsAlone}
 use Rattle.shared_secret.specs.Shares.{AreAtDistinctPoints}
 use Rattle.shared_secret.proofs.ExplainedShares.{once}

@@ -4,7 +4,7 @@ use Rattle.std.specs.Option.{IfNone, IsSomeAnd}
 use Rattle.std.proofs.lemmas.List.{same_from_push}
 use Rattle.math_base.specs.declared.fields.goldilocks.F.{F}
 use Rattle.math_base.specs.Elements.{number}
-use Rattle.secret_elements.proofs.UnpackedBytes.{packed-once}
+use Rattle.secret_bytes.proofs.UnpackedBytes.{packed-once}
 use Rattle.secret_bytes.specs.Keyed.{AreKeyed}
 
 -- the parts are the only ones

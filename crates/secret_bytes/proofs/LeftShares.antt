@@ -4,7 +4,7 @@ use Rattle.std.specs.List.{All, AllPairs, Contains, filter, list_any}
 use Rattle.std.proofs.lemmas.Bool.{cases_Bool, eq-eqb, eqb-true}
 use Rattle.std.proofs.lemmas.List.{get_or_default}
 use Rattle.std.proofs.lemmas.List.Elements.{All-contains_itself, All-filter, All-head, All-tail, filter_passes}
-use Rattle.share_lines.specs.declared.shares.SecretShare.{SecretShare}
+use Rattle.secret_bytes.specs.declared.share.SecretShare.{SecretShare}
 use Rattle.secret_bytes.specs.Combined.{is_outside, others}
 
 among-true : (xs : List ℕ) (i : ℕ) → list_any (λ n. eqb n i) xs ≡ true → Contains xs i

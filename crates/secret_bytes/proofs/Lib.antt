@@ -1,3 +1,10 @@
+pub mod PackedBytes
+pub mod UnpackedBytes
+pub mod SeenChanges
+pub mod LettersRead
+pub mod SharesAreBytes
+pub mod SeenSlips
+pub mod LinesRead
 pub mod SpelledLines
 pub mod KeyedBytes
 pub mod DealtColumns
@@ -5,6 +12,7 @@ pub mod SettledShares
 pub mod ElementPoints
 pub mod LeftShares
 pub mod RecoveredShares
+pub mod WeighedColumns
 pub mod RefusedRecoveries
 pub mod CombinedShares
 pub mod AnyShares

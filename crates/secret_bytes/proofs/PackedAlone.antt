@@ -7,10 +7,10 @@ use Rattle.math_base.specs.declared.fields.goldilocks.F.{F}
 use Rattle.math_base.specs.Elements.{number, residue}
 use Rattle.math_base.proofs.ElementNumbers.{same_number}
 use Rattle.math_base.proofs.Packing.{map-number-residue}
-use Rattle.secret_elements.specs.KeyChecks.{check_at}
-use Rattle.secret_elements.specs.Packings.{AreBytes, ArePacked, number_count, number_of, packed, sevens}
-use Rattle.secret_elements.proofs.PackedBytes.{number-below}
-use Rattle.secret_elements.proofs.UnpackedBytes.{packed-length}
+use Rattle.secret_bytes.specs.KeyChecks.{check_at}
+use Rattle.secret_bytes.specs.Packings.{AreBytes, ArePacked, number_count, number_of, packed, sevens}
+use Rattle.secret_bytes.proofs.PackedBytes.{number-below}
+use Rattle.secret_bytes.proofs.UnpackedBytes.{packed-length}
 use Rattle.secret_bytes.specs.Keyed.{AreKeyedBy}
 
 -- elements with the same numbers are the same

@@ -1,8 +1,8 @@
 -- The lines of shares, one by one.
 use Rattle.std.proofs.Common.{◌≡◌, ◌∙◌, ℕ, ◌+◌, ◌<◌, List, [], ◌∷◌, ◌++◌, length, take, get_or, refl, sym, ap, append_assoc}
 use Rattle.std.proofs.lemmas.List.{take_more}
-use Rattle.share_lines.specs.declared.shares.SecretShare.{SecretShare}
-use Rattle.share_lines.specs.Lines.{line_spelling}
+use Rattle.secret_bytes.specs.declared.share.SecretShare.{SecretShare}
+use Rattle.secret_bytes.specs.Lines.{line_spelling}
 use Rattle.secret_bytes.specs.Lines.{lines_spelling}
 
 lines-append : (xs : List SecretShare) (s : SecretShare) → lines_spelling (xs ++ (s ∷ [])) ≡ lines_spelling xs ++ (line_spelling s ++ (10 ∷ []))

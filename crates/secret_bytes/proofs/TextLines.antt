@@ -8,12 +8,12 @@ use Rattle.std.proofs.lemmas.Bool.{ne_eqb}
 use Rattle.std.proofs.lemmas.List.{append-nil, length_push}
 use Rattle.std.proofs.lemmas.List.Elements.{All-head, All-tail}
 use Rattle.std.proofs.lemmas.Str.Ascii.{trim_ascii_is}
-use Rattle.share_lines.specs.declared.lines.LineError.{LineError}
-use Rattle.share_lines.specs.declared.lines.LineError.TheVariants.{Memory, Mistyped, NoShare}
-use Rattle.share_lines.specs.declared.shares.SecretShare.{SecretShare}
-use Rattle.share_lines.specs.Lines.{line_spelling}
-use Rattle.share_lines.specs.Refusals.{IsMemory}
-use Rattle.share_lines.specs.SecretShares.{AdmitsShare, AreSameShares}
+use Rattle.secret_bytes.specs.declared.line.LineError.{LineError}
+use Rattle.secret_bytes.specs.declared.line.LineError.TheVariants.{Memory, Mistyped, NoShare}
+use Rattle.secret_bytes.specs.declared.share.SecretShare.{SecretShare}
+use Rattle.secret_bytes.specs.Lines.{line_spelling}
+use Rattle.secret_bytes.specs.Refusals.{IsMemory}
+use Rattle.secret_bytes.specs.SecretShares.{AdmitsShare, AreSameShares}
 use Rattle.secret_bytes.specs.Texts.{FitShares, IsBlank, IsFirstNoLine, IsLineOf, IsNoLine, IsReadAs, IsReadLine, text_lines}
 use Rattle.secret_bytes.specs.declared.text.Lines.{Lines}
 

@@ -3,7 +3,7 @@ use Rattle.std.specs.Prelude.{ℕ, List, map, slice_index_or, None, true}
 use Rattle.math_base.specs.declared.fields.goldilocks.F.{F}
 use Rattle.math_base.specs.Elements.{negative, product, residue, same, sum}
 use Rattle.math_base.specs.Members.{RingOf}
-use Rattle.share_lines.specs.declared.shares.SecretShare.{SecretShare}
+use Rattle.secret_bytes.specs.declared.share.SecretShare.{SecretShare}
 use Rattle.shared_secret.specs.declared.shares.Share.{Share}
 
 -- the operations of the Goldilocks field

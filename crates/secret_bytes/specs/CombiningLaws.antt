@@ -2,9 +2,9 @@
 use Rattle.std.specs.List.{Contains}
 use Rattle.std.specs.Prelude.{◌≡◌, ◌<◌, ◌≤◌, ◌^◌, ℕ, List, [], length, All}
 use Rattle.rand_core.specs.Stream.{Stream}
-use Rattle.share_lines.specs.declared.shares.SecretShare.{SecretShare}
-use Rattle.share_lines.specs.Refusals as line
-use Rattle.share_lines.specs.SecretShares.{AreSameShares}
+use Rattle.secret_bytes.specs.declared.share.SecretShare.{SecretShare}
+use Rattle.secret_bytes.specs.Refusals as line
+use Rattle.secret_bytes.specs.SecretShares.{AreSameShares}
 use Rattle.secret_bytes.specs.Combined.{AreCombined, IsDueCombining}
 use Rattle.secret_bytes.specs.Deals.{AreDealtBytes}
 use Rattle.secret_bytes.specs.Settled.{firsts}

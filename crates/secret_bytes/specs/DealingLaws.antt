@@ -2,7 +2,7 @@
 use Rattle.std.specs.Prelude.{◌≡◌, ℕ, List, length, map}
 use Rattle.rand_core.specs.Stream.{Stream}
 use Rattle.math_base.specs.declared.fields.goldilocks.F.{F}
-use Rattle.share_lines.specs.declared.shares.SecretShare.{SecretShare}
+use Rattle.secret_bytes.specs.declared.share.SecretShare.{SecretShare}
 use Rattle.secret_bytes.specs.Deals.{AreDealtBytes}
 
 -- the threshold, the index, the deal, and how many values there are: all of a share but the values

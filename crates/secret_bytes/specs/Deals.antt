@@ -4,7 +4,7 @@ use Rattle.std.specs.Prelude.{◌≡◌, ◌<◌, ℕ, List, [], ◌∷◌, leng
 use Rattle.rand_core.specs.Stream.{Stream}
 use Rattle.math_base.specs.declared.fields.goldilocks.F.{F}
 use Rattle.math_base.specs.Elements.{sample_of}
-use Rattle.share_lines.specs.declared.shares.SecretShare.{SecretShare}
+use Rattle.secret_bytes.specs.declared.share.SecretShare.{SecretShare}
 use Rattle.shared_secret.specs.Shares.{AreDealt, IsSampled}
 use Rattle.secret_bytes.specs.Columns.{column, goldilocks}
 use Rattle.secret_bytes.specs.Keyed.{AreKeyed}

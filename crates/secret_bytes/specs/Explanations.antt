@@ -4,8 +4,8 @@ use Rattle.std.specs.Prelude.{◌≡◌, ◌≢◌, ◌+◌, ◌<◌, ◌^◌, �
 use Rattle.math_numbers.specs.Goldilocks.{P}
 use Rattle.math_base.specs.declared.fields.goldilocks.F.{F}
 use Rattle.math_base.specs.Elements.{residue, same}
-use Rattle.secret_elements.specs.Packings.{AreBytes, number_count}
-use Rattle.share_lines.specs.declared.shares.SecretShare.{SecretShare}
+use Rattle.secret_bytes.specs.Packings.{AreBytes, number_count}
+use Rattle.secret_bytes.specs.declared.share.SecretShare.{SecretShare}
 use Rattle.shared_secret.specs.Explanations.{Explains}
 use Rattle.secret_bytes.specs.Columns.{column, goldilocks}
 use Rattle.secret_bytes.specs.Keyed.{AreKeyed, AreKeyedBy}

@@ -2,8 +2,8 @@
 use Rattle.std.specs.Prelude.{◌≡◌, ℕ, List, [], ◌∷◌, ◌++◌}
 use Rattle.math_base.specs.declared.fields.goldilocks.F.{F}
 use Rattle.math_base.specs.Elements.{same}
-use Rattle.secret_elements.specs.KeyChecks.{check_at}
-use Rattle.secret_elements.specs.Packings.{ArePacked}
+use Rattle.secret_bytes.specs.KeyChecks.{check_at}
+use Rattle.secret_bytes.specs.Packings.{ArePacked}
 
 -- the elements of the bytes, a key, and the check of these elements under the key
 pub record AreKeyed (bytes : List ℕ) (all : List F) : Type 0 where

@@ -1,3 +1,11 @@
+pub mod Packings
+pub mod KeyChecks
+pub mod SecretShares
+pub mod SecretShareLaws
+pub mod Letters
+pub mod LineChecks
+pub mod Lines
+pub mod Refusals
 pub mod Columns
 pub mod Combined
 pub mod CombiningLaws
@@ -5,7 +13,6 @@ pub mod DealingLaws
 pub mod Deals
 pub mod Explanations
 pub mod Keyed
-pub mod Lines
 pub mod Passes
 pub mod Settled
 pub mod Texts

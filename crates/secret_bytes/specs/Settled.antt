@@ -2,7 +2,7 @@
 use Rattle.std.specs.List.{Contains, list_any}
 use Rattle.std.specs.Prelude.{◌≡◌, ◌<◌, ◌==◌, ℕ, Bool, List, [], ◌∷◌, ◌++◌, if◌then◌else◌, length, slice_index_or, take, All}
 use Rattle.math_base.specs.declared.fields.goldilocks.F.{F}
-use Rattle.share_lines.specs.declared.shares.SecretShare.{SecretShare}
+use Rattle.secret_bytes.specs.declared.share.SecretShare.{SecretShare}
 use Rattle.secret_bytes.specs.Deals.{IsOfDeal}
 use Rattle.secret_bytes.specs.declared.error.CombineError.{CombineError}
 use Rattle.secret_bytes.specs.declared.error.CombineError.TheVariants.{AnotherDeal, AnotherLength, AnotherThreshold, Repeated, Unsound}

@@ -2,10 +2,10 @@
 use Rattle.std.specs.Prelude.{◌≡◌, ◌⊎◌, ◌+◌, ◌^◌, ◌==◌, ℕ, List, [], ◌∷◌, ◌++◌, if◌then◌else◌, length}
 use Rattle.std.specs.List.{onto_first}
 use Rattle.std.specs.Str.{IsTrimAscii}
-use Rattle.share_lines.specs.declared.shares.SecretShare.{SecretShare}
-use Rattle.share_lines.specs.Lines.{line_spelling}
-use Rattle.share_lines.specs.Refusals.{IsMemory}
-use Rattle.share_lines.specs.SecretShares.{AdmitsShare, AreSameShares}
+use Rattle.secret_bytes.specs.declared.share.SecretShare.{SecretShare}
+use Rattle.secret_bytes.specs.Lines.{line_spelling}
+use Rattle.secret_bytes.specs.Refusals.{IsMemory}
+use Rattle.secret_bytes.specs.SecretShares.{AdmitsShare, AreSameShares}
 use Rattle.secret_bytes.specs.declared.text.LineFault.{LineFault}
 use Rattle.secret_bytes.specs.declared.text.Lines.{Lines}
 

@@ -1,9 +1,11 @@
 //! Combining of shares of bytes.
 
-ghost use Rattle.std.specs.Prelude.{◌≡◌, ◌<◌, ◌++◌, List, length, All};
+ghost use Rattle.std.specs.Prelude.{◌≡◌, ◌<◌, ◌++◌, ℕ, List, [], length, All};
 ghost use Rattle.std.specs.Prelude.{IfOk, IfErr, IfSome, IfNone};
 ghost use Rattle.math_base.specs.declared.fields.goldilocks.F.{F};
 ghost use Rattle.shared_secret.specs.CorrectedShares.{AreWithinRadius, IsCorrected};
+ghost use Rattle.shared_secret.specs.Shares.{values};
+ghost use Rattle.shared_secret.specs.Weights.{AreWeightsOf};
 ghost use Rattle.secret_bytes.specs.Columns.{column, goldilocks};
 ghost use Rattle.secret_bytes.specs.Combined.{AreCombined, AreRecovered, IsDueCombining, others};
 ghost use Rattle.secret_bytes.specs.Passes.{AreReady, IsDueRecovering, IsPass, indices_at};
@@ -11,11 +13,11 @@ ghost use Rattle.secret_bytes.specs.Passes.{AreReady, IsDueRecovering, IsPass, i
 use crate::error::CombineError;
 use crate::keyed::unkeyed;
 use crate::settling::{Deal, firsts, settled};
+use crate::share::SecretShare;
 use math_base::algebra::Mem;
 use math_base::fields::goldilocks::F;
-use share_lines::SecretShare;
 use shared_secret::CombineError::{Memory, RepeatedIndex, TooFewShares, ZeroIndex};
-use shared_secret::{Corrected, Share, combine_corrected};
+use shared_secret::{Corrected, Share, Weights, combine_corrected, secret_of, weigh};
 use std::alloc::Global;
 
 /// The bytes, and the indices of the shares that were wrong.
@@ -110,21 +112,57 @@ fn recover(
 }
 
 /// Looks at all elements of the shares, up to the first at which some are wrong.
+///
+/// What depends on the indices alone is made once: weights by which the first t shares give the
+/// secret and the value of each further share. An element is decoded only where a share differs
+/// from what these say.
 fn look(alloc: Global, t: u32, width: usize, shares: &[SecretShare]) -> Mem<Pass>
     requires { AreReady t width shares.now }
     ensures { IfOk result (λ pass. IsPass t width shares.now pass) }
 {
     let mut elements = Vec::with_capacity(alloc, width)?;
+    if width == 0 {
+        return Ok(Pass::Fit(elements));
+    }
+    let weights = weights_once(alloc, t, width, shares)?;
     for j in 0..width {
-        let Some(found) = corrected(alloc, t, width, shares, j)? else {
-            return Ok(Pass::TooManyWrong);
+        let values = values_of(alloc, shares, j)?;
+        let Some(element) = secret_of(alloc, &weights, &values)? else {
+            return wrong_at(alloc, t, width, shares, j);
         };
-        if !found.wrong.is_empty() {
-            return Ok(Pass::Wrong(found.wrong));
-        }
-        elements.push(found.secret)?;
+        elements.push(element)?;
     }
     Ok(Pass::Fit(elements))
+}
+
+/// The weights of the shares of each element: their indices are the same.
+fn weights_once(alloc: Global, t: u32, width: usize, shares: &[SecretShare]) -> Mem<Weights<F>>
+    requires ready { AreReady t width shares.now }
+    requires some { 0 < width }
+    ensures { IfOk result (λ w. (j : ℕ) → AreWeightsOf goldilocks t (column j shares.now) w) }
+{
+    let column = column(alloc, shares, 0)?;
+    match weigh(alloc, t, &column) {
+        Ok(weights) => Ok(weights),
+        Err(Memory(e)) => Err(e),
+        Err(TooFewShares) => unreachable!(),
+        Err(ZeroIndex) => unreachable!(),
+        Err(RepeatedIndex) => unreachable!(),
+    }
+}
+
+/// What is found at element j, at which the values of the shares are not those of one polynomial of
+/// t coefficients.
+fn wrong_at(alloc: Global, t: u32, width: usize, shares: &[SecretShare], j: usize) -> Mem<Pass>
+    requires ready { AreReady t width shares.now }
+    requires within { j < width }
+    requires differ { (a : F) → ¬ (IsCorrected goldilocks t (column j shares.now) a []) }
+    ensures { IfOk result (λ pass. IsPass t width shares.now pass) }
+{
+    match corrected(alloc, t, width, shares, j)? {
+        Some(found) => Ok(Pass::Wrong(found.wrong)),
+        None => Ok(Pass::TooManyWrong),
+    }
 }
 
 /// Element j of the shares, and the places of those that are wrong.
@@ -163,6 +201,18 @@ fn column(alloc: Global, shares: &[SecretShare], j: usize) -> Mem<Vec<Share<F>>>
             index: share.index,
             value: share.values[j],
         })?;
+    }
+    Ok(out)
+}
+
+/// The values of element j of the shares.
+fn values_of(alloc: Global, shares: &[SecretShare], j: usize) -> Mem<Vec<F>>
+    requires { All (λ s. j < length s.values.items) shares.now }
+    ensures { IfOk result (λ out. out.items ≡ values (column j shares.now)) }
+{
+    let mut out = Vec::with_capacity(alloc, shares.len())?;
+    for share in shares {
+        out.push(share.values[j])?;
     }
     Ok(out)
 }

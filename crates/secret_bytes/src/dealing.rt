@@ -10,10 +10,10 @@ ghost use Rattle.secret_bytes.specs.Deals.{AreDealtBytes, AreSampled, IsOfDeal};
 
 use crate::error::DealError;
 use crate::keyed::{drawn, keyed};
+use crate::share::SecretShare;
 use math_base::algebra::Mem;
 use math_base::fields::goldilocks::F;
 use rand_core::{CryptoRng, Rng};
-use share_lines::SecretShare;
 use shared_secret::Share;
 use std::alloc::Global;
 

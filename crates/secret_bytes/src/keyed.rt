@@ -4,11 +4,12 @@ ghost use Rattle.std.specs.Prelude.{◌≡◌, ◌<◌, ◌^◌, ℕ, List, leng
 ghost use Rattle.math_base.specs.Elements.{sample_of};
 ghost use Rattle.secret_bytes.specs.Keyed.{AreKeyed, AreKeyedBy};
 
+use crate::check::{fits, key_check};
+use crate::elements::{bytes_of, elements_of};
 use crate::error::DealError;
 use math_base::algebra::{Mem, Random, RandomError};
 use math_base::fields::goldilocks::F;
 use rand_core::{CryptoRng, Rng};
-use secret_elements::{bytes_of, elements_of, fits, key_check};
 use std::alloc::Global;
 
 /// An element of the source.

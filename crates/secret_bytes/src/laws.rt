@@ -1,9 +1,26 @@
-//! Laws of shares of bytes, each the contract of a function that does nothing.
+//! Laws of secrets of bytes, their shares and the lines of these, each the contract of a function
+//! that does nothing.
 
 ghost use Rattle.secret_bytes.specs.CombiningLaws.{AnyLinesCombine, AnySharesCombine};
 ghost use Rattle.secret_bytes.specs.DealingLaws.{SharesDifferInValuesAlone};
 ghost use Rattle.secret_bytes.specs.Explanations.{EachSecretExplains, EachSecretOfBytesExplains};
 ghost use Rattle.secret_bytes.specs.Explanations.{EachSecretOfBytesExplainsEquallyOften};
+ghost use Rattle.secret_bytes.specs.KeyChecks.{ChangesAreSeen};
+ghost use Rattle.secret_bytes.specs.Lines.{SlipsAreSeen};
+
+use math_base::algebra::Field;
+
+/// What is added to n elements, of which one at least is changed by it, to the key and to the
+/// check, and does not depend on the key, leaves a check that fits for at most n + 1 keys.
+pub fn changes_are_seen<R: Field>()
+    ensures { ChangesAreSeen R.Ring }
+{}
+
+/// No line of a share becomes a line of any share by one wrong character, or by two neighbours
+/// exchanged: so `share_in` refuses each such text.
+pub fn slips_are_seen()
+    ensures { SlipsAreSeen }
+{}
 
 /// Any shares of a deal, or copies of them, in any order and some of them more than once, combine
 /// to exactly the bytes that were dealt, where at least t of them have distinct indices: what

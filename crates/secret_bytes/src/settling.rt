@@ -7,9 +7,9 @@ ghost use Rattle.secret_bytes.specs.Settled.{HaveSameValues, IsContradicted, IsF
 ghost use Rattle.secret_bytes.specs.Settled.{Stands, StandBelow, firsts, has_index};
 
 use crate::error::CombineError;
+use crate::share::SecretShare;
 use math_base::algebra::Mem;
 use math_base::fields::goldilocks::F;
-use share_lines::SecretShare;
 use std::alloc::Global;
 
 /// What all shares of a deal have in common.

@@ -1,12 +1,13 @@
 //! Lines of shares.
 
 ghost use Rattle.std.specs.Prelude.{◌≡◌, ◌<◌, ◌∷◌, ◌⊎◌, length, IfOk, IfErr, OnOk};
-ghost use Rattle.share_lines.specs.Refusals.{IsMemory};
+ghost use Rattle.secret_bytes.specs.Refusals.{IsMemory};
 ghost use Rattle.secret_bytes.specs.Lines.{lines_spelling};
 ghost use Rattle.secret_bytes.specs.Texts.{AreReadAs, IsDueReading, IsNoLine, IsReadLine};
 ghost use Rattle.secret_bytes.specs.Texts.{text_lines};
 
-use share_lines::{LineError, MOST_VALUES, SecretShare, line_of, share_in};
+use crate::line::{LineError, line_of, share_in};
+use crate::share::{MOST_VALUES, SecretShare};
 use std::alloc::Global;
 
 /// The shares of a text, and for each the number of its line, from 1 on.

@@ -1,6 +1,6 @@
 -- Why shares are not combined, with the line and the index of the share that is meant.
 use Rattle.std.proofs.Common.{◌≡◌, ℕ, List, Some, map, slice_get, sym, subst}
-use Rattle.share_lines.specs.declared.shares.SecretShare.{SecretShare}
+use Rattle.secret_bytes.specs.declared.share.SecretShare.{SecretShare}
 use Rattle.secret_bytes.specs.Combined.{IsDueCombining}
 use Rattle.secret_bytes.specs.Texts.{AreReadAs}
 use Rattle.secret_bytes.specs.declared.error.CombineError.{CombineError}

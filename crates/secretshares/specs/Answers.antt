@@ -1,6 +1,6 @@
 -- What is answered where lines of shares are combined.
 use Rattle.std.specs.Prelude.{◌≡◌, ℕ, List, Some, map, slice_get}
-use Rattle.share_lines.specs.declared.shares.SecretShare.{SecretShare}
+use Rattle.secret_bytes.specs.declared.share.SecretShare.{SecretShare}
 use Rattle.secret_bytes.specs.Combined.{AreCombined, IsDueCombining}
 use Rattle.secret_bytes.specs.Texts.{AreReadAs, IsFirstNoLine}
 use Rattle.secret_bytes.specs.declared.error.CombineError.{CombineError}

@@ -1,7 +1,7 @@
 //! The commands, over what was read.
 
 ghost use Rattle.std.specs.Prelude.{◌≡◌, ◌<◌, ◌≤◌, ℕ, List, IfOk, IfErr};
-ghost use Rattle.share_lines.specs.declared.shares.SecretShare.{SecretShare};
+ghost use Rattle.secret_bytes.specs.declared.share.SecretShare.{SecretShare};
 ghost use Rattle.secret_bytes.specs.Deals.{AreDealtBytes};
 ghost use Rattle.secret_bytes.specs.Lines.{lines_spelling};
 ghost use Rattle.secret_bytes.specs.Texts.{IsDueReading};
@@ -10,9 +10,9 @@ ghost use Rattle.secretshares.specs.Answers.{IsAnswerTo, IsDueFor, IsNamed};
 use crate::fault::Fault;
 use rand_core::{CryptoRng, Rng};
 use secret_bytes::{
-    CombineError, LineFault, Lines, MOST_BYTES, MOST_SHARES, combine, deal, read_lines, text_of,
+    CombineError, LineError, LineFault, Lines, MOST_BYTES, MOST_SHARES, combine, deal, read_lines,
+    text_of,
 };
-use share_lines::LineError;
 use std::alloc::Global;
 
 /// What stands on standard output, and what on standard error.

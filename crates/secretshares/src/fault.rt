@@ -3,8 +3,7 @@
 ghost use Rattle.std.specs.Prelude.{◌≡◌, alloc_error};
 ghost use Rattle.secretshares.specs.declared.fault.Fault.TheVariants as fault;
 
-use secret_bytes::{CombineError, DealError};
-use share_lines::LineError;
+use secret_bytes::{CombineError, DealError, LineError};
 use std::alloc::{AllocError, AllocFailed};
 use std::io;
 use thiserror::Error;

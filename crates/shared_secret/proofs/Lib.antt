@@ -4,6 +4,8 @@ pub mod DealtShares
 pub mod CombinedShares
 pub mod DealingSteps
 pub mod CorrectedShares
+pub mod WeighedValues
+pub mod WeighedShares
 pub mod NestedPolynomials
 pub mod ExplainedValues
 pub mod ListsOfElements

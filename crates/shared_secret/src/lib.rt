@@ -13,6 +13,7 @@ mod error;
 pub mod laws;
 mod shares;
 mod verifying;
+mod weighing;
 
 pub use combining::combine;
 pub use correcting::{Corrected, combine_corrected};
@@ -20,3 +21,4 @@ pub use dealing::{deal, deal_committed, shares_of};
 pub use error::{CombineError, DealError};
 pub use shares::{Share, point};
 pub use verifying::verify;
+pub use weighing::{Weights, secret_of, weigh};

@@ -3,7 +3,7 @@ use Rattle.std.proofs.lemmas.List.{length-map, take_all}
 use Rattle.std.proofs.lemmas.List.Elements.{All-map, All-nil, All-push}
 use Rattle.std.specs.List.{range_with_len}
 use Rattle.math_base.specs.declared.fields.goldilocks.F.{F}
-use Rattle.share_lines.specs.declared.shares.SecretShare.{SecretShare}
+use Rattle.secret_bytes.specs.declared.share.SecretShare.{SecretShare}
 use Rattle.shared_secret.specs.declared.shares.Share.{Share}
 use Rattle.secret_bytes.specs.Deals.{IsOfDeal}
 use Rattle.secret_bytes.proofs.DealtColumns.{columns-next, indices-count, indices-next, row-count}

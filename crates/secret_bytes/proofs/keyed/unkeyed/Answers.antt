@@ -1,9 +1,9 @@
 use Rattle.std.proofs.Common.{◌≡◌, ◌∙◌, ◌++◌, ◌∷◌, [], List, ap, append_assoc, subst}
 use Rattle.math_base.specs.declared.fields.goldilocks.F.{F}
 use Rattle.math_base.specs.Elements.{same}
-use Rattle.secret_elements.proofs.UnpackedBytes.{some-mapped}
-use Rattle.secret_elements.specs.KeyChecks.{check_at}
-use Rattle.secret_elements.specs.Packings.{ArePacked}
+use Rattle.secret_bytes.proofs.UnpackedBytes.{some-mapped}
+use Rattle.secret_bytes.specs.KeyChecks.{check_at}
+use Rattle.secret_bytes.specs.Packings.{ArePacked}
 use Rattle.secret_bytes.specs.Keyed.{AreKeyed}
 use Rattle.secret_bytes.proofs.KeyedBytes.{keyed-parts, none-found}
 use Rattle.secret_bytes.proofs.keyed.unkeyed.Goals as goal

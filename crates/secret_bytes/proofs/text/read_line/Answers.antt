@@ -1,7 +1,7 @@
 use Rattle.std.proofs.Common.{◌<◌, ◌⊎◌, inr, length, subst, rules}
 use Rattle.std.specs.Str.{IsTrimAscii}
-use Rattle.share_lines.specs.Lines.{line_spelling}
-use Rattle.share_lines.specs.Refusals.{IsMemory}
+use Rattle.secret_bytes.specs.Lines.{line_spelling}
+use Rattle.secret_bytes.specs.Refusals.{IsMemory}
 use Rattle.secret_bytes.specs.Texts.{IsNoLine}
 use Rattle.secret_bytes.proofs.TextLines.{no-line, refused, trimmed-once}
 use Rattle.secret_bytes.proofs.text.read_line.Goals as goal

@@ -1,6 +1,6 @@
 use Rattle.std.proofs.Common.{◌≡◌, ◌∙◌, ◌++◌, ◌∷◌, [], ap}
 use Rattle.std.proofs.lemmas.List.{take_all}
-use Rattle.share_lines.specs.Lines.{line_spelling}
+use Rattle.secret_bytes.specs.Lines.{line_spelling}
 use Rattle.secret_bytes.proofs.SpelledLines.{lines-next}
 use Rattle.secret_bytes.proofs.text.text_of.Goals as goal
 

@@ -1,6 +1,6 @@
 use Rattle.std.proofs.Common.{◌≡◌, ◌∙◌, map, ap}
 use Rattle.std.proofs.lemmas.List.{take_all}
-use Rattle.share_lines.specs.declared.shares.SecretShare.{SecretShare}
+use Rattle.secret_bytes.specs.declared.share.SecretShare.{SecretShare}
 use Rattle.secretshares.specs.Answers.{IsNamed}
 use Rattle.secretshares.proofs.NamedFaults.{named-due}
 use Rattle.secretshares.proofs.calls.combined.Goals as goal

@@ -1,0 +1,32 @@
+//! A key and a check.
+
+ghost use Rattle.std.specs.Prelude.{◌≡◌, ◌↔◌, IsTrue};
+ghost use Rattle.math_base.specs.Elements.{number, same};
+ghost use Rattle.secret_bytes.specs.KeyChecks.{check_at};
+
+use math_base::fields::goldilocks::F;
+
+/// The check of the elements s_1 to s_n under the key x: x^(n + 2), and the sum of s_i times x^i,
+/// by Horner's rule.
+///
+/// Who changes shares without knowing the key adds to the elements, to the key and to the check
+/// what does not depend on the key. Where that changes an element, the check fits for at most n + 1
+/// of all keys: see `laws::changes_are_seen`.
+pub fn key_check(elements: &[F], key: F) -> F
+    ensures { number result ≡ number (check_at elements.now key) }
+{
+    let mut value = key;
+    let mut i = elements.len();
+    while i > 0 {
+        i -= 1;
+        value = elements[i] + key * value;
+    }
+    key * value
+}
+
+/// Whether the check is that of the elements under the key.
+pub fn fits(elements: &[F], key: F, check: F) -> bool
+    ensures { IsTrue result ↔ same check (check_at elements.now key) }
+{
+    check == key_check(elements, key)
+}

@@ -1,3 +1,0 @@
-pub mod SeenChanges
-pub mod PackedBytes
-pub mod UnpackedBytes

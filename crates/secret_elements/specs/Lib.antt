@@ -1,2 +1,0 @@
-pub mod KeyChecks
-pub mod Packings

@@ -1,4 +1,0 @@
-pub mod LettersRead
-pub mod SharesAreBytes
-pub mod SeenSlips
-pub mod LinesRead

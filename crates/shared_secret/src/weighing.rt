@@ -1,0 +1,92 @@
+//! Weights that are made once for shares of some indices, and serve every list of their values.
+
+ghost use Rattle.std.specs.Prelude.{◌≡◌, ◌↔◌, ◌<◌, ◌≤◌, ℕ, List, [], length, IfOk, IfErr, IfSome, IfNone};
+ghost use Rattle.math_theory.specs.Interpolation.{AreApart};
+ghost use Rattle.shared_secret.specs.CorrectedShares.{IsCorrected};
+ghost use Rattle.shared_secret.specs.Shares.{IsRepeatedFirst, IsZeroFirst, values};
+ghost use Rattle.shared_secret.specs.Weights.{AreWeightsAtPoints, AreWeightsOf};
+ghost use Rattle.shared_secret.specs.declared.error.CombineError.TheVariants.{TooFewShares, ZeroIndex, RepeatedIndex};
+ghost use Rattle.shared_secret.specs.declared.shares.Share.{Share};
+
+use crate::combining::distinct_points;
+use crate::error::CombineError;
+use crate::shares::Share;
+use commonware_math::algebra::{Field, Mem, Object, Space};
+use commonware_math::poly::weights_at;
+use std::alloc::Global;
+
+/// Weights by which the values of the first t shares give the secret, and the value of each further
+/// share.
+#[derive(Debug, Drop)]
+pub struct Weights<F: Drop> {
+    /// Those for the secret.
+    pub secret: Vec<F>,
+    /// Those for each further share, in order.
+    pub further: Vec<Vec<F>>,
+}
+
+/// The weights of the shares, of which the indices alone count.
+///
+/// It refuses as `combine` does.
+pub fn weigh<F: Field>(
+    alloc: Global,
+    t: u32,
+    shares: &[Share<F>],
+) -> Result<Weights<F>, CombineError>
+    ensures weights { IfOk result (λ w. AreWeightsOf F.Ring t shares.now w) }
+    ensures few { IfErr result (λ error. error ≡ TooFewShares ↔ length shares.now < t) }
+    ensures zero { IfErr result (λ error. error ≡ ZeroIndex → IsZeroFirst F.Ring shares.now) }
+    ensures repeated { IfErr result (λ error. error ≡ RepeatedIndex
+        → IsRepeatedFirst F.Ring shares.now) }
+{
+    if shares.len() < t as usize {
+        return Err(CombineError::TooFewShares);
+    }
+    let points = distinct_points(alloc, shares)?;
+    let out = weights_at_points(alloc, t as usize, &points)?;
+    Ok(out)
+}
+
+/// The weights of the first t points for the value at zero, and at each further point.
+fn weights_at_points<F: Field>(alloc: Global, t: usize, points: &[F]) -> Mem<Weights<F>>
+    requires { t ≤ length points.now }
+    ensures { IfOk result (λ w. AreApart F.same points.now
+        → AreWeightsAtPoints F.Ring t points.now w) }
+{
+    let (first, others) = points.split_at(t);
+    let zero = F::zero(alloc)?;
+    let secret = weights_at(alloc, first, &zero)?;
+    let mut further = Vec::with_capacity(alloc, others.len())?;
+    for x in others {
+        further.push(weights_at(alloc, first, x)?)?;
+    }
+    Ok(Weights { secret, further })
+}
+
+/// The secret of shares with these weights and the values given, where none of them is wrong: the
+/// values are those of one polynomial of t coefficients, and the secret is its constant. It answers
+/// `None` exactly where there is no such polynomial.
+pub fn secret_of<F: Field>(alloc: Global, weights: &Weights<F>, given: &[F]) -> Mem<Option<F>>
+    ensures found { (t : ℕ) (shares : List (Share F)) → AreWeightsOf F.Ring t shares weights.now
+        → given.now ≡ values shares
+        → IfOk result (λ answer. IfSome answer
+        (λ secret. IsCorrected F.Ring t shares secret [])) }
+    ensures none { (t : ℕ) (shares : List (Share F)) → AreWeightsOf F.Ring t shares weights.now
+        → given.now ≡ values shares
+        → IfOk result (λ answer. IfNone answer
+        ((secret : F) → ¬ (IsCorrected F.Ring t shares secret []))) }
+{
+    let t = weights.secret.len();
+    if given.len() < t || given.len() - t != weights.further.len() {
+        return Ok(None);
+    }
+    let (first, others) = given.split_at(t);
+    for i in 0..others.len() {
+        let value = F::msm(alloc, first, &weights.further[i])?;
+        if !value.equals(alloc, &others[i])? {
+            return Ok(None);
+        }
+    }
+    let secret = F::msm(alloc, first, &weights.secret)?;
+    Ok(Some(secret))
+}
