@@ -9,10 +9,9 @@ use rows_base::fault::Fault;
 use rows_base::refusals::{begin, end};
 use rows_base::words::{bytes, numbers, parted, short};
 use secret_bytes::{
-    CombineError, Combined, DealError, LineFault, Lines, MOST_BYTES, combine, deal, read_lines,
-    text_of,
+    CombineError, Combined, DealError, LineError, LineFault, Lines, MOST_BYTES, SecretShare,
+    combine, deal, read_lines, text_of,
 };
-use share_lines::{LineError, SecretShare};
 use std::alloc::{AllocError, Global};
 
 /// Runs a call of this module; `false` where it is none.

@@ -8,8 +8,7 @@ use rows_base::fault::Fault;
 use rows_base::goldilocks::put_element;
 use rows_base::refusals::{begin, end};
 use rows_base::words::{bytes, number, numbers, parted, short};
-use secret_elements::{bytes_of, elements_of};
-use share_lines::{LineError, SecretShare, line_of, share_in};
+use secret_bytes::{LineError, SecretShare, bytes_of, elements_of, line_of, share_in};
 use std::alloc::{AllocError, Global};
 
 /// Runs a call of this module; `false` where it is none.
