@@ -2,7 +2,7 @@
 #![tactic(auto)]
 
 pub mod bitmaps;
-mod bounds;
+pub mod bounds;
 mod compared;
 pub mod correction;
 pub mod matrices;
