@@ -202,7 +202,8 @@ fn answers_of_the_rust_crate() {
     let file = concat!(env!("CARGO_MANIFEST_DIR"), "/../../crates/rows/data/commonware.rows");
     let text = std::fs::read_to_string(file).unwrap();
     let mut run = 0;
-    for line in text.lines().filter(|line| !line.is_empty() && !line.starts_with('#')) {
+    // (a line `every` is for runs with allocations refused)
+    for line in text.lines().filter(|line| !line.is_empty() && !line.starts_with('#') && !line.starts_with("every ")) {
         let (call, answer) = line.split_once("->").unwrap();
         let (name, arguments) = call.split_once(' ').unwrap();
         let found = match name {
