@@ -28,7 +28,7 @@ use Rattle.secret_bytes.specs.Settled.{IsFault, IsFirstFault, IsSound, firsts}
 use Rattle.secret_bytes.specs.declared.error.CombineError.{CombineError}
 use Rattle.secret_bytes.specs.declared.error.CombineError.TheVariants.{AnotherDeal, AnotherLength, AnotherThreshold, Changed, Memory, NoShare, Repeated, TooFew, TooManyWrong, Unsound}
 use Rattle.secret_bytes.proofs.CombinedShares.{firsts-all, firsts-apart}
-use Rattle.secret_bytes.proofs.DealtColumns.{sampled-count}
+use Rattle.secret_bytes.proofs.DealtRows.{sampled-count}
 use Rattle.secret_bytes.proofs.ElementPoints.{points_apart, values-same, within-once}
 use Rattle.secret_bytes.proofs.KeyedBytes.{keyed-once}
 use Rattle.secret_bytes.proofs.LeftShares.{others-each}

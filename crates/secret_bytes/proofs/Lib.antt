@@ -7,7 +7,7 @@ pub mod SeenSlips
 pub mod LinesRead
 pub mod SpelledLines
 pub mod KeyedBytes
-pub mod DealtColumns
+pub mod DealtRows
 pub mod SettledShares
 pub mod ElementPoints
 pub mod LeftShares

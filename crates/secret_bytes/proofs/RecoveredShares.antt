@@ -17,7 +17,7 @@ use Rattle.shared_secret.specs.CorrectedShares.{AreWithinRadius, IsCorrected}
 use Rattle.shared_secret.specs.Shares.{AreAtDistinctPoints, point, points, values}
 use Rattle.secret_bytes.specs.Columns.{column, goldilocks, share_of}
 use Rattle.secret_bytes.specs.Combined.{AreRecovered, Fits, IsWrong, is_outside, others}
-use Rattle.secret_bytes.specs.Passes.{AreReady, IsPlain, indices_at}
+use Rattle.secret_bytes.specs.Passes.{AreElements, AreReady, IsPlain, indices_at}
 use Rattle.secret_bytes.proofs.ElementPoints.{point-number, points_apart, values-same, within-once}
 use Rattle.secret_bytes.proofs.LeftShares.{first_place, first_place-at, left-count, others-each, others-has, others-more, others-none, outside-cases, pairs-head, pairs-tail, same-share}
 
@@ -157,6 +157,41 @@ progress-end t width shares kept wrong all ready g count fit =
 
     only : (j : ℕ) (l : j < width) (q : List F) → AreWithinRadius goldilocks t q (column j shares) → AreSame goldilocks q (fit j l).polynomial
     only j l q h = within-once t (column j shares) (fit j l).polynomial q (apart-at j) (enough-at j) (radius j l) h
+
+-- what was found of the first elements stands where more shares are left out
+pub elements-left : (t width : ℕ) (shares left : List SecretShare) (wrong : List ℕ) (all : List F) → AreReady t width left → left ≡ others wrong shares → AreElements t width shares all
+    → AreElements t width left all
+elements-left t width shares left wrong all ready e h = record { count = h.count; fit = λ j l. corrected j (get_or all j (residue 0)) (h.fit j l) }
+  where
+    fits : (j : ℕ) (a : F) (c : IsCorrected goldilocks t (column j shares) a []) → All (Fits j c.polynomial) left
+    fits j a c =
+        subst (All (Fits j c.polynomial)) (sym e)
+        (All-filter (λ (s : SecretShare). is_outside wrong s.index) (Fits j c.polynomial) shares
+        (λ k d m. decoded-fits t j shares a [] c k (get_or shares k d) m (get_or_default shares k (get_or shares k d) d m) (λ n. absurd (omega (arith, n.1)))))
+
+    corrected : (j : ℕ) (a : F) → IsCorrected goldilocks t (column j shares) a [] → IsCorrected goldilocks t (column j left) a []
+    corrected j a c =
+        let enough : t ≤ length (column j left) = omega (arith, ready.enough, length-map left (share_of j)) in
+        let radius : AreWithinRadius goldilocks t c.polynomial (column j left) =
+        within t j left [] c.polynomial ready.apart (omega (arith, c.decoded.number)) (omega (arith, ready.enough)) (subst (All (Fits j c.polynomial)) (sym (others-none left)) (fits j a c)) in
+        record {
+          polynomial = c.polynomial;
+          decoded = record {
+            number = c.decoded.number;
+            places = record {
+              rising = λ k m. absurd (omega (arith, m));
+              below = λ k d m. absurd (omega (arith, m));
+              differ = λ k d m. absurd (omega (arith, m));
+              agree = λ i m n.
+                  let below : i < length left = omega (arith, m, column-count j left) in
+                  let s = share-at left i below in
+                  fits-to j left c.polynomial i s.0 below s.1 (All-contains (Fits j c.polynomial) left s.0 (fits j a c) (i, below, s.1));
+            };
+            few = omega (arith, ready.enough, column-count j left);
+            only = λ q k. within-once t (column j left) c.polynomial q (points_apart j left ready.apart (small t width left ready)) enough radius k;
+          };
+          constant = c.constant;
+        }
 
 -- shares of distinct indices are at distinct points other than zero
 pub distinct-points-of : (j : ℕ) (shares : List SecretShare) → AreDistinct shares → All (λ s. 0 < s.index) shares → All (λ s. s.index < 2 ^ 32) shares → AreAtDistinctPoints goldilocks (column j shares)

@@ -17,7 +17,3 @@ share_of j s = record { index = s.index; value = slice_index_or s.values.items j
 -- the shares of element j
 abbrev pub column : ℕ → List SecretShare → List (Share F)
 column j shares = map (share_of j) shares
-
--- the value of share i
-abbrev pub value_at : List (Share F) → ℕ → F
-value_at shares i = let s : Share F = slice_index_or shares i (record { index = 0; value = residue 0 }) in s.value

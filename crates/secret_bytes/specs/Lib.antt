@@ -11,6 +11,7 @@ pub mod Combined
 pub mod CombiningLaws
 pub mod DealingLaws
 pub mod Deals
+pub mod Rows
 pub mod Explanations
 pub mod Keyed
 pub mod Passes

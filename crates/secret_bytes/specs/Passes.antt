@@ -27,11 +27,16 @@ pub record AreReady (t width : ℕ) (shares : List SecretShare) : Type 0 where
 abbrev pub indices_at : List SecretShare → List ℕ → List ℕ
 indices_at shares places = map (λ i. slice_index_or (map (λ s. s.index) shares) i 0) places
 
--- each element is that of all shares; or at some element those at these places are wrong; or at some element too many
-abbrev pub IsPass : ℕ → ℕ → List SecretShare → Pass → Type 0
-IsPass t width shares (Fit elements) = (length elements.items ≡ width) × ((j : ℕ) → j < width → IsCorrected goldilocks t (column j shares) (slice_index_or elements.items j (residue 0)) [])
-IsPass t width shares (Wrong places) = (j : ℕ) × (a : F) × (j < width) × (0 < length places.items) × IsCorrected goldilocks t (column j shares) a places.items
-IsPass t width shares TooManyWrong = (j : ℕ) × (j < width) × ((p : List F) → ¬ (AreWithinRadius goldilocks t p (column j shares)))
+-- the first elements of the shares, of which none is wrong there
+pub record AreElements (t width : ℕ) (shares : List SecretShare) (elements : List F) : Type 0 where
+  pub count : length elements ≤ width
+  pub fit : (j : ℕ) → j < length elements → IsCorrected goldilocks t (column j shares) (slice_index_or elements j (residue 0)) []
+
+-- so many elements are all of them; or at some element the shares at these places are wrong; or at some element too many
+abbrev pub IsPass : ℕ → ℕ → List SecretShare → ℕ → Pass → Type 0
+IsPass t width shares count Fit = count ≡ width
+IsPass t width shares count (Wrong places) = (j : ℕ) × (a : F) × (j < width) × (0 < length places.items) × IsCorrected goldilocks t (column j shares) a places.items
+IsPass t width shares count TooManyWrong = (j : ℕ) × (j < width) × ((p : List F) → ¬ (AreWithinRadius goldilocks t p (column j shares)))
 
 -- why no elements are recovered
 abbrev pub IsDueRecovering : ℕ → ℕ → List SecretShare → CombineError → Type 0

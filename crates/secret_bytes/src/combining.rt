@@ -8,7 +8,7 @@ ghost use Rattle.shared_secret.specs.Shares.{values};
 ghost use Rattle.shared_secret.specs.Weights.{AreWeightsOf};
 ghost use Rattle.secret_bytes.specs.Columns.{column, goldilocks};
 ghost use Rattle.secret_bytes.specs.Combined.{AreCombined, AreRecovered, IsDueCombining, others};
-ghost use Rattle.secret_bytes.specs.Passes.{AreReady, IsDueRecovering, IsPass, indices_at};
+ghost use Rattle.secret_bytes.specs.Passes.{AreElements, AreReady, IsDueRecovering, IsPass, indices_at};
 
 use crate::error::CombineError;
 use crate::keyed::unkeyed;
@@ -34,11 +34,11 @@ struct Recovered {
     wrong: Vec<u32>,
 }
 
-/// What one look at all elements finds.
+/// What one look at the elements finds.
 #[derive(Drop)]
 enum Pass {
-    /// The shares fit each other, and these are the elements.
-    Fit(Vec<F>),
+    /// At all elements the shares fit each other.
+    Fit,
     /// At some element the shares at these places are wrong.
     Wrong(Vec<usize>),
     /// At some element so many are wrong that it is not found.
@@ -96,9 +96,10 @@ fn recover(
     let most = (shares.len() - t as usize) / 2;
     let mut kept = shares;
     let mut wrong = Vec::new(alloc);
+    let mut elements = Vec::with_capacity(alloc, width)?;
     loop {
-        match look(alloc, t, width, &kept)? {
-            Pass::Fit(elements) => return Ok(Recovered { elements, wrong }),
+        match look(alloc, t, width, &kept, &mut elements)? {
+            Pass::Fit => return Ok(Recovered { elements, wrong }),
             Pass::TooManyWrong => return Err(CombineError::TooManyWrong),
             Pass::Wrong(places) => {
                 push_indices(&kept, &places, &mut wrong)?;
@@ -111,28 +112,37 @@ fn recover(
     }
 }
 
-/// Looks at all elements of the shares, up to the first at which some are wrong.
+/// Looks at the elements of the shares that come after those given, up to the first at which some
+/// are wrong, and appends those before it.
 ///
 /// What depends on the indices alone is made once: weights by which the first t shares give the
 /// secret and the value of each further share. An element is decoded only where a share differs
 /// from what these say.
-fn look(alloc: Global, t: u32, width: usize, shares: &[SecretShare]) -> Mem<Pass>
-    requires { AreReady t width shares.now }
-    ensures { IfOk result (λ pass. IsPass t width shares.now pass) }
+fn look(
+    alloc: Global,
+    t: u32,
+    width: usize,
+    shares: &[SecretShare],
+    elements: &mut Vec<F>,
+) -> Mem<Pass>
+    requires ready { AreReady t width shares.now }
+    requires before { AreElements t width shares.now elements.now.items }
+    ensures elements { IfOk result (λ _. AreElements t width shares.now elements.new.items) }
+    ensures pass { IfOk result (λ pass.
+        IsPass t width shares.now (length elements.new.items) pass) }
 {
-    let mut elements = Vec::with_capacity(alloc, width)?;
-    if width == 0 {
-        return Ok(Pass::Fit(elements));
+    if elements.len() == width {
+        return Ok(Pass::Fit);
     }
     let weights = weights_once(alloc, t, width, shares)?;
-    for j in 0..width {
+    for j in elements.len()..width {
         let values = values_of(alloc, shares, j)?;
         let Some(element) = secret_of(alloc, &weights, &values)? else {
             return wrong_at(alloc, t, width, shares, j);
         };
         elements.push(element)?;
     }
-    Ok(Pass::Fit(elements))
+    Ok(Pass::Fit)
 }
 
 /// The weights of the shares of each element: their indices are the same.
@@ -157,7 +167,7 @@ fn wrong_at(alloc: Global, t: u32, width: usize, shares: &[SecretShare], j: usiz
     requires ready { AreReady t width shares.now }
     requires within { j < width }
     requires differ { (a : F) → ¬ (IsCorrected goldilocks t (column j shares.now) a []) }
-    ensures { IfOk result (λ pass. IsPass t width shares.now pass) }
+    ensures { IfOk result (λ pass. (count : ℕ) → IsPass t width shares.now count pass) }
 {
     match corrected(alloc, t, width, shares, j)? {
         Some(found) => Ok(Pass::Wrong(found.wrong)),

@@ -1,20 +1,22 @@
 //! Dealing of bytes.
 
-ghost use Rattle.std.specs.List.{AllZip, range_with_len};
-ghost use Rattle.std.specs.Prelude.{◌≡◌, ◌<◌, ◌≤◌, ℕ, List, [], length, map, slice_index_or, All};
-ghost use Rattle.std.specs.Prelude.{IfOk};
+ghost use Rattle.std.specs.List.{AllZip};
+ghost use Rattle.std.specs.Prelude.{◌≡◌, ◌<◌, ◌≤◌, ℕ, List, [], length, map};
+ghost use Rattle.std.specs.Prelude.{IfOk, OnOk};
 ghost use Rattle.math_base.specs.declared.fields.goldilocks.F.{F};
-ghost use Rattle.shared_secret.specs.Shares.{AreDealt};
-ghost use Rattle.secret_bytes.specs.Columns.{column, goldilocks, value_at};
-ghost use Rattle.secret_bytes.specs.Deals.{AreDealtBytes, AreSampled, IsOfDeal};
+ghost use Rattle.math_base.specs.Elements.{sample_of};
+ghost use Rattle.shared_secret.specs.Shares.{IsSampled};
+ghost use Rattle.secret_bytes.specs.Deals.{AreDealtBytes, AreSampled};
+ghost use Rattle.secret_bytes.specs.Rows.{AreRows, IsGrown};
 
 use crate::error::DealError;
 use crate::keyed::{drawn, keyed};
 use crate::share::SecretShare;
-use math_base::algebra::Mem;
+use math_base::algebra::{Mem, RandomError};
 use math_base::fields::goldilocks::F;
+use math_poly::poly::Poly;
+use math_values::values::PowerTable;
 use rand_core::{CryptoRng, Rng};
-use shared_secret::Share;
 use std::alloc::Global;
 
 /// The greatest number of bytes of a secret.
@@ -45,71 +47,98 @@ pub fn deal<G: Rng + CryptoRng>(
     let deal = drawn(alloc, rng)?;
     let key = drawn(alloc, rng)?;
     let all = keyed(alloc, bytes, key)?;
-    let columns = dealt_columns(alloc, &all, t, n, rng)?;
-    let shares = shares_of(alloc, t, n, deal, &columns)?;
+    let mut rows = rows_at(alloc, t, n, deal, all.len())?;
+    deal_all(alloc, &all, t, &mut rows, rng)?;
+    let shares = shares_of(alloc, rows)?;
     Ok(shares)
 }
 
-/// For each element its shares.
-fn dealt_columns<G: Rng + CryptoRng>(
+/// A share that is dealt, and the powers of its point.
+#[derive(Drop)]
+struct Row {
+    table: PowerTable,
+    share: SecretShare,
+}
+
+/// For each index from 1 to n the powers of its point, and a share without values yet, with room
+/// for so many.
+fn rows_at(alloc: Global, t: u32, n: u32, deal: F, width: usize) -> Mem<Vec<Row>>
+    ensures { IfOk result (λ rows. AreRows t deal n [] rows.items) }
+{
+    let mut rows = Vec::with_capacity(alloc, n as usize)?;
+    let mut point = F::from(0);
+    for i in 0..n {
+        point = point + F::from(1);
+        rows.push(Row {
+            table: PowerTable::new(alloc, point, t as usize)?,
+            share: SecretShare {
+                threshold: t,
+                index: i + 1,
+                deal,
+                values: Vec::with_capacity(alloc, width)?,
+            },
+        })?;
+    }
+    Ok(rows)
+}
+
+/// Deals the elements in turn: a polynomial of t coefficients for each, of which every row takes
+/// the value at its point.
+fn deal_all<G: Rng + CryptoRng>(
     alloc: Global,
     elements: &[F],
     t: u32,
-    n: u32,
+    rows: &mut [Row],
     rng: &mut G,
-) -> Result<Vec<Vec<Share<F>>>, DealError>
-    requires some { 0 < t }
-    requires enough { t ≤ n }
-    ensures dealt { IfOk result (λ columns. (polynomials : List (List F))
+) -> Result<(), DealError>
+    requires { 0 < t }
+    ensures { (deal : F) (n : ℕ) → AreRows t deal n [] rows.old
+        → IfOk result (λ _. (polynomials : List (List F))
         × AreSampled t (G.stream rng.old) (G.stream rng.new) elements.now polynomials
-        × AllZip (λ p column. AreDealt goldilocks n p column.items) polynomials columns.items) }
+        × AreRows t deal n polynomials rows.new) }
 {
-    let mut columns = Vec::with_capacity(alloc, elements.len())?;
     for element in elements {
-        let column = shared_secret::deal(alloc, *element, t, n, rng)?;
-        columns.push(column)?;
+        let p = sampled(alloc, *element, t, rng)?;
+        push_values(rows, p.coefficients())?;
     }
-    Ok(columns)
+    Ok(())
 }
 
-/// The shares of the deal, of which each has the values that stand at its place in the columns.
-fn shares_of(
+/// The polynomial of t coefficients whose constant is the element.
+fn sampled<G: Rng + CryptoRng>(
     alloc: Global,
+    element: F,
     t: u32,
-    n: u32,
-    deal: F,
-    columns: &[Vec<Share<F>>],
-) -> Mem<Vec<SecretShare>>
-    requires { All (λ column. map (λ s. s.index) column.items ≡ range_with_len 1 n) columns.now }
-    ensures indices { IfOk result (λ shares.
-        map (λ s. s.index) shares.items ≡ range_with_len 1 n) }
-    ensures alike { IfOk result (λ shares.
-        All (IsOfDeal t deal (length columns.now)) shares.items) }
-    ensures columns { IfOk result (λ shares. (j : ℕ) → j < length columns.now
-        → column j shares.items ≡ slice_index_or (map (λ column. column.items) columns.now) j []) }
+    rng: &mut G,
+) -> Result<Poly<F>, DealError>
+    requires { 0 < t }
+    ensures { IfOk result (λ p.
+        IsSampled sample_of element t (G.stream rng.old) (G.stream rng.new) p) }
 {
-    let mut shares = Vec::with_capacity(alloc, n as usize)?;
-    for i in 0..n {
-        let values = row(alloc, columns, i as usize)?;
-        shares.push(SecretShare {
-            threshold: t,
-            index: i + 1,
-            deal,
-            values,
-        })?;
+    match Poly::new_with_constant(alloc, rng, t - 1, element) {
+        Ok(p) => Ok(p),
+        Err(RandomError::Memory(e)) => Err(DealError::Memory(e)),
+        Err(RandomError::TooManyWords) => Err(DealError::TooManyWords),
+    }
+}
+
+/// Appends to each row the value of the polynomial at its point.
+fn push_values(rows: &mut [Row], p: &[F]) -> Mem<()>
+    ensures { OnOk result (AllZip (IsGrown p.now) rows.old rows.new) }
+{
+    for row in rows.iter_mut() {
+        row.share.values.push(row.table.value(p))?;
+    }
+    Ok(())
+}
+
+/// The shares of the rows.
+fn shares_of(alloc: Global, rows: Vec<Row>) -> Mem<Vec<SecretShare>>
+    ensures { IfOk result (λ shares. shares.items ≡ map (λ row. row.share) rows.items) }
+{
+    let mut shares = Vec::with_capacity(alloc, rows.len())?;
+    for row in rows {
+        shares.push(row.share)?;
     }
     Ok(shares)
-}
-
-/// The value of the share at a place of each column.
-fn row(alloc: Global, columns: &[Vec<Share<F>>], place: usize) -> Mem<Vec<F>>
-    requires { All (λ column. place < length column.items) columns.now }
-    ensures { IfOk result (λ values. AllZip (λ column value.
-        value ≡ value_at column.items place) columns.now values.items) }
-{
-    let mut values = Vec::with_capacity(alloc, columns.len())?;
-    for column in columns {
-        values.push(column[place].value)?;
-    }
-    Ok(values)
 }

@@ -1,4 +1,4 @@
-use Rattle.std.proofs.Common.{◌≡◌, ◌∙◌, [], ◌∷◌, ◌++◌, length, ap, arith}
+use Rattle.std.proofs.Common.{◌≡◌, ◌∙◌, ◌+◌, [], ◌∷◌, ◌++◌, length, ap, arith}
 use Rattle.shared_secret.specs.CorrectedShares.{IsCorrected}
 use Rattle.shared_secret.specs.Shares.{values}
 use Rattle.secret_bytes.specs.Columns.{column, goldilocks}
@@ -19,7 +19,14 @@ loop-j-preserved c =
     let given : c.deref.result.now ≡ values (column j shares) = c.deref.ensures.value ∙ c.in_ok-values.ensures in
     let found : IsCorrected goldilocks c.args.t (column j shares) element [] = rw c.in-Some.is at (c.in_ok-element.ensures.found c.args.t (column j shares) (c.in_ok-weights.ensures j) given) in
     let pushed : c.push.new.self.items ≡ c.loop-j.elements.items ++ (element ∷ []) = c.in_ok-push.ensures.items in
+    let count : length (c.loop-j.elements.items ++ (element ∷ [])) ≡ j + 1 =
+    omega (arith, ap length pushed, c.loop-j.invariant.count, c.in_ok-push.ensures.len, c.push.new.self.ok, c.loop-j.elements.ok) in
     rw pushed record {
-      count = omega (arith, ap length pushed, c.loop-j.invariant.count, c.in_ok-push.ensures.len, c.push.new.self.ok, c.loop-j.elements.ok);
-      elements = elements-next (λ i a. IsCorrected goldilocks c.args.t (column i shares) a []) j c.loop-j.elements.items element c.loop-j.invariant.count c.loop-j.invariant.elements found;
+      count = count;
+      elements = record {
+        count = omega (arith, count, c.loop-j-test.true);
+        fit = λ i l.
+            elements-next (λ i a. IsCorrected goldilocks c.args.t (column i shares) a []) j c.loop-j.elements.items element c.loop-j.invariant.count
+            (λ k m. c.loop-j.invariant.elements.fit k (omega (arith, m, c.loop-j.invariant.count))) found i (omega (arith, l, count));
+      };
     }

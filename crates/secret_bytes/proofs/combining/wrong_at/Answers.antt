@@ -8,7 +8,7 @@ returns-in-Some c =
     let shares = c.args.shares.now in
     let found = c.in-Some.found in
     let corrected : IsCorrected goldilocks c.args.t (column c.args.j shares) found.secret found.wrong.items = rw c.in-Some.is at c.in_ok-found.ensures.found in
-    (c.args.j, found.secret, c.requires.within, some-wrong c.args.t c.args.j shares found.secret found.wrong.items corrected c.requires.differ, corrected)
+    λ count. (c.args.j, found.secret, c.requires.within, some-wrong c.args.t c.args.j shares found.secret found.wrong.items corrected c.requires.differ, corrected)
 
 pub returns-in-None : goal.returns-in-None
-returns-in-None c = (c.args.j, c.requires.within, rw c.in-None.is at c.in_ok-found.ensures.none)
+returns-in-None c = λ count. (c.args.j, c.requires.within, rw c.in-None.is at c.in_ok-found.ensures.none)
