@@ -16,8 +16,9 @@ use crate::settling::{Deal, firsts, settled};
 use crate::share::SecretShare;
 use math_base::algebra::Mem;
 use math_base::fields::goldilocks::F;
+use math_values::sums::sum_of_products;
 use shared_secret::CombineError::{Memory, RepeatedIndex, TooFewShares, ZeroIndex};
-use shared_secret::{Corrected, Share, Weights, combine_corrected, secret_of, weigh};
+use shared_secret::{Corrected, Share, Weights, combine_corrected, weigh};
 use std::alloc::Global;
 
 /// The bytes, and the indices of the shares that were wrong.
@@ -136,13 +137,39 @@ fn look(
     }
     let weights = weights_once(alloc, t, width, shares)?;
     for j in elements.len()..width {
-        let values = values_of(alloc, shares, j)?;
-        let Some(element) = secret_of(alloc, &weights, &values)? else {
+        let Some(element) = element_at(alloc, t, shares, &weights, j)? else {
             return wrong_at(alloc, t, width, shares, j);
         };
         elements.push(element)?;
     }
     Ok(Pass::Fit)
+}
+
+/// Element j of the shares, where none of its values is wrong; `None` exactly where one is.
+///
+/// It is what `shared_secret::secret_of` gives over every field, with sums that are reduced once.
+fn element_at(
+    alloc: Global,
+    t: u32,
+    shares: &[SecretShare],
+    weights: &Weights<F>,
+    j: usize,
+) -> Mem<Option<F>>
+    requires within { All (λ s. j < length s.values.items) shares.now }
+    requires weights { AreWeightsOf goldilocks t (column j shares.now) weights.now }
+    ensures found { IfOk result (λ answer. IfSome answer (λ a.
+        IsCorrected goldilocks t (column j shares.now) a [])) }
+    ensures none { IfOk result (λ answer. IfNone answer ((a : F)
+        → ¬ (IsCorrected goldilocks t (column j shares.now) a []))) }
+{
+    let values = values_of(alloc, shares, j)?;
+    let (first, others) = values.split_at(t as usize);
+    for i in 0..others.len() {
+        if sum_of_products(first, &weights.further[i]) != others[i] {
+            return Ok(None);
+        }
+    }
+    Ok(Some(sum_of_products(first, &weights.secret)))
 }
 
 /// The weights of the shares of each element: their indices are the same.

@@ -1,23 +1,18 @@
-use Rattle.std.proofs.Common.{◌≡◌, ◌∙◌, ◌+◌, [], ◌∷◌, ◌++◌, length, ap, arith}
+use Rattle.std.proofs.Common.{◌≡◌, ◌+◌, [], ◌∷◌, ◌++◌, length, ap, arith}
 use Rattle.shared_secret.specs.CorrectedShares.{IsCorrected}
-use Rattle.shared_secret.specs.Shares.{values}
 use Rattle.secret_bytes.specs.Columns.{column, goldilocks}
 use Rattle.secret_bytes.proofs.WeighedColumns.{elements-next}
 use Rattle.secret_bytes.proofs.combining.look.Goals as goal
 
 pub wrong_at-requires-clause-differ : goal.wrong_at-requires-clause-differ
-wrong_at-requires-clause-differ c =
-    let j = c.loop-j.j in
-    let given : c.deref.result.now ≡ values (column j c.args.shares.now) = c.deref.ensures.value ∙ c.in_ok-values.ensures in
-    rw c.in_default.is at (c.in_ok-element.ensures.none c.args.t (column j c.args.shares.now) (c.in_ok-weights.ensures j) given)
+wrong_at-requires-clause-differ c = rw c.in_default.is at c.in_ok-element.ensures.none
 
 pub loop-j-preserved : goal.loop-j-preserved
 loop-j-preserved c =
     let j = c.loop-j.j in
     let shares = c.args.shares.now in
     let element = c.in-Some.element in
-    let given : c.deref.result.now ≡ values (column j shares) = c.deref.ensures.value ∙ c.in_ok-values.ensures in
-    let found : IsCorrected goldilocks c.args.t (column j shares) element [] = rw c.in-Some.is at (c.in_ok-element.ensures.found c.args.t (column j shares) (c.in_ok-weights.ensures j) given) in
+    let found : IsCorrected goldilocks c.args.t (column j shares) element [] = rw c.in-Some.is at c.in_ok-element.ensures.found in
     let pushed : c.push.new.self.items ≡ c.loop-j.elements.items ++ (element ∷ []) = c.in_ok-push.ensures.items in
     let count : length (c.loop-j.elements.items ++ (element ∷ [])) ≡ j + 1 =
     omega (arith, ap length pushed, c.loop-j.invariant.count, c.in_ok-push.ensures.len, c.push.new.self.ok, c.loop-j.elements.ok) in
