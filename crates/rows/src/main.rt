@@ -24,7 +24,8 @@ use std::{env, fs, io};
 /// More refusals than are made of one row.
 const MOST: u32 = 1000;
 
-/// How many answers there were, how many of them are not those of their rows, and how many allocations were refused.
+/// How many answers there were, how many of them are not those of their rows, and how many
+/// allocations were refused.
 #[derive(Clone, Copy)]
 struct Tally {
     answers: u64,
@@ -58,8 +59,8 @@ struct Line<'a> {
     step: u32,
 }
 
-/// Whether a call gave the answer of its row, where `known` says whether there is such a call, or why
-/// there is no answer. A refusal of the call is an answer.
+/// Whether a call gave the answer of its row, where `known` says whether there is such a call, or
+/// why there is no answer. A refusal of the call is an answer.
 fn is_right<R: Element>(
     alloc: Global,
     row: Row<'_>,
@@ -108,7 +109,8 @@ fn run_once<R: Field>(rt: &HostRuntime, line: Line<'_>) -> io::Result<bool> {
     told(rt, line.text, R::NAME, right, &answer)
 }
 
-/// Prints what the calls of a row did wrong while its n-th allocation was refused, and says whether they did nothing wrong.
+/// Prints what the calls of a row did wrong while its n-th allocation was refused, and says whether
+/// they did nothing wrong.
 fn kept<R: Field>(rt: &HostRuntime, line: Line<'_>, n: u32) -> io::Result<bool> {
     let mut right = true;
     for breach in Breach::ALL {
@@ -125,8 +127,9 @@ fn kept<R: Field>(rt: &HostRuntime, line: Line<'_>, n: u32) -> io::Result<bool> 
     Ok(right)
 }
 
-/// Runs a row with the n-th allocation of its calls refused. It says whether that allocation was made, and whether all is
-/// right: then the row is refused memory, and else its answer is that of the row.
+/// Runs a row with the n-th allocation of its calls refused. It says whether that allocation was
+/// made, and whether all is right: then the row is refused memory, and else its answer is that of
+/// the row.
 fn run_refused<R: Field>(rt: &HostRuntime, line: Line<'_>, n: u32) -> io::Result<(bool, bool)> {
     let mut answer = Answer::<R>::new(rt.alloc());
     refuse(rt.alloc(), n);
@@ -148,7 +151,8 @@ fn run_refused<R: Field>(rt: &HostRuntime, line: Line<'_>, n: u32) -> io::Result
     Ok((false, told(rt, line.text, R::NAME, right, &answer)? && kept))
 }
 
-/// Runs a row again and again, with one allocation of its calls refused, until a run meets no refusal.
+/// Runs a row again and again, with one allocation of its calls refused, until a run meets no
+/// refusal.
 fn sweep<R: Field>(rt: &HostRuntime, line: Line<'_>, tally: &mut Tally) -> io::Result<bool> {
     let mut n = 1u32;
     for _ in 0..MOST {

@@ -22,7 +22,8 @@ impl<'a> Row<'a> {
     }
 }
 
-/// At which fields rows are run, and which of their allocations are refused: the first, and every `step`-th after it.
+/// At which fields rows are run, and which of their allocations are refused: the first, and every
+/// `step`-th after it.
 #[derive(Clone, Copy)]
 pub struct Fields {
     pub field: bool,

@@ -1,5 +1,5 @@
-//! Rows of calls and answers: words as numbers, elements and bytes, answers, and the calls of `math_base`
-//! and `math_codec`. Each module of calls has one subject.
+//! Rows of calls and answers: words as numbers, elements and bytes, answers, and the calls of
+//! `math_base` and `math_codec`. Each module of calls has one subject.
 #![tactic(auto)]
 
 pub mod algebra;

@@ -121,8 +121,8 @@ fn two_way_map(alloc: Global, arguments: &str) -> Result<Map<u64, u64>, Fault> {
     Ok(two_way(alloc, arguments)?.into_map())
 }
 
-/// Adds the number of pairs, whether there is none, and for each number the value of it as a key and the
-/// key of it as a value.
+/// Adds the number of pairs, whether there is none, and for each number the value of it as a key
+/// and the key of it as a value.
 fn put_both_ways(map: &BiMap<u64, u64>, wanted: &[u64], text: &mut String) -> Mem<()> {
     put_count(text, map.len(), map.is_empty())?;
     for n in wanted {

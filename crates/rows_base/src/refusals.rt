@@ -1,25 +1,28 @@
 //! Allocations that are refused in turn, within the calls that a row makes.
 //!
-//! The library that `.ci/sweeps` loads before this program counts allocations and refuses the one that it is told to. It
-//! counts those of the calls of the library under test alone: a row marks the begin and the end of each. It is told
-//! by asking for a block of an impossible size, and it answers a question by whether it gives a block. Without
-//! it each such request is refused, and nothing else is.
+//! The library that `.ci/sweeps` loads before this program counts allocations and refuses the one
+//! that it is told to. It counts those of the calls of the library under test alone: a row marks
+//! the begin and the end of each. It is told by asking for a block of an impossible size, and it
+//! answers a question by whether it gives a block. Without it each such request is refused, and
+//! nothing else is.
 
 use std::alloc::Global;
 use std::fmt;
 use std::fmt::Write;
 
-/// Asked for this and n bytes, the library refuses the n-th allocation within calls from then on, and none where n is 0.
+/// Asked for this and n bytes, the library refuses the n-th allocation within calls from then on,
+/// and none where n is 0.
 const REFUSE: usize = 0x7b00_0000_0000_0000;
 
 /// Asked for so many bytes, the library gives a block where that refusal has come.
 const HAS_COME: usize = 0x7d00_0000_0000_0000;
 
-/// Asked for this and n bytes, the library gives a block where more than n were asked for at once since then.
+/// Asked for this and n bytes, the library gives a block where more than n were asked for at once
+/// since then.
 const IS_LARGER: usize = 0x7c00_0000_0000_0000;
 
-/// Asked for so many bytes, the library refuses where it was told to refuse an allocation within calls, and nothing else
-/// does: no row takes a block of this odd size.
+/// Asked for so many bytes, the library refuses where it was told to refuse an allocation within
+/// calls, and nothing else does: no row takes a block of this odd size.
 const ASKED: usize = 98_689;
 
 /// Asked for so many bytes, the library counts from then on: a call begins.
@@ -99,7 +102,8 @@ pub fn took_more_than(alloc: Global, n: u32) -> bool {
     is_given(alloc, IS_LARGER + n as usize)
 }
 
-/// Whether the library is there, that is, whether it refuses a block of a few bytes when it is told to.
+/// Whether the library is there, that is, whether it refuses a block of a few bytes when it is told
+/// to.
 pub fn are_made(alloc: Global) -> bool {
     refuse(alloc, 1);
     let _begins = is_given(alloc, BEGIN);
@@ -147,9 +151,9 @@ fn hash_of<G: fmt::Debug>(given: &G) -> u64 {
     hash.value
 }
 
-/// Marks the begin of a call of the library under test, which is given this: receiver, arguments, what it writes to, but
-/// not what it takes. The text shows every stored coefficient, cell, index, term and filled row. Where allocations are
-/// refused this is a number of the text, for `end`.
+/// Marks the begin of a call of the library under test, which is given this: receiver, arguments,
+/// what it writes to, but not what it takes. The text shows every stored coefficient, cell, index,
+/// term and filled row. Where allocations are refused this is a number of the text, for `end`.
 pub fn begin<G: fmt::Debug>(alloc: Global, given: &G) -> u64 {
     if !are_watched(alloc) {
         return 0;
@@ -159,8 +163,8 @@ pub fn begin<G: fmt::Debug>(alloc: Global, given: &G) -> u64 {
     before
 }
 
-/// Marks the end of the call, which is refused for want of memory or not. It has to be refused exactly where an allocation
-/// was, and then what it was given is as it was.
+/// Marks the end of the call, which is refused for want of memory or not. It has to be refused
+/// exactly where an allocation was, and then what it was given is as it was.
 pub fn end<G: fmt::Debug>(alloc: Global, before: u64, given: &G, refused: bool) {
     if !are_watched(alloc) {
         return;

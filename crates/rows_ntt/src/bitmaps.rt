@@ -1,4 +1,5 @@
-//! Bitmaps of points. One is written `LG I ..`: 2^LG points, and the indices of those that don't vanish.
+//! Bitmaps of points. One is written `LG I ..`: 2^LG points, and the indices of those that don't
+//! vanish.
 
 ghost use Rattle.std.specs.Prelude.{◌<◌, IfOk};
 

@@ -94,8 +94,8 @@ impl Rule {
     }
 }
 
-/// The first row that is filled of those of a parity, by what is missing of them: none (`n`), those below
-/// half of the rows (`s`), or all (`e`).
+/// The first row that is filled of those of a parity, by what is missing of them: none (`n`), those
+/// below half of the rows (`s`), or all (`e`).
 fn start(missing: char, rows: usize) -> Result<usize, Fault> {
     match missing {
         'n' => Ok(0),
@@ -167,8 +167,8 @@ fn row_counts<R: Element>(alloc: Global, polynomials: &PolynomialVector<R>) -> M
     Ok((used, count))
 }
 
-/// Adds the rows of coefficients up to the last one that is not zero, with `;` between them, and how many
-/// rows of zeros follow.
+/// Adds the rows of coefficients up to the last one that is not zero, with `;` between them, and
+/// how many rows of zeros follow.
 pub(crate) fn put_rows<R: Element>(
     alloc: Global,
     polynomials: &PolynomialVector<R>,
@@ -293,7 +293,8 @@ pub(crate) fn are_constant<R: Element>(
     begins_with_one(alloc, polynomials)
 }
 
-/// Whether of the set of rows that are filled with one the constant one is recovered, or zero of none.
+/// Whether of the set of rows that are filled with one the constant one is recovered, or zero of
+/// none.
 fn is_recovered<R: Element>(alloc: Global, lg: u64, set: u64) -> Result<bool, Fault> {
     let values = ones::<R>(alloc, lg, Rule::Bits(set))?;
     let polynomials = recovered(alloc, values)?;

@@ -37,7 +37,8 @@ const MATRIX: [u8; 35] = [
 /// Shard 0 of the word 1, of which four are made and three give it back.
 const SHARD: [u8; 12] = [0, 3, 4, 1, 0, 0, 0, 0, 0, 0, 0, 3];
 
-/// A claim of 2^32 - 1 words or coefficients before three bytes, and before one word and three bytes.
+/// A claim of 2^32 - 1 words or coefficients before three bytes, and before one word and three
+/// bytes.
 const LIST_CLAIMS: [&[u8]; 2] = [
     &[255, 255, 255, 255, 15, 1, 2, 3],
     &[255, 255, 255, 255, 15, 0, 0, 0, 0, 0, 0, 0, 1, 1, 2, 3],
@@ -90,13 +91,15 @@ fn is_watched(alloc: Global) -> bool {
     made
 }
 
-/// Whether an allocation since `refuse` was larger than so many bytes justify, with items of eight bytes.
+/// Whether an allocation since `refuse` was larger than so many bytes justify, with items of eight
+/// bytes.
 fn took_too_much(alloc: Global, bytes: &[u8]) -> bool {
     let most = bytes.len().saturating_mul(2).saturating_add(32);
     most < 4096 && took_more_than(alloc, most as u32)
 }
 
-/// What it shows that such a value, or none, was read from the bytes, and that so much of them is left.
+/// What it shows that such a value, or none, was read from the bytes, and that so much of them is
+/// left.
 fn shown(bytes: &[u8], left: &[u8], read: Result<Vec<u8>, Fault>) -> Outcome {
     match read {
         Ok(written) => {
@@ -251,7 +254,8 @@ fn next_encoding(state: &mut u64) -> &'static [u8] {
     }
 }
 
-/// The bytes with one change: a byte changed, doubled or inserted, the end cut off, or an encoding joined to them.
+/// The bytes with one change: a byte changed, doubled or inserted, the end cut off, or an encoding
+/// joined to them.
 fn changed(alloc: Global, bytes: &[u8], state: &mut u64) -> Mem<Vec<u8>> {
     let n = bytes.len();
     if n == 0 {

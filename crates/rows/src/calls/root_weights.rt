@@ -227,7 +227,8 @@ fn are_same<R: Element>(alloc: Global, a: &Map<u32, R>, b: &Map<u32, R>) -> Mem<
     Ok(true)
 }
 
-/// Whether the weights at these points of the domain for the value at x are those of `Interpolator::at`.
+/// Whether the weights at these points of the domain for the value at x are those of
+/// `Interpolator::at`.
 fn is_as_at<R: Element>(
     alloc: Global,
     total: NonZeroU32,
