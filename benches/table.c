@@ -300,31 +300,104 @@ static void shards(const char *split, const char *join, uint32_t min, int from) 
   free(indices);
 }
 
-/* prints how many MB of the data of a split go through a call in a second */
-static void rate(const char *call, uint32_t min, uint32_t total, uint32_t shards, size_t bytes, double time) {
-  printf("%-6s %4u of %4u, %4u shards %6.1f MB %14.4f ms %8.1f MB a second\n", call, min, total, shards, (double)bytes * 1e-6,
-         time * 1e3, (double)bytes * 1e-6 / time);
+/* prints how many MB of the data of a split go through a call in a second, and what is beside the common case */
+static void rate(const char *call, uint32_t min, uint32_t total, uint32_t shards, size_t bytes, double time, const char *beside) {
+  printf("%-6s %4u of %4u, %4u shards %6.1f MB %14.4f ms %8.1f MB a second%s\n", call, min, total, shards, (double)bytes * 1e-6,
+         time * 1e3, (double)bytes * 1e-6 / time, beside);
 }
 
-/* the data are joined from the last `min` shards, and, where `all` is not 0, from all of them */
+/* a join that has to be refused, for a shard is damaged */
+static void refused(uint32_t status) {
+  if (status != CWM_INCONSISTENT) fail("join of a damaged shard");
+}
+
+/* the data are joined from the last `min` shards, and, where `all` is not 0, from all of them, also with damage */
 static void rates(uint32_t min, uint32_t total, size_t bytes, int all) {
-  size_t n = bytes / 8, size = 0, written = 0;
+  size_t n = bytes / 8, size = 0, written = 0, many = 0;
   double time;
   need("shard sizes", cwm_shard_sizes(n, min, total, &size));
   uint64_t *a = some(n), *b = words(n), *rows = words(total * size), *copy = words(total * size);
   uint32_t *indices = malloc(total * sizeof *indices);
-  if (indices == NULL) fail("malloc");
+  size_t *left_out = malloc(total * sizeof *left_out);
+  if (indices == NULL || left_out == NULL) fail("malloc");
   for (uint32_t i = 0; i < total; i++) indices[i] = i;
   LEAST(time, b, a, n, need("split", cwm_split(b, n, min, total, rows, total * size)));
-  rate("split", min, total, total, bytes, time);
+  rate("split", min, total, total, bytes, time, "");
   for (uint32_t m = min; m != 0; m = all && m != total ? total : 0) {
     memset(b, 0, n * sizeof *b);
     LEAST(time, copy, rows + (total - m) * size, m * size,
           need("join", cwm_join(indices + (total - m), m, min, total, copy, m * size, b, n, &written)));
-    rate("join", min, total, m, bytes, time);
+    rate("join", min, total, m, bytes, time, "");
     if (written != n || memcmp(a, b, n * sizeof *a) != 0) fail("join");
   }
-  free(a), free(b), free(rows), free(copy), free(indices);
+  if (all && total > min + 3) {
+    LEAST(time, copy, rows, total * size,
+          need("correct", cwm_join_corrected(indices, total, min, total, copy, total * size, b, n, &written, left_out, total, &many)));
+    rate("join", min, total, total, bytes, time, ", corrected, none damaged");
+    rows[0] = 1 - rows[0] % 2;
+    LEAST(time, copy, rows, total * size, refused(cwm_join(indices, total, min, total, copy, total * size, b, n, &written)));
+    rate("join", min, total, total, bytes, time, ", one damaged, refused");
+    rows[size] = 1 - rows[size] % 2;
+    memset(b, 0, n * sizeof *b);
+    LEAST(time, copy, rows, total * size,
+          need("correct", cwm_join_corrected(indices, total, min, total, copy, total * size, b, n, &written, left_out, total, &many)));
+    rate("join", min, total, total, bytes, time, ", corrected, two damaged");
+    if (many != 2 || written != n || memcmp(a, b, n * sizeof *a) != 0) fail("correct");
+  }
+  free(a), free(b), free(rows), free(copy), free(indices), free(left_out);
+}
+
+/* bytes in blocks that are split each by itself: of each block there are `total` shards of `size` bytes */
+typedef struct {
+  uint32_t min, total;
+  size_t block, blocks, size;
+} cut;
+
+static void split_blocks(const cut *c, const uint8_t *data, uint8_t *rows) {
+  size_t all = c->total * c->size;
+  for (size_t i = 0; i < c->blocks; i++)
+    need("split", cwm_split_bytes(data + i * c->block, c->block, c->min, c->total, rows + i * all, all));
+}
+
+/* joins each block from its last m shards: all with one status */
+static uint32_t join_blocks(const cut *c, const uint32_t *indices, uint32_t m, const uint8_t *rows, uint8_t *data) {
+  uint32_t status = CWM_DONE, first = c->total - m;
+  size_t written;
+  for (size_t i = 0; i < c->blocks; i++) {
+    const uint8_t *left = rows + (i * c->total + first) * c->size;
+    uint32_t now = cwm_join_bytes(indices + first, m, c->min, c->total, left, m * c->size, data + i * c->block, c->block, &written);
+    if (i > 0 && now != status) fail("join");
+    status = now;
+  }
+  return status;
+}
+
+/* the same for bytes */
+static void rates_of_bytes(uint32_t min, uint32_t total, size_t bytes, size_t block, const char *beside) {
+  cut c = {min, total, block, bytes / block, 0};
+  double time;
+  char text[64];
+  need("shard sizes", cwm_shard_bytes_sizes(block, min, total, &c.size));
+  bytes = c.blocks * block;
+  size_t all = c.blocks * total * c.size;
+  uint64_t *data = some(bytes / 8);
+  uint8_t *a = (uint8_t *)data, *b = malloc(bytes), *rows = malloc(all), *left = malloc(all);
+  uint32_t *indices = malloc(total * sizeof *indices);
+  if (indices == NULL || b == NULL || rows == NULL || left == NULL) fail("malloc");
+  for (uint32_t i = 0; i < total; i++) indices[i] = i;
+  LEAST(time, b, a, bytes, split_blocks(&c, b, rows));
+  rate("split", min, total, total, bytes, time, beside);
+  for (uint32_t m = min; m != 0; m = m != total ? total : 0) {
+    memset(b, 0, bytes);
+    LEAST(time, left, rows, all, need("join", join_blocks(&c, indices, m, left, b)));
+    rate("join", min, total, m, bytes, time, beside);
+    if (memcmp(a, b, bytes) != 0) fail("join");
+  }
+  for (size_t i = 0; i < c.blocks; i++) rows[i * total * c.size + 7] ^= 1;
+  LEAST(time, left, rows, all, refused(join_blocks(&c, indices, total, left, b)));
+  snprintf(text, sizeof text, "%s, one damaged, refused", beside);
+  rate("join", min, total, total, bytes, time, text);
+  free(data), free(b), free(rows), free(left), free(indices);
 }
 
 /* shards of several numbers and sizes */
@@ -334,6 +407,10 @@ static void all_rates(void) {
   rates(100, 200, 4000000, 0);
   rates(100, 200, 40000000, 0);
   rates(3, 1000, 3000000, 1);
+  rates_of_bytes(10, 16, 40000000, 262144, ", bytes, blocks of 256 KiB");
+  rates_of_bytes(10, 16, 40000000, 40000000, ", bytes");
+  rates_of_bytes(100, 200, 40000000, 262144, ", bytes, blocks of 256 KiB");
+  rates_of_bytes(100, 200, 40000000, 40000000, ", bytes");
 }
 
 int main(int argc, char **argv) {

@@ -222,10 +222,9 @@ CWM_MUST_USE uint32_t cwm_shard_bytes_sizes(size_t bytes, uint32_t min, uint32_t
 
 /* Writes the shards of the n bytes of data: shard i is row i of the m bytes of `shards`, in `total` rows of as many
  * bytes as cwm_shard_bytes_sizes says. Data that are large are best cut into blocks of some 256 KiB, each split by
- * itself: the words of a block then stay in the processor's cache, and little memory is taken.
+ * itself: the words of a block then stay in the processor's cache.
  * 1 <= min <= total, else CWM_MISMATCH. m is total times the size of a shard, and the sizes are such as
- * cwm_shard_bytes_sizes takes, else CWM_WRONG_SIZE. Takes memory for 4 times N rows of a shard's words and of 64 more,
- * where N is `total` rounded up to a power of two. */
+ * cwm_shard_bytes_sizes takes, else CWM_WRONG_SIZE. Takes memory as cwm_split does. */
 CWM_MUST_USE uint32_t cwm_split_bytes(const uint8_t *data, size_t n, uint32_t min, uint32_t total, uint8_t *shards, size_t m);
 
 /* Writes the data that k shards give back over the first of the m bytes of data, and their number into *written. Row i

@@ -143,7 +143,7 @@ static void shards(uint32_t min, uint32_t total) {
   size_t words = rows * cols + 64 * rows, strip = 32768 / rows > 8 ? 32768 / rows : 8;
   peak = 0;
   count("cwm_split", cwm_split(a, BLOCK / 8, min, total, cells, total * cols), 1, rows * (cols < strip ? cols : strip) + rows);
-  count("cwm_split_bytes", cwm_split_bytes(back, BLOCK, min, total, bytes, total * size), 4, words);
+  count("cwm_split_bytes", cwm_split_bytes(back, BLOCK, min, total, bytes, total * size), 1, rows * (size / 8 < strip ? size / 8 : strip) + rows);
   for (uint32_t k = min; k <= total; k += total > min ? total - min : 1) {
     /* one list as long as the data, the weights or the tables, a strip of the transforms and of a coset, and the rows as they stand */
     count("cwm_join", cwm_join(indices, k, min, total, cells, k * cols, b, CELLS, &written), 1,
@@ -155,6 +155,17 @@ static void shards(uint32_t min, uint32_t total) {
   __real_free(bytes), __real_free(back), __real_free(cells);
 }
 
+/* Shards of 40 MB, of which 10 of 16 give them back: beside them a fifth of the data may be taken. */
+static void large(void) {
+  size_t n = 40000000, size;
+  if (cwm_shard_bytes_sizes(n, 10, 16, &size) != CWM_DONE) exit(2);
+  uint8_t *data = block(n), *bytes = block(16 * size);
+  memset(data, 7, n);
+  peak = 0;
+  count("cwm_split_bytes, 40 MB", cwm_split_bytes(data, n, 10, 16, bytes, 16 * size), 0.2, n / 8);
+  __real_free(data), __real_free(bytes);
+}
+
 int main(void) {
   static const uint32_t splits[][2] = {{1, 1}, {1, 2}, {1, 16}, {2, 3}, {10, 16}, {9, 17}, {20, 40}, {129, 200}, {200, 200}};
   a = block(8 * CELLS), b = block(8 * CELLS), c = block(8 * CELLS), filled = block(ROWS);
@@ -163,6 +174,7 @@ int main(void) {
   domains();
   points();
   for (size_t i = 0; i < sizeof splits / sizeof *splits; i++) shards(splits[i][0], splits[i][1]);
+  large();
   for (int i = 0; calls[i].name != NULL; i++) {
     printf("%-22s %5.2f of %5.2f%s\n", calls[i].name, calls[i].taken, calls[i].most, calls[i].taken > calls[i].most ? ", FAILED" : "");
     failed |= calls[i].taken > calls[i].most;

@@ -204,7 +204,7 @@ def split(data: Bytes, min: int, total: int) -> list[bytes]:
     """The shards of the bytes: ``total`` of one length each, of which any ``min`` give the bytes back.
 
     Keep the index of each beside it, and ``min`` and ``total``. The shards hide nothing of the data. Cut large data
-    into blocks of some 256 KiB and split each by itself: that is faster, and takes little memory.
+    into blocks of some 256 KiB and split each by itself: that is faster, and joins of them take little memory.
 
     >>> shards = split(b"0123456789", 2, 3)
     >>> [len(shard) for shard in shards]

@@ -1,21 +1,20 @@
 -- Bytes as the words of shards, and the shards that they are.
-use Rattle.std.proofs.Common.{◌≡◌, ◌∙◌, ℕ, ◌+◌, ◌*◌, ◌<◌, ◌^◌, List, [], ◌∷◌, ◌++◌, length, replicate, refl, sym, ap, ap₂, subst, arith}
+use Rattle.std.proofs.Common.{◌≡◌, ◌∙◌, ℕ, ◌*◌, ◌<◌, ◌^◌, List, [], ◌∷◌, length, replicate, refl, sym, ap, ap₂, subst, arith}
 use Rattle.std.specs.Int.{to_be_bytes, w64}
-use Rattle.std.specs.List.{All, flat_map}
-use Rattle.std.proofs.lemmas.List.{append-nil, drop_all, length-replicate}
+use Rattle.std.specs.List.{All}
+use Rattle.std.proofs.lemmas.List.{length-replicate}
 use Rattle.std.proofs.lemmas.List.Concat.{flat_map-cons}
 use Rattle.std.proofs.lemmas.List.Elements.{All-head, All-tail}
 use Rattle.math_codec.specs.WordLaws.{word_apart}
 use Rattle.math_shards.specs.declared.shards.Shard.{Shard}
-use Rattle.math_shards.specs.Shards.{AreShardsOf, width_for}
+use Rattle.math_shards.specs.Shards.{width_for}
 use Rattle.shard_blocks.specs.BlockWords.{words_of_bytes}
 use Rattle.shard_blocks.specs.Blocks.{JoinToBlock}
-use Rattle.c_calls.specs.ShardBytes.{AreByteRowsOf, AreBytesOfShards, DoJoinToBlock, HaveShardBytes, SpellElements, word_bytes}
-use Rattle.c_calls.specs.WordElements.{AreElements, numbers}
+use Rattle.c_calls.specs.ShardBytes.{AreByteRowsOf, DoJoinToBlock, HaveShardBytes, SpellElements, word_bytes}
+use Rattle.c_calls.specs.WordElements.{AreElements}
 use Rattle.c_calls.specs.WordShards.{AreWordShards}
 use Rattle.c_calls.proofs.AlikeShards.{below_there, join_given, rows_there}
-use Rattle.c_calls.proofs.WordShards.{cells_of, words_of_split}
-use Rattle.c_calls.proofs.WrittenWords.{AreWritten, all_written, length-bytes}
+use Rattle.c_calls.proofs.WrittenWords.{length-bytes}
 
 -- bytes are those of one list of words
 pub one_spelling : (xs ys : List ℕ) → All (λ w. w < 2 ^ 64) xs → All (λ w. w < 2 ^ 64) ys → word_bytes xs ≡ word_bytes ys → xs ≡ ys
@@ -30,11 +29,6 @@ one_spelling (x ∷ xs) (y ∷ ys) h k e =
 -- words below P are below 2^64
 pub fit_in_words : (words : List ℕ) → AreElements words → All (λ w. w < 2 ^ 64) words
 fit_in_words words h = λ i d l. omega (arith, h i d l)
-
--- all bytes are written
-pub whole_written : (i : ℕ) (old words bytes : List ℕ) → i ≡ length words → length old ≡ 8 * length words → AreWritten 0 i old words bytes → bytes ≡ word_bytes words
-whole_written i old words bytes e l h =
-    all_written 0 i old words bytes e h ∙ ap (λ xs. word_bytes words ++ xs) (drop_all (0 + 8 * length words) old (omega (arith, l))) ∙ append-nil (word_bytes words)
 
 -- the size of a shard is the one by the number of its cells
 pub size_by_cells : (bytes min total cells : ℕ) → ((block : List ℕ) → length block ≡ bytes → width_for min (words_of_bytes block) ≡ cells) → cells * (8 * total) < 2 ^ 60
@@ -52,12 +46,6 @@ pub same_sizes : (bytes min total m n : ℕ) → HaveShardBytes bytes min total 
 same_sizes bytes min total m n h k =
     let e : length (replicate bytes 0) ≡ bytes = length-replicate bytes 0 in
     h.count (replicate bytes 0) e ∙ sym (k.count (replicate bytes 0) e)
-
--- the bytes of the cells of a split are its shards
-pub bytes_of_split : (block : List ℕ) (min total : ℕ) (shards : List Shard) (bytes : List ℕ) → AreShardsOf (words_of_bytes block) min total shards
-    → bytes ≡ word_bytes (numbers (flat_map cells_of shards)) → AreBytesOfShards block min total bytes
-bytes_of_split block min total shards bytes h e =
-    (numbers (flat_map cells_of shards), words_of_split (words_of_bytes block) min total shards (numbers (flat_map cells_of shards)) h refl, e)
 
 -- bytes that join to a block are rows of words below P
 pub byte_rows_there : (block : List ℕ) (min total : ℕ) (indices bytes : List ℕ) → DoJoinToBlock block min total indices bytes → AreByteRowsOf (length bytes) (length indices)

@@ -55,6 +55,14 @@ wrong_index = 6
 abbrev pub inconsistent : ℕ
 inconsistent = 8
 
+-- the bytes end within a polynomial
+abbrev pub end_of_buffer : ℕ
+end_of_buffer = 9
+
+-- bytes follow the polynomial
+abbrev pub extra_data : ℕ
+extra_data = 12
+
 -- a point is there twice
 abbrev pub repeated : ℕ
 repeated = 13
@@ -62,11 +70,11 @@ repeated = 13
 -- the status of a read that meets this fault, or none
 abbrev pub status_of_read : Result (Unit {0}) faults.Fault → ℕ
 status_of_read (Ok x) = done
-status_of_read (Err faults.EndOfBuffer) = 9
+status_of_read (Err faults.EndOfBuffer) = end_of_buffer
 status_of_read (Err faults.InvalidVarint) = 10
 status_of_read (Err (faults.InvalidLength n)) = 11
 status_of_read (Err (faults.Invalid kind text)) = out_of_range
-status_of_read (Err (faults.ExtraData n)) = 12
+status_of_read (Err (faults.ExtraData n)) = extra_data
 
 -- the status of shards that give no data back, by what is wrong with them
 abbrev pub status_of_shards : shards.Error → ℕ

@@ -2,7 +2,8 @@
 use Rattle.std.specs.Prelude.{ℕ, List, map}
 use Rattle.math_base.specs.declared.fields.goldilocks.F.{F}
 use Rattle.math_base.specs.Elements.{number}
-pub use Rattle.math_values.specs.Values.{goldilocks, AreElements, elements}
+pub use Rattle.math_base.specs.Elements.{goldilocks}
+pub use Rattle.math_values.specs.Values.{AreElements, elements}
 
 -- the numbers of elements
 abbrev pub numbers : List F → List ℕ

@@ -6,17 +6,16 @@
 ghost use Rattle.std.specs.Prelude.{◌≡◌, ◌↔◌, ◌<◌, ◌≤◌, ◌*◌, ◌⊎◌, ℕ, List, IsTrue, IsSome, IfOk, IfErr, IfSome, IfNone, MatchResult, None, OnOk, OnErr, length};
 ghost use Rattle.math_shards.specs.Joining.{IsMemory};
 ghost use Rattle.c_calls.specs.ShardBytes.{AreBlockRefused, AreByteRowsOf, AreBytesOfShards, DoJoinToBlock, HaveShardBytes, SpellElements, word_bytes};
-ghost use Rattle.c_calls.specs.WordElements.{AreElements, numbers};
+ghost use Rattle.c_calls.specs.WordElements.{AreElements};
 ghost use Rattle.c_calls.specs.WordEncodings.{StandInFront};
 ghost use Rattle.c_calls.specs.WordShards.{IsSplit};
 
-use crate::elements::{are_elements, number_of};
+use crate::elements::are_elements;
 use crate::shards;
 use commonware_math::algebra::Mem;
 use commonware_math::codec::Read;
-use commonware_math::fields::goldilocks::F;
 use commonware_math::shards::shards_of_rows;
-use shard_blocks::{Error, cells_for, join_block, split_block};
+use shard_blocks::{Error, cells_for, join_block, split_block_rows};
 use std::alloc::Global;
 
 /// 2^60: all shards have fewer bytes.
@@ -47,17 +46,6 @@ pub fn have_room(bytes: usize, min: u32, total: u32, room: usize) -> bool
     }
 }
 
-/// Writes the words of the cells over the bytes.
-fn write_cells(bytes: &mut [u8], cells: &[F])
-    requires { length bytes.old ≡ 8 * length cells.now }
-    ensures { bytes.new ≡ word_bytes (numbers cells.now) }
-{
-    for i in 0..cells.len() {
-        let at = 8 * i;
-        bytes[at..at + 8].copy_from_slice(&number_of(&cells[i]).to_be_bytes());
-    }
-}
-
 /// Writes the shards of the block over the bytes, a shard a row.
 pub fn write_shards(alloc: Global, block: &[u8], min: u32, total: u32, bytes: &mut [u8]) -> Mem<()>
     requires split { IsSplit min total }
@@ -66,9 +54,7 @@ pub fn write_shards(alloc: Global, block: &[u8], min: u32, total: u32, bytes: &m
     ensures ok { OnOk result (AreBytesOfShards block.now min total bytes.new) }
     ensures err { OnErr result (bytes.new ≡ bytes.old) }
 {
-    let shards = split_block(alloc, block, min, total)?;
-    let cells = shards::all_cells(alloc, &shards)?;
-    write_cells(bytes, &cells);
+    split_block_rows(alloc, block, min, total, bytes)?;
     Ok(())
 }
 

@@ -39,6 +39,8 @@ pub fn correct_words(
         ((cells.new ≡ cells.old) × (wrong.new ≡ wrong.old) × (written.new ≡ written.old)) }
     ensures too_few { IfOk result (λ status. status ≡ TooFew
         → count_true (truth bytes.now) < count) }
+    ensures enough { IfOk result (λ status. status ≡ Inconsistent
+        → count ≤ count_true (truth bytes.now)) }
     ensures none { IfOk result (λ status. status ≡ Inconsistent
         → ¬ (HaveNearRows cols count cells.old bytes.now)) }
     ensures statuses { IfOk result

@@ -1,16 +1,13 @@
 //! Shards of data as words, a shard a row.
 
 ghost use Rattle.std.specs.Prelude.{◌≡◌, ◌↔◌, ◌<◌, ◌≤◌, ◌*◌, ℕ, List, IsTrue, IfOk, IfErr, IfSome, IfNone, OnOk, OnErr, length, ◌⊎◌};
-ghost use Rattle.std.specs.List.{flat_map};
-ghost use Rattle.math_shards.specs.declared.shards.Shard.{Shard};
 ghost use Rattle.math_shards.specs.Joining.{IsMemory};
 ghost use Rattle.c_calls.specs.WordElements.{AreElements};
 ghost use Rattle.c_calls.specs.WordEncodings.{StandInFront};
 ghost use Rattle.c_calls.specs.WordShards.{AreRefusedCorrecting, AreRowsOf, AreWordsOfShards, DoCorrectTo, HaveShardSizes, IsSplit};
 
 use commonware_math::algebra::Mem;
-use commonware_math::fields::goldilocks::F;
-use commonware_math::shards::{Error, Shard, join_corrected, shards_of_rows, split_rows};
+use commonware_math::shards::{Error, join_corrected, shard_width, shards_of_rows, split_rows};
 use std::alloc::Global;
 
 /// 2^57: there are fewer words of data, and fewer of shards.
@@ -24,8 +21,6 @@ pub fn is_split(min: u32, total: u32) -> bool
 }
 
 /// How many cells each shard of so many words has: `None` where these or the cells are too many.
-///
-/// The words and their number are packed by 63 bits.
 pub fn size(words: usize, min: u32, total: u32) -> Option<usize>
     requires { 1 ≤ min }
     ensures some { IfSome result (λ cells. HaveShardSizes words min total cells) }
@@ -34,9 +29,7 @@ pub fn size(words: usize, min: u32, total: u32) -> Option<usize>
     if words >= WORDS {
         return None;
     }
-    let rows = min as usize;
-    let elements = (64 * (words + 1) + 62) / 63;
-    let cells = (elements + (rows - 1)) / rows;
+    let cells = shard_width(words, min);
     match (total as usize).checked_mul(cells) {
         Some(all) if all < WORDS => Some(cells),
         _ => None,
@@ -63,18 +56,6 @@ pub fn cols_of(n: usize, rows: usize) -> Option<usize>
         return if n == 0 { Some(0) } else { None };
     }
     if n % rows == 0 { Some(n / rows) } else { None }
-}
-
-/// The cells of all shards.
-pub(crate) fn all_cells(alloc: Global, shards: &[Shard]) -> Mem<Vec<F>>
-    ensures { IfOk result
-        (λ cells. cells.items ≡ flat_map (λ (s : Shard). s.cells.items) shards.now) }
-{
-    let mut out = Vec::new(alloc);
-    for shard in shards {
-        out.extend_from_slice(&shard.cells)?;
-    }
-    Ok(out)
 }
 
 /// Writes the shards of the data over the cells, a shard a row.

@@ -1,7 +1,7 @@
 //! What a call answers.
 
-ghost use Rattle.std.specs.Prelude.{◌≡◌, ◌≢◌, ◌≤◌, ◌-◌, ◌++◌, Result, length, replicate};
-ghost use Rattle.math_codec.specs.Faults.{Fault, Reports};
+ghost use Rattle.std.specs.Prelude.{◌≡◌, ◌≢◌, ◌↔◌, ◌≤◌, ◌-◌, ◌++◌, Result, length, replicate};
+ghost use Rattle.math_codec.specs.Faults.{Fault, IsMemory, Reports};
 ghost use Rattle.c_calls.specs.Statuses.{code_of, done, out_of_memory, status_of_read, status_of_shards, text_of};
 
 use commonware_math::codec::Error;
@@ -55,6 +55,7 @@ impl Status {
 /// The status of a read that was refused.
 pub fn of_read(error: &Error) -> Status
     ensures refused { code_of result ≢ done }
+    ensures memory { code_of result ≡ out_of_memory ↔ IsMemory error.now }
     ensures exact { (expected : Result (Unit {0}) Fault) → Reports error.now expected
         → code_of result ≢ out_of_memory → code_of result ≡ status_of_read expected }
 {

@@ -1,7 +1,5 @@
-pub mod WeightLoops
 pub mod InterpolatorLaws
 pub mod EqualKeys
-pub mod DifferencesByFours
 pub mod FreeTerms
 pub mod WeightMaps
 pub mod CombinationMaps

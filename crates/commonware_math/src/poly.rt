@@ -2,5 +2,6 @@
 
 mod interpolation;
 
-pub use interpolation::{Interpolator, weights_at};
+pub use interpolation::Interpolator;
 pub use math_poly::poly::Poly;
+pub use math_poly::weights::weights_at;

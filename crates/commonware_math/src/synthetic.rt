@@ -50,7 +50,7 @@ impl<F: Ring, G: Space<F>> Model for Synthetic<F, G> {
 }
 
 impl<F: Ring, G: Space<F>> Synthetic<F, G> {
-    /// The combination of no terms, which is zero.
+    /// Makes the combination of no terms, which is zero.
     pub fn default(alloc: Global) -> Self
         ensures { result ≡ combination_zero G.zero }
     {
@@ -60,7 +60,7 @@ impl<F: Ring, G: Space<F>> Synthetic<F, G> {
         }
     }
 
-    /// The combination of the given pairs of a weight and a point, without a free term.
+    /// Makes the combination of the given pairs of a weight and a point, with no free term.
     pub fn concrete<P: IntoIterator<Item = (F, G)>>(alloc: Global, weighted_points: P) -> Mem<Self>
     where
         P::IntoIter: Drop,
@@ -81,8 +81,8 @@ impl<F: Ring, G: Space<F>> Synthetic<F, G> {
         })
     }
 
-    /// The greatest index that is stored, also where its weight is zero; `None` where none is
-    /// stored.
+    /// Returns the greatest index that is stored, even if its weight is zero. It is `None` if none
+    /// is stored.
     pub fn max_free_index(&self) -> Option<u32>
         ensures none { IfNone result (self.now.0 ≡ []) }
         ensures some { IfSome result (λ i. IsGreatestIndex self.now.0 i) }
@@ -90,10 +90,11 @@ impl<F: Ring, G: Space<F>> Synthetic<F, G> {
         last_index(&self.free)
     }
 
-    /// The value under the generators: the sum of each generator scaled by the weight at its index,
-    /// plus the sum of the points, each scaled by its weight. It is one `msm` over all terms.
+    /// Returns the value under the generators, by one `msm` over all terms.
     ///
-    /// Each stored index has to be below the number of generators.
+    /// It is the sum of each generator scaled by the weight at its index, plus the sum of the
+    /// points, each scaled by its weight. Each stored index has to be below the number of
+    /// generators.
     pub fn eval(self, alloc: Global, generators: &[G]) -> Mem<G>
         requires { (i : ℕ) → HasTerm self.0 i → i < length generators.now }
         ensures { IfOk result (λ answer.

@@ -38,7 +38,7 @@ goldmath: values of encoded polynomials, and recovery of missing rows
   goldmath --help
   goldmath --version
 
-Status: 0 done, 1 refused, 2 wrong words.
+Status: 0 done, 1 refused, 2 usage error.
 ";
 
 /// What is printed of the program itself, where the words ask for that. They are no words of `run`.
@@ -86,7 +86,7 @@ fn answer_with(rt: &HostRuntime, bytes: &[u8]) -> ExitCode {
     }
 }
 
-/// Says why there is no answer, and gives the status: 2 for wrong words, 1 else.
+/// Says why there is no answer, and gives the status: 2 for a usage error, 1 otherwise.
 fn refuse(rt: &HostRuntime, fault: &ToolError) -> ExitCode {
     let status = match fault {
         ToolError::Usage => 2,

@@ -12,3 +12,4 @@ pub mod SampleLists
 pub mod BitFronts
 pub mod Packing
 pub mod Repacking
+pub mod Members

@@ -1,5 +1,5 @@
 -- The elements of the Goldilocks field and their operations: those of whole numbers, then the remainder by P.
-use Rattle.std.specs.Prelude.{◌≡◌, ℕ, ◌+◌, ◌*◌, ◌%◌, ◌<◌, Option}
+use Rattle.std.specs.Prelude.{◌≡◌, ℕ, ◌+◌, ◌*◌, ◌%◌, ◌<◌, Option, None, true}
 use Rattle.std.specs.Option.{option_map}
 use Rattle.std.proofs.Common.{lit<}
 use Rattle.std.proofs.Math.Nat.{mod-lt}
@@ -7,6 +7,7 @@ use Rattle.math_numbers.specs.Goldilocks.{P}
 use Rattle.math_numbers.specs.Residues as Residues
 use Rattle.rand_core.specs.Stream.{Stream}
 use Rattle.math_base.specs.Roots.{root, shift}
+use Rattle.math_base.specs.Members.{RingOf}
 use Rattle.math_base.specs.Samples.{first_below}
 use Rattle.math_base.specs.declared.fields.goldilocks.F.{F}
 
@@ -40,6 +41,10 @@ product a b = residue (number a * number b)
 -- the remainder of the power P - 2, which is the inverse of an element other than zero
 abbrev pub inverse : F → F
 inverse a = Residues.inverse P number residue a
+
+-- the operations of the field, as those of a ring
+abbrev pub goldilocks : RingOf F
+goldilocks = record { product = product; debug_output = λ a. None; same = same; NEVER_REFUSES = true; zero = residue 0; sum = sum; negative = negative; one = residue 1 }
 
 -- the root of unity of order 2^lg
 abbrev pub root_of : ℕ → F

@@ -6,7 +6,7 @@
 //! laws of a trait speak of the definitions alone, up to `same`, and each implementation proves
 //! them. So code over these traits rests on the laws and on nothing else of a type.
 
-ghost use Rattle.std.specs.Prelude.{◌≡◌, ◌↔◌, ◌<◌, ◌≤◌, ℕ, List, [], Option, Some, None, Bool, IsTrue, IsSome, IsOk, IfOk, IfErr, IfSome, OnOk, OnErr, alloc_error};
+ghost use Rattle.std.specs.Prelude.{◌≡◌, ◌↔◌, ◌⊎◌, ◌<◌, ◌≤◌, ℕ, List, [], Option, Some, None, Bool, IsTrue, IsSome, IsOk, IfOk, IfErr, IfSome, OnOk, OnErr, alloc_error};
 ghost use Rattle.std.specs.Iterator.{YieldsThen};
 ghost use Rattle.rand_core.specs.Stream.{Stream, fill_bytes};
 ghost use Rattle.math_theory.specs.Laws.{IsEquality, IsMonoid, IsGroup, IsProduct, IsRing, IsField, IsModule};
@@ -37,12 +37,12 @@ pub trait Object: Sized + Debug + Drop {
     /// `FieldNTT`, `Space` and `CryptoGroup` on this type answers `Ok`.
     const NEVER_REFUSES: bool;
 
-    /// A value that is the same as this one.
+    /// Returns a value that is the same as this one.
     fn clone(&self, alloc: Global) -> Mem<Self>
         ensures ok { IfOk result (λ copy. same copy self.now) }
         ensures never { IsTrue NEVER_REFUSES → IsOk result };
 
-    /// Whether both are the same.
+    /// Returns whether both are the same.
     fn equals(&self, alloc: Global, other: &Self) -> Mem<bool>
         ensures ok { IfOk result (λ answer. IsTrue answer ↔ same self.now other.now) }
         ensures never { IsTrue NEVER_REFUSES → IsOk result };
@@ -61,29 +61,29 @@ pub trait Additive: Object {
     /// What gives zero with the value.
     ghost negative: { Self → Self };
 
-    /// Zero.
+    /// Returns zero.
     fn zero(alloc: Global) -> Mem<Self>
         ensures ok { IfOk result (λ answer. Self.same answer zero) }
         ensures never { IsTrue Self.NEVER_REFUSES → IsOk result };
 
-    /// Adds `rhs` to this value. Where it is refused, the value is as it was.
+    /// Adds `rhs` to this value. If it is refused, the value stays as it was.
     fn add_assign(&mut self, alloc: Global, rhs: &Self) -> Mem<()>
         ensures ok { OnOk result (Self.same self.new (sum self.old rhs.now)) }
         ensures err { OnErr result (self.new ≡ self.old) }
         ensures never { IsTrue Self.NEVER_REFUSES → IsOk result };
 
-    /// Takes `rhs` from this value. Where it is refused, the value is as it was.
+    /// Subtracts `rhs` from this value. If it is refused, the value stays as it was.
     fn sub_assign(&mut self, alloc: Global, rhs: &Self) -> Mem<()>
         ensures ok { OnOk result (Self.same self.new (sum self.old (negative rhs.now))) }
         ensures err { OnErr result (self.new ≡ self.old) }
         ensures never { IsTrue Self.NEVER_REFUSES → IsOk result };
 
-    /// The negative.
+    /// Returns the negative.
     fn neg(self, alloc: Global) -> Mem<Self>
         ensures ok { IfOk result (λ answer. Self.same answer (negative self)) }
         ensures never { IsTrue Self.NEVER_REFUSES → IsOk result };
 
-    /// The sum.
+    /// Returns the sum.
     fn add(self, alloc: Global, rhs: &Self) -> Mem<Self>
         ensures ok { IfOk result (λ answer. Self.same answer (sum self rhs.now)) }
         ensures never { IsTrue Self.NEVER_REFUSES → IsOk result }
@@ -93,7 +93,7 @@ pub trait Additive: Object {
         Ok(out)
     }
 
-    /// The difference.
+    /// Returns the difference.
     fn sub(self, alloc: Global, rhs: &Self) -> Mem<Self>
         ensures ok { IfOk result (λ answer. Self.same answer (sum self (negative rhs.now))) }
         ensures never { IsTrue Self.NEVER_REFUSES → IsOk result }
@@ -103,7 +103,7 @@ pub trait Additive: Object {
         Ok(out)
     }
 
-    /// Adds the value to itself. Where it is refused, the value is as it was.
+    /// Adds the value to itself. If it is refused, the value stays as it was.
     fn double(&mut self, alloc: Global) -> Mem<()>
         ensures ok { OnOk result (Self.same self.new (sum self.old self.old)) }
         ensures err { OnErr result (self.new ≡ self.old) }
@@ -114,8 +114,8 @@ pub trait Additive: Object {
         Ok(())
     }
 
-    /// The n-fold sum, n being the number that the limbs write, the lowest limb first; no limbs
-    /// write 0.
+    /// Returns the n-fold sum. The limbs write the number n, the lowest limb first; no limbs write
+    /// 0.
     fn scale(&self, alloc: Global, bits_le: &[u64]) -> Mem<Self>
         ensures ok { IfOk result (λ answer.
             Self.same answer (multiple zero sum self.now (number_of_limbs bits_le.now))) }
@@ -139,13 +139,13 @@ pub trait Additive: Object {
 pub trait Multiplicative: Object {
     ghost product: { Self → Self → Self };
 
-    /// Multiplies this value by `rhs`. Where it is refused, the value is as it was.
+    /// Multiplies this value by `rhs`. If it is refused, the value stays as it was.
     fn mul_assign(&mut self, alloc: Global, rhs: &Self) -> Mem<()>
         ensures ok { OnOk result (Self.same self.new (product self.old rhs.now)) }
         ensures err { OnErr result (self.new ≡ self.old) }
         ensures never { IsTrue Self.NEVER_REFUSES → IsOk result };
 
-    /// The product.
+    /// Returns the product.
     fn mul(self, alloc: Global, rhs: &Self) -> Mem<Self>
         ensures ok { IfOk result (λ answer. Self.same answer (product self rhs.now)) }
         ensures never { IsTrue Self.NEVER_REFUSES → IsOk result }
@@ -155,7 +155,7 @@ pub trait Multiplicative: Object {
         Ok(out)
     }
 
-    /// Multiplies the value by itself. Where it is refused, the value is as it was.
+    /// Multiplies the value by itself. If it is refused, the value stays as it was.
     fn square(&mut self, alloc: Global) -> Mem<()>
         ensures ok { OnOk result (Self.same self.new (product self.old self.old)) }
         ensures err { OnErr result (self.new ≡ self.old) }
@@ -175,12 +175,12 @@ pub trait Ring: Additive + Multiplicative {
     /// What a product does not change.
     ghost one: { Self };
 
-    /// One.
+    /// Returns one.
     fn one(alloc: Global) -> Mem<Self>
         ensures ok { IfOk result (λ answer. Self.same answer one) }
         ensures never { IsTrue Self.NEVER_REFUSES → IsOk result };
 
-    /// The n-fold product, n being the number that the limbs write, the lowest limb first; no limbs
+    /// Returns the n-fold product. The limbs write the number n, the lowest limb first; no limbs
     /// write 0.
     fn exp(&self, alloc: Global, bits_le: &[u64]) -> Mem<Self>
         ensures ok { IfOk result (λ answer.
@@ -206,7 +206,7 @@ pub trait Field: Ring {
     /// What gives one with the value, where that is not zero; zero for zero.
     ghost inverse: { Self → Self };
 
-    /// The multiplicative inverse; zero for zero.
+    /// Returns the multiplicative inverse, and zero for zero.
     fn inv(&self, alloc: Global) -> Mem<Self>
         ensures ok { IfOk result (λ answer. Self.same answer (inverse self.now)) }
         ensures never { IsTrue Self.NEVER_REFUSES → IsOk result };
@@ -231,18 +231,19 @@ pub trait FieldNTT: Field {
     /// The greatest lg for which there is a root of unity of order 2^lg.
     const MAX_LG_ROOT_ORDER: u8;
 
-    /// The root of unity of order exactly 2^lg; `None` exactly above `MAX_LG_ROOT_ORDER`.
+    /// Returns the root of unity of order exactly 2^lg, or `None` exactly if lg is above
+    /// `MAX_LG_ROOT_ORDER`.
     fn root_of_unity(alloc: Global, lg: u8) -> Mem<Option<Self>>
         ensures range { IfOk result (λ answer. IsSome answer ↔ (lg ≤ MAX_LG_ROOT_ORDER)) }
         ensures ok { IfOk result (λ answer. IfSome answer (λ r. Self.same r (root lg))) }
         ensures never { IsTrue Self.NEVER_REFUSES → IsOk result };
 
-    /// A value that is no power of any of the roots.
+    /// Returns a value that is no power of any of the roots.
     fn coset_shift(alloc: Global) -> Mem<Self>
         ensures ok { IfOk result (λ answer. Self.same answer shift) }
         ensures never { IsTrue Self.NEVER_REFUSES → IsOk result };
 
-    /// The inverse of the coset shift.
+    /// Returns the inverse of the coset shift.
     fn coset_shift_inv(alloc: Global) -> Mem<Self>
         ensures ok { IfOk result (λ answer. Self.same answer (Self.inverse shift)) }
         ensures never { IsTrue Self.NEVER_REFUSES → IsOk result }
@@ -252,9 +253,9 @@ pub trait FieldNTT: Field {
         Ok(out)
     }
 
-    /// The half of the value.
+    /// Returns the half of the value.
     ///
-    /// Two is not zero, since the half of one times two is one; so the half is the value times the
+    /// Two is not zero, since the half of one times two is one. So the half is the value times the
     /// inverse of two.
     fn div_2(&self, alloc: Global) -> Mem<Self>
         ensures ok { IfOk result (λ answer. Self.same answer (half self.now)) }
@@ -267,6 +268,21 @@ pub trait FieldNTT: Field {
         Ok(out)
     }
 
+    /// Multiplies this value by `rhs`, which is the root of order four or its inverse. Where it is
+    /// refused, the value is as it was.
+    ///
+    /// That is a product; a type may do it at less cost.
+    fn times_root_of_four(&mut self, alloc: Global, rhs: &Self) -> Mem<()>
+        requires order { 2 ≤ MAX_LG_ROOT_ORDER }
+        requires root { Self.same rhs.now (root 2) ⊎ Self.same rhs.now (Self.inverse (root 2)) }
+        ensures ok { OnOk result (Self.same self.new (Self.product self.old rhs.now)) }
+        ensures err { OnErr result (self.new ≡ self.old) }
+        ensures never { IsTrue Self.NEVER_REFUSES → IsOk result }
+    {
+        self.mul_assign(alloc, rhs)?;
+        Ok(())
+    }
+
     /// The order of each root is exactly 2^lg, each is the square of the next, the shift is no
     /// power of any of them, and a half twice is the value.
     ghost roots: { HasRootsOfUnity Self.same Self.zero Self.sum Self.product Self.one
@@ -277,13 +293,13 @@ pub trait FieldNTT: Field {
 pub trait Space<R: Ring>: Additive {
     ghost scaling: { Self → R → Self };
 
-    /// Scales this value by `r`. Where it is refused, the value is as it was.
+    /// Scales this value by `r`. If it is refused, the value stays as it was.
     fn scale_assign(&mut self, alloc: Global, r: &R) -> Mem<()>
         ensures ok { OnOk result (Self.same self.new (scaling self.old r.now)) }
         ensures err { OnErr result (self.new ≡ self.old) }
         ensures never { IsTrue Self.NEVER_REFUSES → IsOk result };
 
-    /// The value scaled by `r`.
+    /// Returns the value scaled by `r`.
     fn scaled(self, alloc: Global, r: &R) -> Mem<Self>
         ensures ok { IfOk result (λ answer. Self.same answer (scaling self r.now)) }
         ensures never { IsTrue Self.NEVER_REFUSES → IsOk result }
@@ -293,7 +309,8 @@ pub trait Space<R: Ring>: Additive {
         Ok(out)
     }
 
-    /// The sum of point i scaled by scalar i, over the shorter of both slices; zero for none.
+    /// Returns the sum of point i scaled by scalar i, over the shorter of both slices. It is zero
+    /// for none.
     fn msm(alloc: Global, points: &[Self], scalars: &[R]) -> Mem<Self>
         ensures ok { IfOk result (λ answer.
             Self.same answer (weighted_sum Self.zero Self.sum scaling points.now scalars.now)) }
@@ -330,7 +347,7 @@ pub trait CryptoGroup: Space<Self::Scalar> {
 
     ghost generator: { Self };
 
-    /// The generator.
+    /// Returns the generator.
     fn generator(alloc: Global) -> Mem<Self>
         ensures ok { IfOk result (λ answer. Self.same answer generator) }
         ensures never { IsTrue Self.NEVER_REFUSES → IsOk result };
@@ -341,7 +358,7 @@ pub trait HashToGroup: CryptoGroup {
     /// The element that a domain separator and a message hash to.
     ghost hash: { List ℕ → List ℕ → Self };
 
-    /// Hashes a domain separator and a message; equal ones give the same element.
+    /// Hashes a domain separator and a message. Equal ones give the same element.
     fn hash_to_group(alloc: Global, domain_separator: &[u8], message: &[u8]) -> Mem<Self>
         ensures { IfOk result
             (λ answer. Self.same answer (hash domain_separator.now message.now)) };
@@ -358,8 +375,9 @@ pub trait HashToGroup: CryptoGroup {
     }
 }
 
-/// Why no value was sampled: memory ran out, or the source gave only words that are no element, as
-/// often as they were looked at.
+/// Why no value was sampled.
+///
+/// Memory ran out, or the source gave only words that are no element, as often as the call looked.
 #[derive(Debug, Drop, Error)]
 pub enum RandomError {
     #[error("out of memory")]
@@ -390,7 +408,7 @@ pub trait Random: Sized {
     /// words that were looked at.
     ghost sample: { Stream → Option Self × Stream };
 
-    /// The next sample of the source. How samples are distributed is not promised.
+    /// Returns the next sample of the source. Nothing promises how samples are distributed.
     fn random<G: Rng + CryptoRng>(alloc: Global, rng: &mut G) -> Result<Self, RandomError>
         ensures sampled { IfOk result
             (λ x. sample (G.stream rng.old) ≡ (Some x, G.stream rng.new)) }
@@ -398,8 +416,8 @@ pub trait Random: Sized {
             error ≡ TooManyWords → sample (G.stream rng.old) ≡ (None, G.stream rng.new)) };
 }
 
-/// `Ok(shift)`, `Ok(shift * base)`, `Ok(shift * base^2)` and so on, without end; after an `Err` it
-/// ends.
+/// Gives `Ok(shift)`, `Ok(shift * base)`, `Ok(shift * base^2)` and so on, without end. After an
+/// `Err` it ends.
 pub fn powers<'a, R: Ring>(alloc: Global, shift: R, base: &'a R) -> Powers<'a, R>
     ensures { (items : _) (last : _) (rest : _)
         → YieldsThen ⟦<Powers<'a, R> as Iterator>⟧.next_gives result items last rest
@@ -408,8 +426,8 @@ pub fn powers<'a, R: Ring>(alloc: Global, shift: R, base: &'a R) -> Powers<'a, R
     Powers::new(alloc, shift, base)
 }
 
-/// The sum of point i scaled by scalar i, over the shorter of both slices, term by term; zero for
-/// none.
+/// Returns the sum of point i scaled by scalar i, over the shorter of both slices, term by term. It
+/// is zero for none.
 pub fn msm_naive<R: Ring, K: Space<R>>(alloc: Global, points: &[K], scalars: &[R]) -> Mem<K>
     ensures ok { IfOk result
         (λ answer. K.same answer (weighted_sum K.zero K.sum K.scaling points.now scalars.now)) }

@@ -4,3 +4,4 @@
 pub mod algebra;
 pub mod fields;
 pub mod laws;
+pub mod weights;

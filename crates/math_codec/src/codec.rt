@@ -27,5 +27,5 @@ pub use read::{Encoding, Read};
 use std::alloc::AllocError;
 pub use write::{EncodeSize, FixedSize, MaxEncodeSize, Write, roll_back};
 
-/// What a call gives that fails only where memory runs out.
+/// What a call answers that fails only if memory runs out.
 pub type Mem<T> = Result<T, AllocError>;

@@ -25,7 +25,7 @@ use Rattle.math_cosets.specs.RootTrees.{AreInverseTrees, IsTreeOf, class_at, two
 use Rattle.math_cosets.proofs.CombinedColumns.{nought}
 use Rattle.math_cosets.proofs.ElementRing.{elements}
 use Rattle.math_cosets.proofs.RaisedElements.{one, root-half, root-turn}
-use Rattle.math_cosets.proofs.ReversedBits.{reversed-high}
+use Rattle.math_transforms.proofs.ReversedBits.{reversed-high}
 
 -- power 2^part of a point of the coset of as many points is that of the shift
 pub coset-power : (part t : ℕ) → part ≤ 32 → raised (coset_point part t) (2 ^ part) ≡ raised shift_of (2 ^ part)

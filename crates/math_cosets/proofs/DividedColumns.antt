@@ -13,13 +13,12 @@ use Rattle.math_theory.proofs.transforms.EvenOddItems.{value-append}
 use Rattle.math_base.specs.declared.fields.goldilocks.F.{F}
 use Rattle.math_base.specs.ElementLaws.{equality, group, commutes, ring}
 use Rattle.math_base.specs.ElementRootLaws.{field}
-use Rattle.math_base.specs.Elements.{inverse, negative, number, product, residue, root_of, same, shift_of, sum}
+use Rattle.math_base.specs.Elements.{inverse, negative, number, product, residue, root_of, same, shift_of, sum, goldilocks}
 use Rattle.math_base.proofs.ElementNumbers.{same_number}
 use Rattle.math_transforms.specs.DomainValues.{matrix_of}
 use Rattle.math_transforms.specs.RowProducts.{AreRowProducts}
 use Rattle.math_transforms.proofs.MatrixRows.{length-column}
 use Rattle.math_transforms.proofs.PowersOfTwo.{power_of_two-double}
-use Rattle.math_values.specs.Values.{goldilocks}
 use Rattle.math_cosets.specs.declared.dividing.CosetDivision.{CosetDivision}
 use Rattle.math_cosets.specs.CosetDivisions.{AreFolded, AreSumsOf, IsCosetDivision, coset_point, domain_point, power_below, raised}
 use Rattle.math_cosets.specs.Quarters.{item}

@@ -13,7 +13,6 @@ pub mod PointsBelow
 pub mod QuarterColumns
 pub mod RaisedElements
 pub mod RestoredColumns
-pub mod ReversedBits
 pub mod RootPlaces
 pub mod SummedHalves
 pub mod ValuesBelow

@@ -11,14 +11,13 @@ use Rattle.math_theory.proofs.transforms.BitOrder.{bit_reversed-below}
 use Rattle.math_base.specs.declared.fields.goldilocks.F.{F}
 use Rattle.math_base.specs.ElementLaws.{equality, group, commutes, ring}
 use Rattle.math_base.specs.ElementRootLaws.{field}
-use Rattle.math_base.specs.Elements.{negative, number, product, residue, root_of, same, shift_of, sum}
+use Rattle.math_base.specs.Elements.{negative, number, product, residue, root_of, same, shift_of, sum, goldilocks}
 use Rattle.math_base.specs.Polynomials.{value_in_ring}
 use Rattle.math_base.proofs.ElementNumbers.{same_number}
 use Rattle.math_transforms.specs.MissingPoints.{VanishesAtFalse}
 use Rattle.math_transforms.specs.RowProducts.{AreRowProducts}
 use Rattle.math_transforms.proofs.DomainSteps.{column_of-one}
 use Rattle.math_transforms.proofs.PowersOfTwo.{power_of_two-double}
-use Rattle.math_values.specs.Values.{goldilocks}
 use Rattle.math_cosets.specs.CosetDivisions.{AreFolded, coset_point, domain_point, power_below, raised}
 use Rattle.math_cosets.specs.Quarters.{item}
 use Rattle.math_cosets.specs.RootTrees.{AreValuesBelow, IsTreeOf, class_at, twos}

@@ -12,7 +12,7 @@ use Rattle.math_transforms.proofs.WrittenCells.{row-within}
 use Rattle.math_transforms.proofs.WrittenRows.{part-read, put-after, put-before, put-within}
 use Rattle.math_cosets.specs.Restored.{AreDistinct, ArePlaced, ArePlacesOf, AreTaken}
 use Rattle.math_cosets.proofs.CombinedColumns.{nought}
-use Rattle.math_cosets.proofs.ReversedBits.{reversed-only}
+use Rattle.math_transforms.proofs.ReversedBits.{reversed-only}
 
 -- the places of distinct indices are distinct
 pub distinct-places : (lg : ℕ) (indices places : List ℕ) → All (λ i. i < 2 ^ lg) indices → AreDistinct indices → ArePlacesOf lg indices places → AreDistinct places

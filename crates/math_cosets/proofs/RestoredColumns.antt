@@ -19,7 +19,7 @@ use Rattle.math_cosets.specs.CosetDivisions.{DoColumnsFit, IsCosetDivision, rais
 use Rattle.math_cosets.specs.Restored.{AreDistinct, AreFilled, ArePlaced, ArePlacesOf, AreTaken, HaveCellsAsValues}
 use Rattle.math_cosets.proofs.CombinedColumns.{at, column, column_kept, nought, one_row, same_values}
 use Rattle.math_cosets.proofs.ElementRing.{elements}
-use Rattle.math_cosets.proofs.ReversedBits.{reversed-only}
+use Rattle.math_transforms.proofs.ReversedBits.{reversed-only}
 
 -- the value at power i of the root of order 2^lg
 abbrev pub value_at : ℕ → List F → ℕ → F

@@ -10,9 +10,11 @@ use Rattle.math_theory.proofs.rings.PowerLaws.{power-add, power-one}
 use Rattle.math_theory.proofs.transforms.BitOrder.{bit_reversed-below, bit_reversed-suc}
 use Rattle.math_base.specs.declared.fields.goldilocks.F.{F}
 use Rattle.math_base.specs.ElementLaws.{equality, group, commutes, ring}
-use Rattle.math_base.specs.Elements.{negative, number, product, residue, root_of, same}
+use Rattle.math_base.specs.Elements.{negative, number, product, residue, root_of, same, goldilocks}
 use Rattle.math_base.proofs.ElementNumbers.{same_number}
+use Rattle.math_transforms.specs.RootTrees.{IsTreeOf as IsTableOf}
 use Rattle.math_transforms.proofs.PowersOfTwo.{power_of_two-rises}
+use Rattle.math_transforms.proofs.TreeEntries.{level-of, ones-power}
 use Rattle.math_cosets.specs.CosetDivisions.{raised}
 use Rattle.math_cosets.specs.Quarters.{item}
 use Rattle.math_cosets.specs.RootTrees.{IsRootTree, IsTreeOf, class_at}
@@ -66,27 +68,19 @@ entries-next start x lg d b n items is low made h =
     }
 
 -- the place of an entry of level d in the table
-pub table-place : (lg d b : ℕ) → d < lg → 2 ^ d + bit_reversed d b < 2 ^ lg
-table-place lg d b within = omega (arith, bit_reversed-below d b, power_of_two-rises (suc d) lg (omega (arith, within)), power_of_two-suc d)
+pub table-place : (lg d b : ℕ) → d < lg → b < 2 ^ d → 2 ^ d + b < 2 ^ lg
+table-place lg d b within low = omega (arith, low, power_of_two-rises (suc d) lg (omega (arith, within)), power_of_two-suc d)
 
--- the scale times an entry of the table is an entry of the tree
-pub entry-made : (start x scale factor : F) (lg d b : ℕ) (table : List F) (k : ℕ) → d < lg → k ≡ 2 ^ d + bit_reversed d b
+-- the scale times an entry of the tree of start one is an entry of the tree
+pub entry-made : (start x scale factor : F) (lg d b : ℕ) (table : List F) (k : ℕ) → d < lg → b < 2 ^ d → k ≡ 2 ^ d + b
     → same scale (raised start (2 ^ (lg - d - 1))) → factor ≡ get_or table k factor → k < length table → same x (product scale factor)
-    → ((l i : ℕ) → l < lg → i < 2 ^ l → same (get_or table (2 ^ l + i) (residue 0)) (raised (root_of (suc l)) i)) → same x (entry_of start lg d b)
-entry-made start x scale factor lg d b table k within place is_scale is_factor inside made powers =
+    → IsTableOf goldilocks root_of (residue 1) lg table → same x (entry_of start lg d b)
+entry-made start x scale factor lg d b table k within low place is_scale is_factor inside made T =
     let m = bit_reversed d b in
-    let read : factor ≡ get_or table (2 ^ d + m) (residue 0) = is_factor ∙ get_or_default table k factor (residue 0) inside ∙ ap (λ i. get_or table i (residue 0)) place in
+    let read : factor ≡ get_or table (2 ^ d + b) (residue 0) = is_factor ∙ get_or_default table k factor (residue 0) inside ∙ ap (λ i. get_or table i (residue 0)) place in
     made ∙ ap (λ y. number (product y factor)) (same_number scale (raised start (2 ^ (lg - d - 1))) is_scale)
     ∙ ap (λ y. number (product (raised start (2 ^ (lg - d - 1))) y))
-    (read ∙ same_number (get_or table (2 ^ d + m) (residue 0)) (raised (root_of (suc d)) m) (powers d m within (bit_reversed-below d b)))
-
--- each place but the first is in a level
-level-of : (lg j : ℕ) → 1 ≤ j → j < 2 ^ lg → (d b : ℕ) × (d < lg) × (b < 2 ^ d) × (2 ^ d + b ≡ j)
-level-of zero j h l = absurd (omega (arith, h, l))
-level-of (suc lg) j h l = elim (cases_lt j (2 ^ lg)) [
-  | inl low ↦ let below = level-of lg j h low in (below.0, below.1, omega (arith, below.2), below.3, below.4)
-  | inr high ↦ (lg, j - 2 ^ lg, omega arith, omega (arith, l, power_of_two-suc lg, high), omega (arith, high))
-]
+    (read ∙ same_number (get_or table (2 ^ d + b) (residue 0)) (raised (root_of (suc d)) m) (ones-power goldilocks equality group commutes ring root_of lg d b table T within low))
 
 -- minus an element times a power is the element times 2^d powers more
 other-sign : (a : F) (d m : ℕ) → d < 32 → same (negative (product a (raised (root_of (suc d)) m))) (product a (raised (root_of (suc d)) (1 * 2 ^ d + m)))

@@ -4,9 +4,8 @@ use Rattle.math_theory.specs.BitReversal.{bit_reversed}
 use Rattle.math_theory.specs.Powers.{power}
 use Rattle.math_theory.specs.Recovery.{Fits, count_true}
 use Rattle.math_base.specs.declared.fields.goldilocks.F.{F}
-use Rattle.math_base.specs.Elements.{negative, product, residue, root_of, same, shift_of, sum}
+use Rattle.math_base.specs.Elements.{negative, product, residue, root_of, same, shift_of, sum, goldilocks}
 use Rattle.math_base.specs.Polynomials.{value_in_ring}
-use Rattle.math_values.specs.Values.{goldilocks}
 use Rattle.math_transforms.specs.DomainValues.{matrix_of}
 use Rattle.math_transforms.specs.Matrices.{column_of}
 use Rattle.math_transforms.specs.MissingPoints.{VanishesAtFalse}

@@ -3,9 +3,8 @@ use Rattle.std.specs.Prelude.{◌≡◌, ◌≢◌, ℕ, ◌+◌, ◌*◌, ◌<�
 use Rattle.math_theory.specs.BitReversal.{bit_reversed}
 use Rattle.math_theory.specs.Powers.{power}
 use Rattle.math_base.specs.declared.fields.goldilocks.F.{F}
-use Rattle.math_base.specs.Elements.{product, residue, root_of, same}
+use Rattle.math_base.specs.Elements.{product, residue, root_of, same, goldilocks}
 use Rattle.math_base.specs.Polynomials.{value_in_ring}
-use Rattle.math_values.specs.Values.{goldilocks}
 use Rattle.math_transforms.specs.DomainValues.{matrix_of}
 use Rattle.math_transforms.specs.Matrices.{column_of}
 use Rattle.math_cosets.specs.Quarters.{item}

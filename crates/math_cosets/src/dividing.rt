@@ -24,10 +24,9 @@
 ghost use Rattle.std.specs.Prelude.{◌≡◌, ◌+◌, ◌-◌, ◌*◌, ◌<◌, ◌≤◌, ◌^◌, ℕ, IfOk, OnOk, length};
 ghost use Rattle.math_theory.specs.Powers.{power};
 ghost use Rattle.math_theory.specs.Recovery.{count_true};
-ghost use Rattle.math_base.specs.Elements.{product, residue, root_of, same, shift_of, sum};
+ghost use Rattle.math_base.specs.Elements.{product, residue, root_of, same, shift_of, sum, goldilocks};
 ghost use Rattle.math_base.specs.Polynomials.{value_in_ring};
 ghost use Rattle.math_transforms.specs.MissingPoints.{VanishesAtFalse};
-ghost use Rattle.math_values.specs.Values.{goldilocks};
 ghost use Rattle.math_cosets.specs.CosetDivisions.{AreDividedInverses, AreFactors, AreFolded};
 ghost use Rattle.math_cosets.specs.CosetDivisions.{AreSumsOf, DoColumnsFit, IsCosetDivision};
 ghost use Rattle.math_cosets.specs.Quarters.{item};
@@ -38,12 +37,12 @@ use crate::transforms::{evaluate_below, interpolate_below};
 use crate::trees::{inverse_tree, root_tree, squared};
 use math_base::algebra::{FieldNTT, Mem};
 use math_base::fields::goldilocks::F;
+use math_base::weights::quotients;
 use math_transforms::cells::copies;
 use math_transforms::row_products::multiply_rows;
 use math_transforms::transform::{evaluation_table, interpolation_table, size_inverse, size_of};
 use math_transforms::vanishing::vanishing_coefficients;
 use math_transforms::vanishing_points::VanishingPoints;
-use math_transforms::weights::quotients;
 use math_transforms::work::Work;
 use std::alloc::Global;
 

@@ -15,11 +15,10 @@ ghost use Rattle.math_theory.specs.Powers.{power};
 ghost use Rattle.math_base.specs.Elements.{product, residue, same};
 ghost use Rattle.math_cosets.specs.RootTrees.{AreInverseTrees, IsRootTree, IsTreeOf};
 
-use crate::order::bit_reversed;
 use math_base::algebra::Mem;
 use math_base::fields::goldilocks::F;
+use math_base::weights::quotients;
 use math_transforms::transform::{evaluation_table, size_of};
-use math_transforms::weights::quotients;
 use std::alloc::Global;
 
 /// Power 2^n of an element.
@@ -46,7 +45,7 @@ pub fn root_tree(alloc: Global, start: F, lg: u8) -> Mem<Vec<F>>
         let scale = squared(start, lg - d - 1);
         let from = size_of(d);
         for b in 0..from {
-            out.push(scale * table[from + bit_reversed(b, d)])?;
+            out.push(scale * table[from + b])?;
         }
     }
     Ok(out)

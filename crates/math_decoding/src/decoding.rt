@@ -19,18 +19,19 @@ use super::euclid::first_short_remainder;
 use math_base::algebra::{Field, Mem, Object, Ring};
 use std::alloc::Global;
 
-/// A polynomial, and by rising number the places at which it differs from the values given.
+/// A polynomial, and the places at which it differs from the values given, in rising order.
 #[derive(Debug, Drop)]
 pub struct Decoded<F: Drop> {
     pub coefficients: Vec<F>,
     pub wrong: Vec<usize>,
 }
 
-/// The polynomial of `count` coefficients that agrees with all but at most (m - count) / 2 of the
-/// values that stand at m points, and the places at which it differs; `None` exactly where there is
-/// none.
+/// Finds the polynomial that agrees with all but a few of the values, and the places at which it
+/// differs.
 ///
-/// The points are distinct, there are as many values, and `count` is at most their number.
+/// There are m distinct points and as many values. The polynomial has `count` coefficients, at most
+/// m of them, and differs from at most (m - count) / 2 values. There is one at most; it answers
+/// `None` exactly if there is none.
 pub fn decode<F: Field>(
     alloc: Global,
     points: &[F],

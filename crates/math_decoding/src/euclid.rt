@@ -8,7 +8,7 @@ ghost use Rattle.math_decoding.specs.Decodings.{IsKept};
 
 use super::coefficients::{padded, subtract_multiple, trimmed};
 use super::division::divide;
-use super::interpolation::interpolate;
+use super::interpolation::interpolate_with_product;
 use math_base::algebra::{Additive, Field, Mem, Ring};
 use std::alloc::Global;
 
@@ -41,7 +41,7 @@ pub(super) fn first_short_remainder<F: Field>(
     ensures small { IfOk result (λ last. length last.factor.items + length last.factor.items + count
         ≤ suc (suc (length points.now))) }
 {
-    let (product, through) = interpolate(alloc, points, values)?;
+    let (product, through) = interpolate_with_product(alloc, points, values)?;
     let mut one = Vec::new(alloc);
     one.push(F::one(alloc)?)?;
     let mut before = Remainder {

@@ -14,7 +14,7 @@ use std::alloc::Global;
 /// Point after point: where z is the product of X - x over the points so far and f goes through
 /// their values, f less c z goes through the value y at the next point x too, where c is (f(x) - y)
 /// / z(x).
-pub(super) fn interpolate<F: Field>(
+pub(super) fn interpolate_with_product<F: Field>(
     alloc: Global,
     points: &[F],
     values: &[F],

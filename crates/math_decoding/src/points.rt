@@ -6,8 +6,8 @@ ghost use Rattle.math_theory.specs.Interpolation.{AreApart};
 use math_base::algebra::{Mem, Object};
 use std::alloc::Global;
 
-/// Whether no two of the points are the same: what `decode` asks of its points. It compares each
-/// two.
+/// Returns whether no two of the points are the same, as `decode` asks of its points. It compares
+/// each two.
 pub fn are_distinct<F: Object>(alloc: Global, points: &[F]) -> Mem<bool>
     ensures { IfOk result (λ answer. IsTrue answer ↔ AreApart F.same points.now) }
 {

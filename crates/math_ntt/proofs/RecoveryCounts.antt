@@ -1,5 +1,5 @@
 -- What a recovery counts: the tree, and the transforms.
-use Rattle.std.proofs.Common.{◌≡◌, ℕ, zero, suc, ◌+◌, ◌-◌, ◌*◌, ◌^◌, ◌<◌, ◌≤◌, mul-le-mul, arith}
+use Rattle.std.proofs.Common.{◌≡◌, ◌≢◌, ℕ, zero, suc, ◌+◌, ◌-◌, ◌*◌, ◌^◌, ◌<◌, ◌≤◌, mul-le-mul, arith}
 use Rattle.math_transforms.proofs.PowersOfTwo.{power_of_two-word}
 use Rattle.math_transforms.proofs.TreeCounts.{merges-room}
 
@@ -28,3 +28,8 @@ pub whole-room : (lg c : ℕ) → lg < 64 → 2 ^ lg * c < 2 ^ 64 → 2 ^ lg * l
 whole-room lg c h l =
     let split : (3 * c + 3) * 2 ^ lg * lg ≡ 3 * (c * 2 ^ lg * lg) + 3 * (2 ^ lg * lg) = omega arith in
     omega (arith, merges-room lg h, transform-room lg c h l, column-room lg h)
+
+-- where some points are filled and some are not, there are two points or more
+pub some_levels : (lg filled missing : ℕ) → filled + missing ≡ 2 ^ lg → filled ≢ 0 → filled ≢ 2 ^ lg → 0 < lg
+some_levels zero filled missing e h k = absurd (omega (arith, e, h, k))
+some_levels (suc lg) filled missing e h k = omega arith

@@ -4,7 +4,7 @@ use Rattle.math_theory.specs.Powers.{power}
 use Rattle.math_theory.specs.Recovery.{Fits, count_true}
 use Rattle.math_base.specs.Members.{RingOf}
 use Rattle.math_base.specs.Polynomials.{value_in_ring}
-use Rattle.math_transforms.specs.CosetValues.{AreValuesOnCoset}
+use Rattle.math_transforms.specs.CosetValues.{AreReversedMultiples}
 use Rattle.math_transforms.specs.CountedWork.{WorkOf}
 use Rattle.math_transforms.specs.DomainValues.{matrix_of}
 use Rattle.math_ntt.specs.Evaluations.{EvaluationsOf}
@@ -49,12 +49,12 @@ AreQuotientsOnCoset R w s g v q =
     (i k : ℕ) → i < g.rows → k < g.cols
     → R.same (R.product (value_in_ring R (column_of R.zero q k) (R.product s (at i))) (value_in_ring R v (R.product s (at i)))) (value_in_ring R (column_of R.zero g k) (R.product s (at i)))
 
--- where the cells are the values on the coset of the columns of some g, and the divisors those of some v with no zero there, the columns of q are
--- the quotients
+-- where the cells are 2^lg times the values on the coset of the columns of some g, and the divisors those of some v with no zero there, all in bit-reversed order, the
+-- columns of q are the quotients
 abbrev pub AreQuotientsOfValues : {A : Type 0} → RingOf A → A → A → ℕ → ℕ → List A → List A → List A → Type 0
-AreQuotientsOfValues {A} R w s n c cells divisors q =
-    (g v : List A) → length v ≡ n → AreValuesOnCoset R w s (matrix_of n c g) (matrix_of n c cells) → AreValuesOnCoset R w s (matrix_of n 1 v) (matrix_of n 1 divisors)
-    → IsNonzeroOnCoset R w s n v → AreQuotientsOnCoset R w s (matrix_of n c g) v (matrix_of n c q)
+AreQuotientsOfValues {A} R w s lg c cells divisors q =
+    (g v : List A) → length v ≡ 2 ^ lg → AreReversedMultiples R w s lg c g cells → AreReversedMultiples R w s lg 1 v divisors
+    → IsNonzeroOnCoset R w s (2 ^ lg) v → AreQuotientsOnCoset R w s (matrix_of (2 ^ lg) c g) v (matrix_of (2 ^ lg) c q)
 
 -- there are products, whose values at the first n powers of w are the cells times those of v, and a divisor, whose values there are those of v:
 -- where the divisor has no zero on the coset by s, the columns of q are the quotients

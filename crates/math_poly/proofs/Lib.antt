@@ -11,3 +11,6 @@ pub mod AddedTerms
 pub mod CombinationSteps
 pub mod ListSizes
 pub mod HornerSteps
+pub mod DifferencesByFours
+pub mod WeightLoops
+pub mod InterpolatedValues

@@ -2,3 +2,4 @@
 #![tactic(auto)]
 
 pub mod poly;
+pub mod weights;

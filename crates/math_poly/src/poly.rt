@@ -18,8 +18,9 @@ use std::fmt;
 use std::marker::Model;
 use std::num::NonZeroU32;
 
-/// A polynomial with 1 to 2^32 - 1 stored coefficients, from the constant upwards. The last ones
-/// may be zero.
+/// A polynomial, by its coefficients from the constant upwards.
+///
+/// It stores 1 to 2^32 - 1 coefficients. The last ones may be zero.
 #[derive(Drop)]
 pub struct Poly<K: Drop> {
     coefficients: Vec<K>,
@@ -36,8 +37,7 @@ impl<K: Drop> Model for Poly<K> {
 }
 
 impl<K: Drop> Poly<K> {
-    /// The polynomial with these stored coefficients, from the constant upwards. There are 1 to
-    /// 2^32 - 1.
+    /// Makes a polynomial of its coefficients, from the constant upwards. There are 1 to 2^32 - 1.
     pub fn from_coefficients(coefficients: Vec<K>) -> Self
         requires some { 0 < length coefficients.items }
         requires few { length coefficients.items < 2 ^ 32 }
@@ -46,14 +46,15 @@ impl<K: Drop> Poly<K> {
         Poly { coefficients }
     }
 
-    /// The number of stored coefficients, less one.
+    /// Returns the number of stored coefficients, less one.
     pub fn degree(&self) -> u32
         ensures { result + 1 ≡ length self.now }
     {
         (self.coefficients.len() - 1) as u32
     }
 
-    /// The number of stored coefficients, which is the number of values that fix the polynomial.
+    /// Returns the number of stored coefficients, which is the number of values that fix the
+    /// polynomial.
     pub fn required(&self) -> NonZeroU32
         ensures { result.value ≡ length self.now }
     {
@@ -64,14 +65,14 @@ impl<K: Drop> Poly<K> {
         }
     }
 
-    /// The constant coefficient, which is the value at zero.
+    /// Returns the constant coefficient, which is the value at zero.
     pub fn constant(&self) -> &K
         ensures { slice_get self.now 0 ≡ Some result.now }
     {
         &self.coefficients[0]
     }
 
-    /// The stored coefficients, from the constant upwards.
+    /// Returns the stored coefficients, from the constant upwards.
     pub fn coefficients(&self) -> &[K]
         ensures { result.now ≡ self.now }
     {

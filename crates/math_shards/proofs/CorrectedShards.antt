@@ -8,7 +8,7 @@ use Rattle.std.proofs.lemmas.List.Elements.{All-contains_itself, All-filter, Con
 use Rattle.std.proofs.lemmas.List.FromFn.{get_or-map-range_with_len, length-map-range_with_len}
 use Rattle.math_theory.specs.Recovery.{count_true}
 use Rattle.math_base.specs.declared.fields.goldilocks.F.{F}
-use Rattle.math_base.specs.Elements.{number, root_of, same}
+use Rattle.math_base.specs.Elements.{number, root_of, same, goldilocks}
 use Rattle.math_transforms.specs.Matrices.{IsOfSize, MatrixOf, cell_of, column_of}
 use Rattle.math_transforms.proofs.PresentIndices.{lg-only}
 use Rattle.math_ntt.specs.CorrectedRows.{AreWithinRadius, IsCorrected}
@@ -18,7 +18,6 @@ use Rattle.math_ntt.proofs.MatrixPlaces.{columns_are_full, columns_hold_cells}
 use Rattle.math_shards.specs.declared.shards.Shard.{Shard}
 use Rattle.math_shards.specs.Correcting.{CorrectTo, HaveOneCorrection, settled, settled_indices}
 use Rattle.math_shards.specs.Joining.{ArePolynomialsOf, HoldsShards, IsSound}
-use Rattle.math_values.specs.Values.{goldilocks}
 use Rattle.math_shards.specs.Shards.{IsShardOf, JoinTo, distinct_indices, has_index, rows_for, value_at, width_for}
 use Rattle.math_shards.proofs.CountedIndices.{indices-outside, lost_outside, outside, outside_not_among, is_outside}
 use Rattle.math_shards.proofs.FilledShards.{count_filled, count_marks, index_found, index_there, indices_below, no_indices}

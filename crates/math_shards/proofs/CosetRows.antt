@@ -1,8 +1,8 @@
 -- Rows that have the cells of cosets have the values of the polynomials.
-use Rattle.std.proofs.Common.{◌≡◌, ◌∙◌, inl, inr, ℕ, ◌+◌, ◌-◌, ◌*◌, ◌/◌, ◌%◌, ◌<◌, ◌≤◌, ◌^◌, List, length, take, drop, get_or, sym, ap, subst, arith}
-use Rattle.std.specs.List.{All}
+use Rattle.std.proofs.Common.{◌≡◌, ◌↔◌, ◌∙◌, inl, inr, ℕ, ◌+◌, ◌-◌, ◌*◌, ◌/◌, ◌%◌, ◌<◌, ◌≤◌, ◌^◌, List, length, take, drop, get_or, sym, ap, subst, arith}
+use Rattle.std.specs.List.{All, AllZip}
 use Rattle.std.proofs.lemmas.Bool.{cases_lt}
-use Rattle.std.proofs.lemmas.List.{get_or-drop, get_or-take}
+use Rattle.std.proofs.lemmas.List.{get_or-drop, get_or-take, length-drop, length-take-le}
 use Rattle.std.proofs.lemmas.List.Elements.{AllZip-get_or}
 use Rattle.std.proofs.lemmas.Nat.{shr_below, shr_split}
 use Rattle.math_theory.specs.Values.{value}
@@ -12,61 +12,69 @@ use Rattle.math_base.proofs.ElementNumbers.{same_number}
 use Rattle.math_ntt.proofs.MatrixPlaces.{rows_are_full, rows_hold_cells}
 use Rattle.math_transforms.specs.DomainValues.{matrix_of}
 use Rattle.math_transforms.specs.Matrices.{MatrixOf, column_of}
-use Rattle.math_shards.specs.Cosets.{AreCosetValues, AreOnlyRows, HasCosetCells, HasValuesFrom, HaveRowsOfFour}
+use Rattle.math_shards.specs.Cosets.{AreCosetValues, HasCosetCells, HasValuesFrom}
 use Rattle.math_shards.specs.Shards.{value_at}
 use Rattle.math_shards.proofs.RootPowers.{coset_point, raised}
-use Rattle.math_shards.proofs.SameCells.{nought}
+use Rattle.math_shards.proofs.SameCells.{nought, same_by_items}
 
 -- the first n cells of the row are the values, at power `index` of the root of order 2^lg, of the polynomials whose coefficients are the first columns of m
 abbrev pub HasFirstValues : ℕ → MatrixOf F → ℕ → ℕ → List F → Type 0
 HasFirstValues lg m n index row = (k : ℕ) → k < n → same (get_or row k nought) (value_at lg (column_of nought m k) index)
 
--- a row that has the cells of a coset has the values in these columns
-row_valued : (lg s start : ℕ) (m : MatrixOf F) (from c : ℕ) (ratio : F) (strip : List F) (i : ℕ) (row : List F) → lg + s ≤ 32
-    → same ratio (raised (root_of (lg + s)) start) → length strip ≡ 2 ^ lg * c → AreCosetValues m from c ratio lg strip
-    → i < 2 ^ (lg + s) → i % 2 ^ s ≡ start → HasCosetCells strip c from start s i row → HasValuesFrom (lg + s) m from c i row
-row_valued lg s start m from c ratio strip i row small is count values below here has = λ k b.
-    let v = matrix_of (2 ^ lg) c strip in
-    let t = i / 2 ^ s in
-    let l : t < 2 ^ lg = shr_below i lg s below in
-    let wide : length (take c (drop (t * c) strip)) ≡ c = rows_are_full v t count l in
-    let p = column_of nought m (from + k) in
-    let at : start + 2 ^ s * t ≡ i = omega (arith, here, shr_split i s) in
-    let point : product ratio (raised (root_of lg) t) ≡ raised (root_of (lg + s)) i = same_number (product ratio (raised (root_of lg) t)) (raised (root_of (lg + s)) (start + 2 ^ s * t)) (coset_point lg s start t ratio small is) ∙ ap (raised (root_of (lg + s))) at in
-    sym (ap number (get_or-take c (drop from row) k nought b ∙ get_or-drop from row k nought))
-    ∙ sym (AllZip-get_or same (take c (drop (t * c) strip)) (take c (drop from row)) k nought nought (has here) (omega (arith, b, wide)))
-    ∙ ap number (rows_hold_cells v t k nought b) ∙ values t k l b
-    ∙ ap (λ x. number (value nought sum product (residue 1) x p)) point
+-- A row whose index is that of a point of a coset.
+module _ (lg s start : ℕ) (m : MatrixOf F) (from c : ℕ) (ratio : F) (strip : List F) (i : ℕ) (row : List F) (small : lg + s ≤ 32) (is : same ratio (raised (root_of (lg + s)) start))
+    (count : length strip ≡ 2 ^ lg * c) (values : AreCosetValues m from c ratio lg strip) (below : i < 2 ^ (lg + s)) (here : i % 2 ^ s ≡ start) where
+  abbrev t : ℕ
+  t = i / 2 ^ s
+
+  inside : t < 2 ^ lg
+  inside = shr_below i lg s below
+
+  wide : length (take c (drop (t * c) strip)) ≡ c
+  wide = rows_are_full (matrix_of (2 ^ lg) c strip) t count inside
+
+  -- the cells of the coset in the row of the point are the values
+  strip_at : (k : ℕ) → k < c → same (get_or (take c (drop (t * c) strip)) k nought) (value_at (lg + s) (column_of nought m (from + k)) i)
+  strip_at k b =
+      let v = matrix_of (2 ^ lg) c strip in
+      let at : start + 2 ^ s * t ≡ i = omega (arith, here, shr_split i s) in
+      let point : product ratio (raised (root_of lg) t) ≡ raised (root_of (lg + s)) i =
+      same_number (product ratio (raised (root_of lg) t)) (raised (root_of (lg + s)) (start + 2 ^ s * t)) (coset_point lg s start t ratio small is) ∙ ap (raised (root_of (lg + s))) at in
+      ap number (rows_hold_cells v t k nought b) ∙ values t k inside b ∙ ap (λ x. number (value nought sum product (residue 1) x (column_of nought m (from + k)))) point
+
+  row_at : (k : ℕ) → k < c → get_or (take c (drop from row)) k nought ≡ get_or row (from + k) nought
+  row_at k b = get_or-take c (drop from row) k nought b ∙ get_or-drop from row k nought
+
+  -- so a row that has the cells has the values
+  row_valued : HasCosetCells strip c from start s i row → HasValuesFrom (lg + s) m from c i row
+  row_valued has = λ k b.
+      sym (ap number (row_at k b))
+      ∙ sym (AllZip-get_or same (take c (drop (t * c) strip)) (take c (drop from row)) k nought nought (has here) (omega (arith, b, wide)))
+      ∙ strip_at k b
+
+  -- and one that has the values has the cells
+  row_celled : from + c ≤ length row → HasValuesFrom (lg + s) m from c i row → AllZip same (take c (drop (t * c) strip)) (take c (drop from row))
+  row_celled long have =
+      same_by_items c (take c (drop (t * c) strip)) (take c (drop from row)) wide (length-take-le c (drop from row) (omega (arith, long, length-drop from row)))
+      (λ k b. strip_at k b ∙ sym (have k b) ∙ sym (ap number (row_at k b)))
 
 module _ {R : Type 0} (index : R → ℕ) (cells_of : R → List F) (rows : List R) where
-  -- rows of a coset that have its cells have the values
+  -- rows of a coset have its cells where they have the values
   pub coset-valued : (lg s total start : ℕ) (m : MatrixOf F) (from c : ℕ) (ratio : F) (strip : List F) → lg + s ≡ total → total ≤ 32
       → same ratio (raised (root_of total) start) → length strip ≡ 2 ^ lg * c → AreCosetValues m from c ratio lg strip
-      → All (λ row. index row < 2 ^ total) rows
+      → All (λ row. index row < 2 ^ total) rows → All (λ row. from + c ≤ length (cells_of row)) rows
       → All (λ row. HasCosetCells strip c from start s (index row) (cells_of row)) rows
-      → All (λ row. index row % 2 ^ s ≡ start → HasValuesFrom total m from c (index row) (cells_of row)) rows
-  coset-valued lg s total start m from c ratio strip e small is count values below has = λ k d l here.
-      let row : R = get_or rows k d in
-      subst (λ n. HasValuesFrom n m from c (index row) (cells_of row)) e
-      (row_valued lg s start m from c ratio strip (index row) (cells_of row) (omega (arith, e, small)) (rw (← e) at is) count values (rw (← e) at (below k d l)) here (has k d l))
-
-  -- and so have those of a coset of four points of which just one of each is there
-  pub four-valued : (s total start : ℕ) (m : MatrixOf F) (from c : ℕ) (ratio : F) (places : List ℕ) → 2 + s ≡ total → total ≤ 32
-      → same ratio (raised (root_of total) start) → AreOnlyRows index rows start s (length rows) places → HaveRowsOfFour cells_of rows places m from c ratio
-      → All (λ row. index row < 2 ^ total) rows
-      → All (λ row. index row % 2 ^ s ≡ start → HasValuesFrom total m from c (index row) (cells_of row)) rows
-  four-valued s total start m from c ratio places e small is only has below = λ k d l here j b.
-      let row : R = get_or rows k d in
-      let i = index row in
-      let t = i / 2 ^ s in
-      let inside : t < 4 = shr_below i 2 s (rw (← e) at (below k d l)) in
-      let at : start + 2 ^ s * t ≡ i = omega (arith, here, shr_split i s) in
-      let point : product ratio (raised (root_of 2) t) ≡ raised (root_of total) i =
-      same_number (product ratio (raised (root_of 2) t)) (raised (root_of (2 + s)) (start + 2 ^ s * t)) (coset_point 2 s start t ratio (omega (arith, e, small)) (rw (← e) at is))
-      ∙ ap (λ n. raised (root_of n) (start + 2 ^ s * t)) e ∙ ap (raised (root_of total)) at in
-      let place : get_or places t 0 ≡ k = only k d l here in
-      let held = has t j d inside b in
-      rw place at held ∙ ap (λ x. number (value nought sum product (residue 1) x (column_of nought m (from + j)))) point
+      ↔ All (λ row. index row % 2 ^ s ≡ start → HasValuesFrom total m from c (index row) (cells_of row)) rows
+  coset-valued lg s total start m from c ratio strip e small is count values below long = (
+    λ has k d l here.
+        let row : R = get_or rows k d in
+        subst (λ n. HasValuesFrom n m from c (index row) (cells_of row)) e
+        (row_valued lg s start m from c ratio strip (index row) (cells_of row) (omega (arith, e, small)) (rw (← e) at is) count values (rw (← e) at (below k d l)) here (has k d l)),
+    λ have k d l here.
+        let row : R = get_or rows k d in
+        row_celled lg s start m from c ratio strip (index row) (cells_of row) (omega (arith, e, small)) (rw (← e) at is) count values (rw (← e) at (below k d l)) here (long k d l)
+        (subst (λ n. HasValuesFrom n m from c (index row) (cells_of row)) (sym e) (have k d l here)),
+  )
 
   -- rows of cosets of which one more has the values
   pub coset-more : (s total start : ℕ) (m : MatrixOf F) (from c : ℕ)

@@ -1,6 +1,6 @@
 -- How many distinct indices shards have: counted one by one, and without those of some.
 use Rattle.std.proofs.Common.{◌≡◌, ℕ, zero, suc, ◌+◌, ◌≤◌, ◌⊎◌, inl, inr, List, [], ◌∷◌, ◌||◌, ◌&&◌, Bool, true, false, not, cond, eqb, length, get_or, refl, sym, ◌∙◌, ap, arith}
-use Rattle.std.specs.List.{All, Contains, filter, list_any, range_with_len, sum_by}
+use Rattle.std.specs.List.{All, Contains, count_by, filter, list_any, range_with_len, sum_by}
 use Rattle.std.proofs.lemmas.Bool.{and_from, and_parts, both_ways, cases_Bool, cases_lt, eq-eqb, eqb-true, not-true}
 use Rattle.std.proofs.lemmas.List.{map-id}
 use Rattle.std.proofs.lemmas.List.Elements.{filter_passes}
@@ -13,10 +13,14 @@ use Rattle.math_shards.specs.Shards.{distinct_indices, has_index}
 abbrev pub weight : Bool → ℕ
 weight b = cond b 1 0
 
--- one more number counts where it is an index
-pub distinct_more : (n : ℕ) (shards : List Shard) → distinct_indices (n + 1) shards ≡ distinct_indices n shards + weight (has_index shards n)
-distinct_more n shards =
-    let w : ℕ → ℕ = λ i. weight (has_index shards i) in
+-- how many of the numbers below n pass a test
+abbrev pub passing : ℕ → (ℕ → Bool) → ℕ
+passing n p = count_by p (range_with_len 0 n)
+
+-- one more number counts where it passes
+passing_more : (n : ℕ) (p : ℕ → Bool) → passing (n + 1) p ≡ passing n p + weight (p n)
+passing_more n p =
+    let w : ℕ → ℕ = λ i. weight (p i) in
     ap (sum_by w) (sym (map-id (range_with_len 0 (n + 1)))) ∙ sum_by-map-range_with_len_more w (λ i. i) 0 n n (omega arith)
     ∙ ap (λ l. sum_by w l + w n) (map-id (range_with_len 0 n))
 
@@ -25,23 +29,22 @@ pub weight_kept : (a b : Bool) → (a ≡ true → b ≡ true) → weight a ≤ 
 weight_kept true b h = rw (h refl) (omega arith)
 weight_kept false b h = omega arith
 
--- where all indices but one are those of others too, there are as many below that one, and at most one more in all
-pub few_lost : (n one : ℕ) (xs ys : List Shard) → ((i : ℕ) → has_index xs i ≡ true → (has_index ys i ≡ true) ⊎ (one ≡ i))
-    → (n ≤ one → distinct_indices n xs ≤ distinct_indices n ys) × (distinct_indices n xs ≤ distinct_indices n ys + 1)
-few_lost zero one xs ys h = (λ _. omega arith, omega arith)
-few_lost (suc n) one xs ys h =
-    let before = few_lost n one xs ys h in
+-- where all that pass but one pass another test too, as many below that one do, and at most one more in all
+pub few_lost : (n one : ℕ) (p q : ℕ → Bool) → ((i : ℕ) → p i ≡ true → (q i ≡ true) ⊎ (one ≡ i)) → (n ≤ one → passing n p ≤ passing n q) × (passing n p ≤ passing n q + 1)
+few_lost zero one p q h = (λ _. omega arith, omega arith)
+few_lost (suc n) one p q h =
+    let before = few_lost n one p q h in
     let next : suc n ≡ n + 1 = omega arith in
-    let x : distinct_indices (suc n) xs ≡ distinct_indices n xs + weight (has_index xs n) = ap (λ m. distinct_indices m xs) next ∙ distinct_more n xs in
-    let y : distinct_indices (suc n) ys ≡ distinct_indices n ys + weight (has_index ys n) = ap (λ m. distinct_indices m ys) next ∙ distinct_more n ys in
-    let kept : ¬ (one ≡ n) → weight (has_index xs n) ≤ weight (has_index ys n) =
-    λ other. weight_kept (has_index xs n) (has_index ys n) (λ there. elim (h n there) as (λ _. has_index ys n ≡ true) [ inl q ↦ q | inr q ↦ absurd (other q) ]) in
-    let most : weight (has_index xs n) ≤ 1 = weight_kept (has_index xs n) true (λ _. refl) in (
-      λ l. omega (arith, x, y, before.0 (omega (arith, l)), kept (λ q. omega (arith, q, l))),
-      elim (cases_lt n one) as (λ _. distinct_indices (suc n) xs ≤ distinct_indices (suc n) ys + 1) [
-        | inl early ↦ omega (arith, x, y, before.1, kept (λ q. omega (arith, q, early)))
-        | inr late ↦ elim (cases_lt one n) as (λ _. distinct_indices (suc n) xs ≤ distinct_indices (suc n) ys + 1) [
-          | inl past ↦ omega (arith, x, y, before.1, kept (λ q. omega (arith, q, past)))
+    let x : passing (suc n) p ≡ passing n p + weight (p n) = ap (λ m. passing m p) next ∙ passing_more n p in
+    let y : passing (suc n) q ≡ passing n q + weight (q n) = ap (λ m. passing m q) next ∙ passing_more n q in
+    let kept : ¬ (one ≡ n) → weight (p n) ≤ weight (q n) =
+    λ other. weight_kept (p n) (q n) (λ there. elim (h n there) as (λ _. q n ≡ true) [ inl e ↦ e | inr e ↦ absurd (other e) ]) in
+    let most : weight (p n) ≤ 1 = weight_kept (p n) true (λ _. refl) in (
+      λ l. omega (arith, x, y, before.0 (omega (arith, l)), kept (λ e. omega (arith, e, l))),
+      elim (cases_lt n one) as (λ _. passing (suc n) p ≤ passing (suc n) q + 1) [
+        | inl early ↦ omega (arith, x, y, before.1, kept (λ e. omega (arith, e, early)))
+        | inr late ↦ elim (cases_lt one n) as (λ _. passing (suc n) p ≤ passing (suc n) q + 1) [
+          | inl past ↦ omega (arith, x, y, before.1, kept (λ e. omega (arith, e, past)))
           | inr now ↦ omega (arith, x, y, before.0 now, most)
         ]
       ],
@@ -49,7 +52,7 @@ few_lost (suc n) one xs ys h =
 
 -- where all indices are those of others too, there are as many
 pub none_lost : (n : ℕ) (xs ys : List Shard) → ((i : ℕ) → has_index xs i ≡ true → has_index ys i ≡ true) → distinct_indices n xs ≤ distinct_indices n ys
-none_lost n xs ys h = (few_lost n n xs ys (λ i there. inl (h i there))).0 (omega arith)
+none_lost n xs ys h = (few_lost n n (has_index xs) (has_index ys) (λ i there. inl (h i there))).0 (omega arith)
 
 -- what is kept by its index has the indices that are kept
 indices-filter : (q : ℕ → Bool) (shards : List Shard) (i : ℕ) → has_index (filter (λ (s : Shard). q s.index) shards) i ≡ (has_index shards i && q i)
@@ -100,7 +103,7 @@ pub lost_outside : (n : ℕ) (numbers : List ℕ) (shards : List Shard) → dist
 lost_outside n [] shards = omega (arith, none_lost n shards (outside [] shards) (λ i h. indices-outside [] shards i ∙ and_from (has_index shards i) true h refl))
 lost_outside n (m ∷ numbers) shards =
     let one : distinct_indices n (outside numbers shards) ≤ distinct_indices n (outside (m ∷ numbers) shards) + 1 =
-    (few_lost n m (outside numbers shards) (outside (m ∷ numbers) shards) (λ i h.
+    (few_lost n m (has_index (outside numbers shards)) (has_index (outside (m ∷ numbers) shards)) (λ i h.
     let both = and_parts (has_index shards i) (is_outside numbers i) (sym (indices-outside numbers shards i) ∙ h) in
     elim (cases_Bool (eqb m i)) as (λ _. (has_index (outside (m ∷ numbers) shards) i ≡ true) ⊎ (m ≡ i)) [
       | inl here ↦ inr (eqb-true m i here)

@@ -6,8 +6,9 @@ use Rattle.std.proofs.lemmas.List.Elements.{All-head, All-tail}
 use Rattle.math_shards.specs.declared.shards.Error.{Error}
 use Rattle.math_shards.specs.declared.shards.Error.TheVariants.{Memory, TooFew, Mismatch, Index, Conflict, Inconsistent}
 use Rattle.math_shards.specs.declared.shards.Shard.{Shard}
-use Rattle.math_shards.specs.Joining.{HasUnsound, HaveConflict, IsDueBeside, IsDueFor, IsMemory, IsSound, IsUnsound, Matches, RefusesWhereDue}
+use Rattle.math_shards.specs.Joining.{HasUnsound, HaveConflict, IsDueBeside, IsDueFor, IsDueOfRows, IsMemory, IsSound, IsUnsound, Matches, RefusesWhereDue}
 use Rattle.math_shards.specs.Shards.{JoinTo, distinct_indices}
+use Rattle.math_shards.proofs.JoinedRows.{distinct_of_shards, fit_of_join, items_in, key_of}
 use Rattle.math_shards.proofs.JoinedShards.{joined_first, joined_no_conflict, joined_some, joined_sound}
 
 -- what has not the numbers of the first is not sound
@@ -156,8 +157,18 @@ joined_beside words first rest j =
     let enough : first.min ≤ distinct_indices first.total (first ∷ rest) = rw (f.least, f.most) j.enough in
     ((joined_sound words (first ∷ rest) j first f, joined_no_conflict words (first ∷ rest) j), enough)
 
--- what is wrong where shards are gathered
-pub gathered_due : (first : Shard) (shards : List Shard) (e : Error) → All (IsSound first) shards → IsMemory e ⊎ ((e ≡ Conflict) × HaveConflict shards)
+-- what is wrong with sound shards as rows is wrong with the shards
+pub rows_due : (first : Shard) (shards : List Shard) (e : Error) → All (IsSound first) shards → 0 < length shards
+    → IsMemory e ⊎ IsDueOfRows key_of items_in first.min first.total shards e
     → IsDueBeside (HaveConflict shards) (distinct_indices first.total shards) (λ words. JoinTo words shards) first shards e
-gathered_due first shards e sound (inl memory) = memory_due HaveConflict distinct_indices JoinTo first shards e memory
-gathered_due first shards e sound (inr conflict) = rw conflict.0 (sound, conflict.1)
+rows_due first shards e sound there (inl memory) = memory_due HaveConflict distinct_indices JoinTo first shards e memory
+rows_due first shards (Memory a) sound there (inr due) = absurd due
+rows_due first shards Mismatch sound there (inr due) = absurd due
+rows_due first shards Index sound there (inr due) = absurd due
+rows_due first shards Conflict sound there (inr due) = (sound, due)
+rows_due first shards TooFew sound there (inr due) = ((sound, due.0), omega (arith, due.1, distinct_of_shards first.total shards))
+rows_due first shards Inconsistent sound there (inr due) = (
+  (sound, due.0),
+  omega (arith, due.1, distinct_of_shards first.total shards),
+  λ words j. due.2 words (fit_of_join words first shards sound there j),
+)

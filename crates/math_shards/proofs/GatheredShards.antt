@@ -16,9 +16,15 @@ use Rattle.math_shards.specs.declared.shards.Shard.{Shard}
 use Rattle.math_shards.specs.Shards.{has_index}
 use Rattle.math_cosets.proofs.ElementRing.{same_are_equal}
 use Rattle.math_shards.proofs.SameCells.{nought, same_by_items}
-use Rattle.math_shards.specs.Joining.{IsSound, HaveConflict, HoldsIfFilled, HoldsOthers, HoldsShards, IsMemory}
-use Rattle.math_shards.specs.declared.shards.Error.{Error}
-use Rattle.math_shards.specs.declared.shards.Error.TheVariants.{Conflict}
+use Rattle.math_shards.specs.Joining.{IsSound, HaveConflict, HoldsShards}
+
+-- where the row of the shard's index is filled, it holds the cells of the shard
+abbrev pub HoldsIfFilled : EvaluationsOf F → Shard → Type 0
+HoldsIfFilled e s = get_or e.filled s.index false ≡ true → AllZip same (row_of e.matrix s.index) s.cells.items
+
+-- the row of the shard's index is filled, and not with the cells of the shard
+abbrev pub HoldsOthers : EvaluationsOf F → Shard → Type 0
+HoldsOthers e s = (get_or e.filled s.index false ≡ true) × ¬ (AllZip same (row_of e.matrix s.index) s.cells.items)
 
 -- the cells of the first n shards stand in the rows of their indices, and exactly these rows are filled
 pub record HoldsFirst (lg width : ℕ) (shards : List Shard) (n : ℕ) (e : EvaluationsOf F) : Type 0 where
@@ -139,9 +145,3 @@ module _ (lg width : ℕ) (first : Shard) (shards : List Shard) (domain : first.
       let of_both : AllZip same t.cells.items s.cells.items → AllZip same (row_of e.matrix t.index) s.cells.items =
       λ equal. subst (AllZip same (row_of e.matrix t.index)) (same_are_equal t.cells.items s.cells.items equal) row in
       (n, s, l, sym is, (p, t, omega (arith, early, l), at, (eq, λ equal. others.1 (subst (λ i. AllZip same (row_of e.matrix i) s.cells.items) eq (of_both equal)))))
-
-  -- a fault of a step of the loop
-  pub fault_at : (n : ℕ) (s : Shard) (e : EvaluationsOf F) → HoldsFirst lg width shards n e → n < length shards → s ≡ get_or shards n s
-      → (fault : Error) → IsMemory fault ⊎ ((fault ≡ Conflict) × HoldsOthers e s) → IsMemory fault ⊎ ((fault ≡ Conflict) × HaveConflict shards)
-  fault_at n s e h l is fault (inl memory) = inl memory
-  fault_at n s e h l is fault (inr others) = inr (others.0, conflict_at n s e h l is others.1)

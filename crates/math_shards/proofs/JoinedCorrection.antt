@@ -7,7 +7,7 @@ use Rattle.std.proofs.lemmas.List.Elements.{All-filter, All-head, All-tail, All-
 use Rattle.std.proofs.lemmas.List.Folds.{list_any_at}
 use Rattle.math_base.specs.Elements.{same}
 use Rattle.math_shards.specs.declared.shards.Shard.{Shard}
-use Rattle.math_shards.specs.Correcting.{CorrectTo, HasNumbersOf, are_same, is_settled, settled, settled_indices}
+use Rattle.math_shards.specs.Correcting.{AreCorrected, CorrectTo, HasNumbersOf, are_same, is_settled, settled, settled_indices}
 use Rattle.math_shards.specs.Shards.{IsShardOf, JoinTo, distinct_indices, has_index}
 use Rattle.math_shards.proofs.CountedIndices.{few_lost, none_lost}
 use Rattle.math_shards.proofs.FilledShards.{index_found, index_there}
@@ -71,6 +71,19 @@ joined_correct words shards j =
       right = λ k d l n. All-filter (is_settled shards) (IsShardOf words j.min j.total) shards j.each k d l;
     }
 
+-- and none of them is left out
+pub joined_corrected : (words : List ℕ) (shards : List Shard) → JoinTo words shards → AreCorrected words [] shards
+unfolding joined_correct
+joined_corrected words shards j = (
+  joined_correct words shards j,
+  record {
+    rising = λ k l. absurd (omega (arith, l));
+    below = λ k d l. absurd (omega (arith, l));
+    differ = λ k d l. absurd (omega (arith, l));
+    agree = λ i s l is n. subst (IsShardOf words j.min j.total) is (j.each i s l);
+  },
+)
+
 -- so are shards of which those of one index alone are wrong, where `min` + 2 distinct indices are there
 pub one_index_wrong : (words : List ℕ) (min total wrong_index : ℕ) (shards : List Shard) → 1 ≤ min → min ≤ total → total < 2 ^ 32 → All (λ word. word < 2 ^ 64) words → length words < 2 ^ 64
     → All (HasNumbersOf words min total) shards → min + 2 ≤ distinct_indices total shards
@@ -80,7 +93,7 @@ one_index_wrong words min total x shards some within short each_word few numbers
     let other : (i : ℕ) → ¬ (i ≡ x) → has_index shards i ≡ true → has_index (settled shards) i ≡ true =
     λ i apart there. right_index words min total shards i (omega (arith, some, within)) short (λ k s l is e. right k s l is (λ q. apart (sym e ∙ q))) there in
     let at_most_one : distinct_indices total shards ≤ n + 1 =
-    (few_lost total x shards (settled shards) (λ i there. elim (cases_eq i x) as (λ _. (has_index (settled shards) i ≡ true) ⊎ (x ≡ i)) [
+    (few_lost total x (has_index shards) (has_index (settled shards)) (λ i there. elim (cases_eq i x) as (λ _. (has_index (settled shards) i ≡ true) ⊎ (x ≡ i)) [
       | inl here ↦ inr (sym here)
       | inr apart ↦ inl (other i apart there)
     ])).1 in

@@ -10,7 +10,6 @@ use Rattle.math_numbers.proofs.BitPieces.{length-cut, piece_count-enough}
 use Rattle.math_base.specs.Elements.{residue}
 use Rattle.math_base.specs.Packing.{elements_of}
 use Rattle.math_base.proofs.BitFronts.{drop-bits, first-number}
-use Rattle.math_transforms.proofs.WrittenRows.{part-read}
 use Rattle.math_shards.specs.Shards.{counted}
 use Rattle.math_shards.specs.Strips.{packed_at, piece_of}
 use Rattle.math_shards.proofs.SameCells.{nought}
@@ -165,19 +164,20 @@ pub counted-behind : (words : List ℕ) (place : ℕ) → 0 < place → get_or (
 counted-behind words zero some = absurd (omega arith)
 counted-behind words (suc place) some = ap (λ n. get_or words n 0) (let e : place ≡ suc place - 1 = omega arith in e)
 
--- an element of a run of 64 is the piece of two of the words that lie one after the other, from the one on in which the run begins
-pub run_packed : (words : List ℕ) (first m k : ℕ) → 2 ≤ first - first / 64 → first % 64 + k < 64 → k + 1 < m
-    → piece_of (get_or (take m (drop (first - first / 64 - 2) words)) k 0) (get_or (take m (drop (first - first / 64 - 2) words)) (k + 1) 0) (first % 64 + k) ≡ packed_at words (first + k)
-run_packed words first m k some run few =
+-- an element of a run of 64 is the piece of two words, of a list of those from the one on in which the run begins
+pub run_packed : (words part : List ℕ) (first k : ℕ) → 2 ≤ first - first / 64 → first % 64 + k < 64
+    → ((j : ℕ) → j ≤ k + 1 → get_or part j 0 ≡ get_or words (first - first / 64 - 2 + j) 0)
+    → piece_of (get_or part k 0) (get_or part (k + 1) 0) (first % 64 + k) ≡ packed_at words (first + k)
+run_packed words part first k some run read =
     let from = first - first / 64 - 2 in
     let e = first + k in
     let taken : first % 64 + k ≡ e % 64 = omega (arith, run) in
     let at : from + k ≡ e - e / 64 - 1 - 1 = omega (arith, some, run) in
     let after : from + (k + 1) ≡ e - e / 64 - 1 = omega (arith, some, run) in
-    let before : get_or (take m (drop from words)) k 0 ≡ get_or (counted words) (e - e / 64 - 1) 0 =
-    part-read 0 words from m k (omega (arith, few)) ∙ ap (λ p. get_or words p 0) at ∙ sym (counted-behind words (e - e / 64 - 1) (omega (arith, some, run))) in
-    let word : get_or (take m (drop from words)) (k + 1) 0 ≡ get_or (counted words) (e - e / 64) 0 =
-    part-read 0 words from m (k + 1) few ∙ ap (λ p. get_or words p 0) after ∙ sym (counted-behind words (e - e / 64) (omega (arith, some, run))) in
+    let before : get_or part k 0 ≡ get_or (counted words) (e - e / 64 - 1) 0 =
+    read k (omega arith) ∙ ap (λ p. get_or words p 0) at ∙ sym (counted-behind words (e - e / 64 - 1) (omega (arith, some, run))) in
+    let word : get_or part (k + 1) 0 ≡ get_or (counted words) (e - e / 64) 0 =
+    read (k + 1) (omega arith) ∙ ap (λ p. get_or words p 0) after ∙ sym (counted-behind words (e - e / 64) (omega (arith, some, run))) in
     ap₂ (λ x y. piece_of x y (first % 64 + k)) before word
     ∙ ap (λ t. piece_of (get_or (counted words) (e - e / 64 - 1) 0) (get_or (counted words) (e - e / 64) 0) t) taken
     ∙ sym (packed_from_words words e)

@@ -1,11 +1,16 @@
 -- Rows of words, the numbers of elements.
-use Rattle.std.proofs.Common.{◌≡◌, ◌∙◌, ℕ, ◌+◌, ◌%◌, ◌<◌, List, [], ◌∷◌, ◌++◌, length, map, take, drop, get_or, sym, ap, append_assoc}
-use Rattle.std.proofs.lemmas.List.{get_or-drop, get_or-map, map-append, take_more}
+use Rattle.std.proofs.Common.{◌≡◌, ◌↔◌, ◌∙◌, ℕ, ◌+◌, ◌%◌, ◌<◌, ◌&&◌, Bool, true, List, [], ◌∷◌, ◌++◌, length, map, take, drop, get_or, sym, ap, append_assoc, arith}
+use Rattle.std.specs.List.{AllZip}
+use Rattle.std.proofs.lemmas.Bool.{and_from, and_parts}
+use Rattle.std.proofs.lemmas.List.{get_or_default, get_or-drop, get_or-map, get_or-take, length-take-le, map-append, take_more}
+use Rattle.std.proofs.lemmas.List.Elements.{AllZip-get_or}
 use Rattle.math_numbers.specs.Goldilocks.{P}
 use Rattle.math_base.specs.declared.fields.goldilocks.F.{F}
-use Rattle.math_base.specs.Elements.{number, residue}
+use Rattle.math_base.specs.Elements.{number, residue, same}
 use Rattle.math_base.proofs.ElementNumbers.{same_number}
+use Rattle.math_transforms.proofs.PlaceByPlace.{AllZip-next}
 use Rattle.math_transforms.proofs.WrittenRows.{part-read}
+use Rattle.math_shards.proofs.SameCells.{nought, same_by_items}
 
 -- the element of one word more
 pub words-more : (words : List ℕ) (i : ℕ) (old items new : List F) (x : F) → i < length words → number x ≡ get_or words i 0 % P → items ≡ old ++ map residue (take i words)
@@ -21,3 +26,20 @@ pub element_at : (words : List ℕ) (from n i : ℕ) (y : F) → i < n → from 
 element_at words from n i y l b e =
     same_number y (residue (get_or words (from + i) 0)) (e ∙ ap (λ w. w % P) (part-read 0 words from n i l))
     ∙ sym (get_or-drop from (map residue words) i y ∙ get_or-map residue words (from + i) 0 y b)
+
+-- with one item more, lists are same so far where they were, and these items are
+pub equal-more : (xs ys : List F) (i : ℕ) (x y : F) (b c : Bool) → i < length xs → i < length ys → x ≡ get_or xs i x → y ≡ get_or ys i y
+    → (b ≡ true ↔ AllZip same (take i xs) (take i ys)) → (c ≡ true ↔ same x y) → (b && c) ≡ true ↔ AllZip same (take (i + 1) xs) (take (i + 1) ys)
+equal-more xs ys i x y b c l m e f so_far here = (
+  λ h. let both = and_parts b c h in AllZip-next same xs ys i x y l e m f (so_far.0 both.0) (here.0 both.1),
+  λ h.
+      let at : (k : ℕ) → k < i + 1 → same (get_or xs k nought) (get_or ys k nought) =
+      λ k t. sym (ap number (get_or-take (i + 1) xs k nought t))
+      ∙ AllZip-get_or same (take (i + 1) xs) (take (i + 1) ys) k nought nought h (omega (arith, t, length-take-le (i + 1) xs (omega (arith, l))))
+      ∙ ap number (get_or-take (i + 1) ys k nought t) in
+      let before : AllZip same (take i xs) (take i ys) =
+      same_by_items i (take i xs) (take i ys) (length-take-le i xs (omega (arith, l))) (length-take-le i ys (omega (arith, m)))
+      (λ k t. ap number (get_or-take i xs k nought t) ∙ at k (omega (arith, t)) ∙ sym (ap number (get_or-take i ys k nought t))) in
+      let last : same x y = ap number (e ∙ get_or_default xs i x nought l) ∙ at i (omega arith) ∙ sym (ap number (f ∙ get_or_default ys i y nought m)) in
+      and_from b c (so_far.1 before) (here.1 last),
+)

@@ -1,12 +1,14 @@
 -- The rows that data fill: their cells, and matrices whose columns are the same polynomials.
-use Rattle.std.proofs.Common.{◌≡◌, ℕ, zero, suc, ◌+◌, ◌-◌, ◌*◌, ◌/◌, ◌%◌, ◌<◌, ◌≤◌, List, length, take, get_or, replicate, refl, sym, ◌∙◌, ap, ap₂, mul-zero, arith}
+use Rattle.std.proofs.Common.{◌≡◌, inl, inr, ℕ, zero, suc, ◌+◌, ◌-◌, ◌*◌, ◌/◌, ◌%◌, ◌<◌, ◌≤◌, List, length, take, get_or, replicate, refl, sym, ◌∙◌, ap, ap₂, mul-zero, arith}
 use Rattle.std.proofs.Math.Nat.{mul_comm}
-use Rattle.std.proofs.lemmas.List.{get_or-take, length-append, length-replicate, length-take-le}
-use Rattle.std.proofs.lemmas.Nat.{mul-le}
+use Rattle.std.proofs.lemmas.Bool.{cases_lt}
+use Rattle.std.proofs.lemmas.List.{get_or_past, get_or-take, length-append, length-replicate, length-take-le}
+use Rattle.std.proofs.lemmas.Nat.{mul-add-lt, mul-le}
 use Rattle.math_numbers.proofs.BitPieces.{piece_count-enough}
 use Rattle.math_base.specs.declared.fields.goldilocks.F.{F}
 use Rattle.math_base.specs.Elements.{number, same}
 use Rattle.math_ntt.specs.MatrixPlaces.{IsFull}
+use Rattle.math_ntt.proofs.MatrixPlaces.{columns_are_full}
 use Rattle.math_transforms.specs.Matrices.{AreSame, IsOfSize, MatrixOf, column_of}
 use Rattle.math_ntt.specs.PolynomialRows.{HaveSamePolynomials}
 use Rattle.math_transforms.proofs.MatrixRows.{cell-of_column}
@@ -72,3 +74,26 @@ cells_of_recovered words min r width q some enough size same_as =
     same_are_equal (take n q.cells) m.cells
     (same_by_items n (take n q.cells) m.cells (length-take-le n q.cells (omega (arith, all, full))) (whole ∙ sym cols)
     (λ i b. ap number (get_or-take n q.cells i nought b) ∙ same_cells_at min q m full whole same_as.0 same_as.1 m.cols refl i (omega (arith, b, cols))))
+
+-- where the first rows of polynomials are the rows of data, and no coefficient behind them is other than zero, the polynomials are those of the data
+pub polynomials_of_rows : (words : List ℕ) (min r width : ℕ) (q : MatrixOf F) → 1 ≤ min → min ≤ r → IsOfSize q r width → width ≡ width_for min words
+    → take (min * width) q.cells ≡ (rows_for min words).cells
+    → ((k i : ℕ) → k < q.cols → min ≤ i → same (get_or (column_of nought q k) i nought) nought) → ArePolynomialsOf words min q
+polynomials_of_rows words min r width q some enough size wide cells zeros = (
+  size.1 ∙ wide,
+  λ k l i.
+      let m = rows_for min words in
+      let whole : IsFull m = rows_are_whole min words some in
+      let full : IsFull q = size.2 ∙ sym (ap₂ (λ x y. x * y) size.0 size.1) in
+      let inside : k < q.cols = omega (arith, l, size.1, wide) in
+      elim (cases_lt i min) as (λ _. same (get_or (column_of nought q k) i nought) (get_or (column_of nought m k) i nought)) [
+        | inl front ↦
+            let place : i * q.cols + k ≡ i * m.cols + k = ap (λ c. i * c + k) (size.1 ∙ wide) in
+            let there : i * q.cols + k < min * width = omega (arith, mul-add-lt i q.cols k min front inside, ap (λ c. c * min) size.1) in
+            ap number (cell-of_column nought q k i inside full) ∙ sym (ap number (get_or-take (min * width) q.cells (i * q.cols + k) nought there))
+            ∙ ap (λ (xs : List F). number (get_or xs (i * q.cols + k) nought)) cells ∙ ap (λ p. number (get_or m.cells p nought)) place
+            ∙ sym (ap number (cell-of_column nought m k i l whole))
+        | inr behind ↦
+            zeros k i inside behind ∙ sym (ap number (get_or_past (column_of nought m k) i nought (omega (arith, behind, columns_are_full m k nought))))
+      ],
+)

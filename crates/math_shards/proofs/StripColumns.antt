@@ -4,7 +4,7 @@ use Rattle.std.proofs.lemmas.Bool.{cases_lt}
 use Rattle.std.proofs.lemmas.List.{drop-drop, drop_all, get_or_past, get_or-take, length-replicate, length-take-le}
 use Rattle.std.proofs.lemmas.Nat.{mul-add-lt, mul-le}
 use Rattle.math_base.specs.declared.fields.goldilocks.F.{F}
-use Rattle.math_base.specs.Elements.{number, root_of, same}
+use Rattle.math_base.specs.Elements.{number, root_of, same, goldilocks}
 use Rattle.math_base.proofs.ElementNumbers.{same_number}
 use Rattle.math_transforms.specs.DomainValues.{AreValuesAtPowers, matrix_of}
 use Rattle.math_transforms.specs.Matrices.{column_of}
@@ -12,7 +12,6 @@ use Rattle.math_transforms.proofs.MatrixRows.{cell-of_column}
 use Rattle.math_transforms.proofs.WrittenRows.{row-done}
 use Rattle.math_shards.specs.Shards.{elements_for, rows_for, width_for}
 use Rattle.math_shards.specs.Strips.{ArePacked, HasStripValues, IsStripOf, packed_at}
-use Rattle.math_values.specs.Values.{goldilocks}
 use Rattle.math_shards.proofs.SameCells.{nought}
 use Rattle.math_cosets.proofs.CombinedColumns.{same_values}
 use Rattle.math_shards.proofs.ShardRows.{rows_are_whole}

@@ -3,7 +3,7 @@ use Rattle.std.proofs.Common.{◌≡◌, ℕ, ◌*◌, ◌<◌, ◌^◌, List, l
 use Rattle.std.specs.List.{All}
 use Rattle.std.proofs.lemmas.List.{get_or_default}
 use Rattle.math_base.specs.declared.fields.goldilocks.F.{F}
-use Rattle.math_base.specs.Elements.{number, root_of}
+use Rattle.math_base.specs.Elements.{number, root_of, goldilocks}
 use Rattle.math_decoding.proofs.WrongPlaces.{AreGathered}
 use Rattle.math_transforms.specs.Matrices.{IsOfSize, MatrixOf, column_of, row_of}
 use Rattle.math_ntt.specs.CorrectedRows.{IsCorrected}
@@ -15,7 +15,6 @@ use Rattle.math_shards.specs.Correcting.{AreCorrected, ArePositionsWithout, Corr
 use Rattle.math_shards.specs.Joining.{ArePolynomialsOf, IsSound}
 use Rattle.math_shards.specs.Shards.{IsShardOf, rows_for}
 use Rattle.math_shards.proofs.CorrectedShards.{AreSettledRows, data_of_corrected, least_of, rows_are_domain, size_of_corrected, total_of}
-use Rattle.math_values.specs.Values.{goldilocks}
 use Rattle.math_cosets.proofs.ElementRing.{same_are_equal}
 use Rattle.math_shards.proofs.SameCells.{nought, same_by_items}
 use Rattle.math_cosets.proofs.CombinedColumns.{same_values}

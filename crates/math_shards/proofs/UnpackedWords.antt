@@ -4,12 +4,13 @@ use Rattle.std.specs.Int.{div_ceil}
 use Rattle.std.specs.List.{All}
 use Rattle.std.proofs.Math.ListN.{get_or-append, get_or-map}
 use Rattle.std.proofs.Math.Nat.{mod-lt, pow-le-pow_right}
-use Rattle.std.proofs.lemmas.List.{ext_get_or, get_or-take, length-drop, length-take-le, take-append-drop}
+use Rattle.std.proofs.Math.Seq.{drop-append_seam, take-append_seam}
+use Rattle.std.proofs.lemmas.List.{ext_get_or, get_or_append_left, get_or_default, get_or-replicate, get_or-take, length-append, length-drop, length-replicate, length-take, length-take-le, take-append-drop}
 use Rattle.std.proofs.lemmas.List.Elements.{All-drop, All-take}
 use Rattle.std.proofs.lemmas.Nat.{or_comm, or_mod, or_shifted, pow_pos, shr_below}
 use Rattle.math_numbers.specs.Bits as Bits
 use Rattle.math_numbers.specs.Bits.{bits, joined, piece_count}
-use Rattle.math_numbers.proofs.BitLists.{append_below, bits-append, bits-mod, joined-are_bits}
+use Rattle.math_numbers.proofs.BitLists.{append_below, bits-append, bits-mod, joined-are_bits, length-joined}
 use Rattle.math_numbers.proofs.BitPieces.{piece_count-enough}
 use Rattle.math_base.specs.declared.fields.goldilocks.F.{F}
 use Rattle.math_base.specs.Elements.{number, same}
@@ -21,9 +22,11 @@ use Rattle.math_transforms.proofs.WrittenRows.{part-read}
 use Rattle.math_shards.specs.Fitting.{AreDataOf}
 use Rattle.math_shards.specs.Shards.{counted, elements_for, width_for, with_zeros}
 use Rattle.math_shards.specs.Unpacking.{AreRepacked, AreUnpacked, first_words, word_between}
+use Rattle.math_shards.proofs.JoinedRows.{width_of_data}
 use Rattle.math_shards.proofs.LaidOutData.{rounded_up, zeros_alone}
 use Rattle.math_shards.proofs.PackedData.{data_stand}
 use Rattle.math_shards.proofs.PackedWords.{counted-behind, cut_at, from_between}
+use Rattle.math_shards.proofs.RepackedElements.{packed_below}
 use Rattle.math_shards.proofs.SameCells.{nought}
 use Rattle.math_shards.proofs.StripSizes.{count_elements, width_of_words}
 
@@ -157,6 +160,55 @@ data_of_repacked elements n min width some size few first wide equal zeros =
             ∙ ap₂ with_zeros (size ∙ ap (λ m. min * m) due) (sym packed);
       },
     )
+
+-- elements that the first words pack to again are below 2^63, and the last has no more bits than are left for it
+pub below_of_repacked : (elements : List F) (n filled : ℕ) → filled ≡ n + 1 + div_ceil (n + 1) 63 → filled ≤ length elements → AreRepacked elements n filled
+    → All (λ x. number x < 2 ^ 63) (take (filled - 1) elements) × (number (get_or elements (filled - 1) nought) < 2 ^ (n % 63 + 1))
+below_of_repacked elements n filled count within again =
+    let ws : List ℕ = first_words n elements in
+    let many : length ws ≡ n + 1 = length-take-le (n + 1) (words_of elements) (enough_words elements n (omega (arith, count, within))) in
+    let all : length (joined 64 ws) ≡ 64 * (n + 1) = length-joined 64 ws ∙ ap (λ m. 64 * m) many in
+    let few : n % 63 + 1 ≤ 63 = omega arith in
+    let rest : List ℕ = drop (63 * (filled - 1)) (joined 64 ws) in
+    let left : length (take 63 rest) ≤ n % 63 + 1 = omega (arith, length-take 63 rest, length-drop (63 * (filled - 1)) (joined 64 ws), all, count) in (
+      λ k d l.
+          let early : k < filled - 1 = omega (arith, l, length-take (filled - 1) elements) in
+          let there : k < length elements = omega (arith, early, within) in
+          let at : get_or (take (filled - 1) elements) k d ≡ get_or elements k nought = get_or-take (filled - 1) elements k d early ∙ get_or_default elements k d nought there in
+          omega (arith, ap number at, again k (omega (arith, early)), packed_below ws k 63 (omega arith) (omega (arith, length-take 63 (drop (63 * k) (joined 64 ws))))),
+      omega (arith, again (filled - 1) (omega (arith, count)), packed_below ws (filled - 1) (n % 63 + 1) few left),
+    )
+
+-- elements of data say in the first word how many words follow; the first elements are what it and these pack to, and the others are zero
+pub record AreMarked (elements : List F) (words : List ℕ) (min width : ℕ) : Type 0 where
+  pub first : get_or (words_of elements) 0 0 ≡ length words
+  pub room : length words < length elements
+  pub wide : div_ceil (length words + 1 + div_ceil (length words + 1) 63) min ≡ width
+  pub again : AreRepacked elements (length words) (length words + 1 + div_ceil (length words + 1) 63)
+  pub zeros : All (λ x. same x nought) (drop (length words + 1 + div_ceil (length words + 1) 63) elements)
+
+pub marked_of_data : (elements : List F) (words : List ℕ) (min width : ℕ) → 1 ≤ min → length elements ≡ min * width → AreDataOf words min elements → AreMarked elements words min width
+marked_of_data elements words min width some size h =
+    let n : ℕ = length words in
+    let filled : ℕ = n + 1 + div_ceil (n + 1) 63 in
+    let packed : List F = elements_for words in
+    let count : length packed ≡ filled = count_elements words in
+    let stand = data_stand (min * width_for min words) words h.each_word h.few in
+    let split : words_of elements ≡ counted words ++ stand.0 = ap words_of h.packed ∙ stand.1 in
+    let zeros : List F = replicate (min * width_for min words - length packed) nought in
+    let enough : filled ≤ length elements = omega (arith, count, ap length h.packed, length-append packed zeros) in
+    let firsts : first_words n elements ≡ counted words =
+    ap (take (n + 1)) split ∙ ap (λ m. take m (counted words ++ stand.0)) (let e : n + 1 ≡ length (counted words) = omega arith in e) ∙ take-append_seam (counted words) stand.0 in
+    record {
+      first = ap (λ (ws : List ℕ). get_or ws 0 0) split;
+      room = omega (arith, enough);
+      wide = width_of_words min words some ∙ sym (width_of_data words min width elements some size h);
+      again = λ k l.
+          ap (λ (xs : List F). number (get_or xs k nought)) h.packed ∙ ap number (get_or_append_left packed zeros nought k (omega (arith, l, count)))
+          ∙ sym (ap (λ (ws : List ℕ). number (get_or (elements_of ws) k nought)) firsts);
+      zeros = subst (All (λ x. same x nought)) (sym (ap₂ (λ m (xs : List F). drop m xs) (sym count) h.packed ∙ drop-append_seam packed zeros))
+          (λ k d l. ap number (get_or-replicate (min * width_for min words - length packed) k nought d (omega (arith, l, length-replicate (min * width_for min words - length packed) nought))));
+    }
 
 -- The words of data.
 

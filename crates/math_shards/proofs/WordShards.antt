@@ -1,12 +1,12 @@
 -- Shards as words, a shard a row.
-use Rattle.std.proofs.Common.{◌≡◌, ◌∙◌, ℕ, zero, suc, ◌+◌, ◌*◌, ◌<◌, ◌≤◌, ◌^◌, ◌==◌, false, List, [], ◌∷◌, ◌++◌, length, map, take, drop, get_or, refl, sym, ap, ap₂, subst, mod-eq_of_lt, arith}
+use Rattle.std.proofs.Common.{◌≡◌, ◌∙◌, ℕ, zero, suc, ◌+◌, ◌*◌, ◌<◌, ◌≤◌, ◌^◌, ◌⊎◌, ◌==◌, inl, inr, false, List, [], ◌∷◌, ◌++◌, length, map, take, drop, get_or, refl, sym, ap, ap₂, subst, mod-eq_of_lt, arith}
 use Rattle.std.specs.Global.{Vec}
 use Rattle.std.specs.List.{All, flat_map}
 use Rattle.std.proofs.Math.ListN.{get_or-map}
 use Rattle.std.proofs.Math.Seq.{take-add}
 use Rattle.std.proofs.lemmas.Simd.{map-map}
 use Rattle.std.proofs.Math.Nat.{mul-le-mul_right}
-use Rattle.std.proofs.lemmas.Bool.{false≢true}
+use Rattle.std.proofs.lemmas.Bool.{cases_lt, false≢true}
 use Rattle.std.proofs.lemmas.List.{drop-drop, length-drop, length-map, length-take, length-take-le, map-append, take_all, take_more, take-append-drop, flat_map_more}
 use Rattle.std.proofs.lemmas.List.Elements.{All-cons, All-push, All-take, All-drop}
 use Rattle.math_numbers.specs.Goldilocks.{P}
@@ -14,11 +14,15 @@ use Rattle.math_base.specs.declared.fields.goldilocks.F.{F}
 use Rattle.math_base.specs.Elements.{number, residue}
 use Rattle.math_transforms.specs.Matrices.{pieces}
 use Rattle.math_values.specs.Values.{AreElements, elements}
+use Rattle.math_shards.specs.declared.shards.Error.{Error}
+use Rattle.math_shards.specs.declared.shards.Error.TheVariants.{TooFew, Mismatch, Index}
 use Rattle.math_shards.specs.declared.shards.Shard.{Shard}
 use Rattle.math_shards.specs.declared.shards.rows.WordRow.{WordRow}
 use Rattle.math_shards.specs.Fitting.{DoRowsFit}
-use Rattle.math_shards.specs.ShardRows.{AreWordShards, DoJoinTo}
-use Rattle.math_shards.proofs.JoinedRows.{join_of_rows}
+use Rattle.math_shards.specs.Joining.{HasUnsound, IsDueOfRows, IsMemory, IsSound, Matches}
+use Rattle.math_shards.specs.ShardRows.{AreRefused, AreWordShards, DoJoinTo}
+use Rattle.math_shards.proofs.DueErrors.{rows_due}
+use Rattle.math_shards.proofs.JoinedRows.{due_alike, fit_alike, items_in, join_of_fit, key_of}
 
 -- words below P are the numbers of their elements
 pub numbers_of_elements : (words : List ℕ) → AreElements words → map number (elements words) ≡ words
@@ -77,7 +81,7 @@ shards_all min total indices cells cols i shards count all h e =
     }
 
 -- Rows of words as shards: a vector lends its place to those of their cells.
-module _ (some : Vec F) (min total cols : ℕ) (small : cols < 2 ^ 63) where
+module _ (some : Vec WordRow) (min total cols : ℕ) (small : cols < 2 ^ 63) where
   abbrev pub vec_of : List ℕ → Vec F
   vec_of row = record {
     ptr = some.ptr;
@@ -172,20 +176,141 @@ rows_wide n cols cells rows e words = λ k d l.
     ∙ subst (λ (row : List ℕ). length row ≡ cols) (ap (λ xs. get_or xs k d.words.now) (sym words) ∙ get_or-map (λ (row : WordRow). row.words.now) rows k d)
     (pieces_wide n cols cells e k d.words.now there)
 
--- the words that rows of words fit are the data of the shards that they are
-pub join_of_words : (some : Vec F) (min total cols : ℕ) (indices cells data_words : List ℕ) (rows : List WordRow) → cols < 2 ^ 63 → 0 < length indices → length cells ≡ length indices * cols
-    → AreElements cells → map (λ (row : WordRow). row.index) rows ≡ indices → map (λ (row : WordRow). row.words.now) rows ≡ pieces (length indices) cols cells
-    → DoRowsFit (λ (row : WordRow). row.index) (λ (row : WordRow). elements row.words.now) data_words min total rows → DoJoinTo data_words min total indices cells
-join_of_words some min total cols indices cells data_words rows small there e below keys words fit =
-    let shards : List Shard = word_shards some min total cols small indices cells in
-    let many : length shards ≡ length indices = sym (length-map shards (λ (s : Shard). s.index)) ∙ ap length (keys_of some min total cols small indices cells) in (
-      shards,
-      are_word_shards some min total cols small indices cells e below,
-      join_of_rows (λ (row : WordRow). row.index) (λ (row : WordRow). elements row.words.now) data_words min total rows shards
-          (keys_of some min total cols small indices cells ∙ sym keys)
-          (items_of some min total cols small indices cells ∙ ap (map elements) (sym words) ∙ map-map elements (λ (row : WordRow). row.words.now) rows)
-          fit (least_of some min total cols small indices cells) (most_of some min total cols small indices cells) (omega (arith, many, there)),
+-- Rows of words, each with its index, and the shards that they are.
+module _ (some : Vec WordRow) (min total cols : ℕ) (small : cols < 2 ^ 63) where
+  abbrev row_index : WordRow → ℕ
+  row_index row = row.index
+
+  abbrev row_cells : WordRow → List F
+  row_cells row = elements row.words.now
+
+  -- the shards are as wide as the rows, and have these numbers
+  matches_of : (first : Shard) (indices cells : List ℕ) → first.min ≡ min → first.total ≡ total → length first.cells.items ≡ cols → 1 ≤ min → min ≤ total
+      → length cells ≡ length indices * cols → All (Matches first) (word_shards some min total cols small indices cells)
+  matches_of first indices cells least most wide least_is within e k d l =
+      let shards : List Shard = word_shards some min total cols small indices cells in
+      let has_min : (get_or shards k d).min ≡ min = least_of some min total cols small indices cells k d l in
+      let has_total : (get_or shards k d).total ≡ total = most_of some min total cols small indices cells k d l in record {
+        least = has_min ∙ sym least;
+        most = has_total ∙ sym most;
+        count = count_of some min total cols small indices cells e k d l ∙ sym wide;
+        some = omega (arith, has_min, least_is);
+        within = omega (arith, has_min, has_total, within);
+      }
+
+  wide_first : (n : ℕ) (cells : List ℕ) → length cells ≡ suc n * cols → length (elements (take cols cells)) ≡ cols
+  wide_first n cells e =
+      let more : suc n * cols ≡ cols + n * cols = omega arith in
+      length-map (take cols cells) residue ∙ length-take-le cols cells (omega (arith, e, more))
+
+  -- the first index that is out of range
+  first_past : (first : Shard) (indices cells : List ℕ) → first.min ≡ min → first.total ≡ total → length first.cells.items ≡ cols → 1 ≤ min → min ≤ total
+      → length cells ≡ length indices * cols → ¬ (All (λ n. n < total) indices)
+      → HasUnsound first (λ s. Matches first s × (s.total ≤ s.index)) (word_shards some min total cols small indices cells)
+  first_past first [] cells least most wide some_min within e none = absurd (none (λ k d l. absurd (omega (arith, l))))
+  first_past first (i ∷ indices) cells least most wide some_min within e none =
+      let rest : List Shard = word_shards some min total cols small indices (drop cols cells) in
+      let head : Shard = record { index = i; min = min; total = total; cells = vec_of some min total cols small cells } in
+      let fits : Matches first head = record { least = sym least; most = sym most; count = wide_first (length indices) cells e ∙ sym wide; some = some_min; within = within } in
+      let more : suc (length indices) * cols ≡ cols + length indices * cols = omega arith in
+      elim (cases_lt i total) as (λ _. HasUnsound first (λ s. Matches first s × (s.total ≤ s.index)) (head ∷ rest)) [
+        | inl below ↦
+            let later = first_past first indices (drop cols cells) least most wide some_min within (omega (arith, e, more, length-drop cols cells))
+            (λ all. none (All-cons (λ n. n < total) i indices below all)) in record {
+              before = head ∷ later.before;
+              found = later.found;
+              after = later.after;
+              parts = ap (λ xs. head ∷ xs) later.parts;
+              sound = All-cons (IsSound first) head later.before (fits, below) later.sound;
+              fault = later.fault;
+            }
+        | inr past ↦ record { before = []; found = head; after = rest; parts = refl; sound = λ k d l. absurd (omega (arith, l)); fault = (fits, past) }
+      ]
+
+  sound_of : (first : Shard) (indices cells : List ℕ) → first.min ≡ min → first.total ≡ total → length first.cells.items ≡ cols → 1 ≤ min → min ≤ total
+      → length cells ≡ length indices * cols → All (λ n. n < total) indices → All (IsSound first) (word_shards some min total cols small indices cells)
+  sound_of first indices cells least most wide some_min within e below k d l =
+      let shards : List Shard = word_shards some min total cols small indices cells in
+      let many : length shards ≡ length indices = sym (length-map shards key_of) ∙ ap length (keys_of some min total cols small indices cells) in
+      let index : (get_or shards k d).index ≡ get_or indices k d.index = sym (get_or-map key_of shards k d) ∙ ap (λ xs. get_or xs k d.index) (keys_of some min total cols small indices cells) in (
+        matches_of first indices cells least most wide some_min within e k d l,
+        omega (arith, index, below k d.index (omega (arith, l, many)), most_of some min total cols small indices cells k d l),
+      )
+
+  -- numbers that no shards have
+  pub refused_numbers : (indices cells : List ℕ) → length cells ≡ length indices * cols → AreElements cells → 0 < length indices → ¬ ((1 ≤ min) × (min ≤ total))
+      → AreRefused Mismatch min total indices cells
+  refused_numbers [] cells e below there wrong = absurd (omega (arith, there))
+  refused_numbers (i ∷ indices) cells e below there wrong = (
+    word_shards some min total cols small (i ∷ indices) cells,
+    are_word_shards some min total cols small (i ∷ indices) cells e below,
+    record {
+      before = [];
+      found = record { index = i; min = min; total = total; cells = vec_of some min total cols small cells };
+      after = word_shards some min total cols small indices (drop cols cells);
+      parts = refl;
+      sound = λ k d l. absurd (omega (arith, l));
+      fault = λ m. wrong (m.some, m.within);
+    },
+  )
+
+  -- an index out of range
+  pub refused_index : (indices cells : List ℕ) → length cells ≡ length indices * cols → AreElements cells → 1 ≤ min → min ≤ total → ¬ (All (λ n. n < total) indices)
+      → AreRefused Index min total indices cells
+  refused_index [] cells e below some_min within none = absurd (none (λ k d l. absurd (omega (arith, l))))
+  refused_index (i ∷ indices) cells e below some_min within none = (
+    word_shards some min total cols small (i ∷ indices) cells,
+    are_word_shards some min total cols small (i ∷ indices) cells e below,
+    first_past (record { index = i; min = min; total = total; cells = vec_of some min total cols small cells }) (i ∷ indices) cells refl refl
+        (wide_first (length indices) cells e) some_min within e none,
+  )
+
+  module _ (indices cells : List ℕ) (rows : List WordRow) (count : length cells ≡ length indices * cols) (below : AreElements cells) (there : 0 < length indices)
+      (keys : map row_index rows ≡ indices) (words : map (λ (row : WordRow). row.words.now) rows ≡ pieces (length indices) cols cells) where
+    abbrev shards_of : List Shard
+    shards_of = word_shards some min total cols small indices cells
+
+    same_keys : map key_of shards_of ≡ map row_index rows
+    same_keys = keys_of some min total cols small indices cells ∙ sym keys
+
+    same_items : map items_in shards_of ≡ map row_cells rows
+    same_items = items_of some min total cols small indices cells ∙ ap (map elements) (sym words) ∙ map-map elements (λ (row : WordRow). row.words.now) rows
+
+    -- the words that rows of words fit are the data of the shards that they are
+    pub join_of_words : (data_words : List ℕ) → DoRowsFit row_index row_cells data_words min total rows → DoJoinTo data_words min total indices cells
+    join_of_words data_words fit = (
+      shards_of,
+      are_word_shards some min total cols small indices cells count below,
+      join_of_fit data_words min total shards_of (least_of some min total cols small indices cells) (most_of some min total cols small indices cells)
+          (fit_alike row_index row_cells rows key_of items_in shards_of same_keys same_items data_words min total fit),
     )
+
+  -- what is wrong with rows of words is wrong with the shards that they are
+  pub refused_rows : (indices cells : List ℕ) (rows : List WordRow) (count : length cells ≡ length indices * cols) (below : AreElements cells) (there : 0 < length indices)
+      (keys : map row_index rows ≡ indices) (words : map (λ (row : WordRow). row.words.now) rows ≡ pieces (length indices) cols cells) → 1 ≤ min → min ≤ total → All (λ n. n < total) indices
+      → (e : Error) → IsMemory e ⊎ IsDueOfRows row_index row_cells min total rows e → IsMemory e ⊎ AreRefused e min total indices cells
+  refused_rows [] cells rows count below there keys words some_min within inside e due = absurd (omega (arith, there))
+  refused_rows (i ∷ indices) cells rows count below there keys words some_min within inside e (inl memory) = inl memory
+  refused_rows (i ∷ indices) cells rows count below there keys words some_min within inside e (inr due) =
+      let head : Shard = record { index = i; min = min; total = total; cells = vec_of some min total cols small cells } in
+      let shards : List Shard = word_shards some min total cols small (i ∷ indices) cells in
+      inr (
+        shards,
+        are_word_shards some min total cols small (i ∷ indices) cells count below,
+        rows_due head shards e (sound_of head (i ∷ indices) cells refl refl (wide_first (length indices) cells count) some_min within count inside) (omega arith)
+            (inr (due_alike row_index row_cells rows key_of items_in shards min total (same_keys (i ∷ indices) cells rows count below there keys words)
+            (same_items (i ∷ indices) cells rows count below there keys words) e due)),
+      )
+
+-- no index at all
+pub refused_none : (min total cols : ℕ) (indices cells : List ℕ) → length cells ≡ length indices * cols → length indices ≡ 0 → AreRefused TooFew min total indices cells
+refused_none min total cols [] [] e none = (
+  [],
+  record { keys = refl; least = λ k d l. absurd (omega (arith, l)); most = λ k d l. absurd (omega (arith, l)); count = λ k d l. absurd (omega (arith, l)); rows = refl },
+  tt,
+)
+refused_none min total cols [] (x ∷ cells) e none = absurd (omega (arith, e))
+refused_none min total cols (i ∷ indices) cells e none = absurd (omega (arith, none))
 
 -- a list that is not empty has an item
 pub some_item : (xs : List ℕ) → false ≡ (length xs == 0) → 0 < length xs

@@ -1,5 +1,5 @@
 -- Columns of rows of words that are written one strip after the other, and the shards that they are in the end.
-use Rattle.std.proofs.Common.{◌≡◌, ◌∙◌, inl, inr, ℕ, zero, suc, ◌+◌, ◌-◌, ◌*◌, ◌<◌, ◌≤◌, ◌^◌, List, [], ◌∷◌, ◌++◌, length, map, take, drop, get_or, refl, sym, ap, ap₂, subst, arith}
+use Rattle.std.proofs.Common.{◌≡◌, ◌∙◌, inl, inr, ℕ, zero, suc, ◌+◌, ◌-◌, ◌*◌, ◌<◌, ◌≤◌, ◌^◌, List, [], ◌∷◌, ◌++◌, length, length-append, map, take, drop, get_or, refl, sym, ap, ap₂, subst, arith}
 use Rattle.std.specs.Global.{Vec}
 use Rattle.std.specs.Int.{IsNextPowerOfTwo}
 use Rattle.std.specs.List.{flat_map, range_with_len}
@@ -37,6 +37,15 @@ module _ (width from c i n m : ℕ) (strip : List F) (initial cells : List ℕ) 
 
   number_of : (k : ℕ) → k < c → get_or row k 0 ≡ number (get_or strip (i * c + k) nought)
   number_of k l = get_or-map number (take m (drop (i * c) strip)) k nought ∙ ap number (part-read nought strip (i * c) m k (omega (arith, q, l)))
+
+  -- there are as many words as before
+  pub size-kept : length new ≡ length cells
+  size-kept =
+      let front : length (take (i * width + from) cells) ≡ i * width + from = length-take-le (i * width + from) cells (omega (arith, fits)) in
+      let rest : length (drop n (drop (i * width + from) cells)) ≡ length cells - (i * width + from) - n =
+      length-drop n (drop (i * width + from) cells) ∙ ap (λ p. p - n) (length-drop (i * width + from) cells) in
+      let both : length (row ++ drop n (drop (i * width + from) cells)) ≡ length row + length (drop n (drop (i * width + from) cells)) = length-append row (drop n (drop (i * width + from) cells)) in
+      omega (arith, front, rest, both, long, fits, length-append (take (i * width + from) cells) (row ++ drop n (drop (i * width + from) cells)))
 
   -- the rows so far, and this one
   pub columns-more : AreColumnsWritten width from c i strip initial cells → ((p : ℕ) → i * width ≤ p → get_or cells p 0 ≡ get_or initial p 0)

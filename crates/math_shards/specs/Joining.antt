@@ -1,5 +1,5 @@
 -- What is wrong with shards that give no data back.
-use Rattle.std.specs.Prelude.{◌≡◌, ℕ, ◌<◌, ◌≤◌, ◌^◌, ◌⊎◌, false, true, List, [], ◌∷◌, ◌++◌, length, slice_index_or, All, Any, Result, Err, MatchResult, ⊤}
+use Rattle.std.specs.Prelude.{◌≡◌, ℕ, ◌<◌, ◌≤◌, ◌^◌, ◌⊎◌, false, List, [], ◌∷◌, ◌++◌, length, map, slice_index, slice_index_or, All, Any, Result, Err, MatchResult, ⊤}
 use Rattle.std.specs.List.{AllZip}
 use Rattle.math_base.specs.Elements.{residue, same}
 use Rattle.math_base.specs.declared.fields.goldilocks.F.{F}
@@ -9,6 +9,7 @@ use Rattle.math_ntt.specs.PolynomialRows.{HaveSamePolynomials}
 use Rattle.math_shards.specs.declared.shards.Shard.{Shard}
 use Rattle.math_shards.specs.declared.shards.Error.{Error}
 use Rattle.math_shards.specs.declared.shards.Error.TheVariants.{Memory, TooFew, Mismatch, Index, Conflict, Inconsistent}
+use Rattle.math_shards.specs.Fitting.{DoRowsFit, distinct_among}
 use Rattle.math_shards.specs.Shards.{JoinTo, distinct_indices, has_index, rows_for, width_for}
 
 -- the shard has the numbers of the first one and as many cells, and its numbers are such as shards have
@@ -32,13 +33,32 @@ pub record HasUnsound (first : Shard) (P : Shard → Type 0) (shards : List Shar
   pub sound : All (IsSound first) before
   pub fault : P found
 
--- some shard has the index of s, and other cells
-abbrev pub HasOtherCells : List Shard → Shard → Type 0
-HasOtherCells shards s = Any (λ t. (t.index ≡ s.index) × ¬ (AllZip same t.cells.items s.cells.items)) shards
+-- two rows, each with an index and cells, have one index and unequal cells
+abbrev pub HaveUnequalCells : {R : Type 0} → (R → ℕ) → (R → List F) → List R → Type 0
+HaveUnequalCells index cells rows = Any (λ r. Any (λ t. (index t ≡ index r) × ¬ (AllZip same (cells t) (cells r))) rows) rows
 
 -- two shards have one index and unequal cells
 abbrev pub HaveConflict : List Shard → Type 0
-HaveConflict shards = Any (HasOtherCells shards) shards
+HaveConflict shards = HaveUnequalCells (λ s. s.index) (λ s. s.cells.items) shards
+
+-- there is a place for each index below `total`: where some of the first n rows have the index, it is that of a row of this index that has the cells of
+-- each of them; else it is none of a row
+pub record ArePlacesByIndex {R : Type 0} (index : R → ℕ) (cells : R → List F) (total : ℕ) (rows : List R) (n : ℕ) (places : List ℕ) : Type 0 where
+  pub size : length places ≡ total
+  pub of_index : (i : ℕ) (d : R) → i < total → slice_index places i < length rows → index (slice_index_or rows (slice_index places i) d) ≡ i
+  pub there : (k : ℕ) (d : R) → k < n → slice_index places (index (slice_index_or rows k d)) < length rows
+  pub equal : (k : ℕ) (d : R) → k < n
+      → AllZip same (cells (slice_index_or rows (slice_index places (index (slice_index_or rows k d))) d)) (cells (slice_index_or rows k d))
+
+-- what is wrong with rows that fit no data: unequal cells of one index, else too few distinct indices, else that there are no data
+abbrev pub IsDueOfRows : {R : Type 0} → (R → ℕ) → (R → List F) → ℕ → ℕ → List R → Error → Type 0
+IsDueOfRows index cells min total rows (Memory e) = ⊥
+IsDueOfRows index cells min total rows Mismatch = ⊥
+IsDueOfRows index cells min total rows Index = ⊥
+IsDueOfRows index cells min total rows Conflict = HaveUnequalCells index cells rows
+IsDueOfRows index cells min total rows TooFew = ¬ (HaveUnequalCells index cells rows) × (distinct_among total (map index rows) < min)
+IsDueOfRows index cells min total rows Inconsistent =
+    ¬ (HaveUnequalCells index cells rows) × (min ≤ distinct_among total (map index rows)) × ((words : List ℕ) → ¬ (DoRowsFit index cells words min total rows))
 
 -- the error says that a shard has other numbers than the first, or an index out of range, and so has the first one that is not sound
 abbrev pub IsUnsound : Shard → List Shard → Error → Type 0
@@ -104,14 +124,6 @@ pub record HoldsShards (lg width : ℕ) (shards : List Shard) (e : EvaluationsOf
   pub places : length e.filled ≡ 2 ^ lg
   pub marks : (i : ℕ) → i < 2 ^ lg → slice_index_or e.filled i false ≡ has_index shards i
   pub cells : All (λ s. AllZip same (row_of e.matrix s.index) s.cells.items) shards
-
--- where the row of the shard's index is filled, it holds the cells of the shard
-abbrev pub HoldsIfFilled : EvaluationsOf F → Shard → Type 0
-HoldsIfFilled e s = slice_index_or e.filled s.index false ≡ true → AllZip same (row_of e.matrix s.index) s.cells.items
-
--- the row of the shard's index is filled, and not with the cells of the shard
-abbrev pub HoldsOthers : EvaluationsOf F → Shard → Type 0
-HoldsOthers e s = (slice_index_or e.filled s.index false ≡ true) × ¬ (AllZip same (row_of e.matrix s.index) s.cells.items)
 
 -- the columns of the recovered matrix are the polynomials of the words
 abbrev pub ArePolynomialsOf : List ℕ → ℕ → MatrixOf F → Type 0

@@ -1,3 +1,4 @@
+pub mod DataWords
 pub mod Shards
 pub mod Strips
 pub mod Unpacking

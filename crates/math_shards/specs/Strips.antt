@@ -4,21 +4,22 @@ use Rattle.math_numbers.specs.Bits as Bits
 use Rattle.math_numbers.specs.Bits.{bits}
 use Rattle.math_theory.specs.Coefficients.{HaveSameCoefficients}
 use Rattle.math_base.specs.declared.fields.goldilocks.F.{F}
-use Rattle.math_base.specs.Elements.{residue, root_of, same}
-use Rattle.math_values.specs.Values.{goldilocks}
-use Rattle.math_transforms.specs.DomainValues.{matrix_of, ArePowersByLevel}
+use Rattle.math_base.specs.Elements.{residue, root_of, same, goldilocks}
+use Rattle.math_transforms.specs.DomainValues.{matrix_of}
 use Rattle.math_transforms.specs.Matrices.{cell_of, column_of}
+use Rattle.math_transforms.specs.RootTrees.{IsTreeOf}
 use Rattle.math_shards.specs.declared.shards.Shard.{Shard}
 use Rattle.math_shards.specs.declared.shards.strips.Layout.{Layout}
 use Rattle.math_shards.specs.Shards.{elements_for, rows_for, value_at, width_for}
 
--- the table has the powers of the roots of all levels of a domain of 2^lg points
+-- the table is the tree of square roots of a domain of 2^lg points
 abbrev pub IsTableOf : ℕ → List F → Type 0
-IsTableOf lg table = ArePowersByLevel goldilocks root_of lg table
+IsTableOf lg table = IsTreeOf goldilocks root_of (residue 1) lg table
 
--- the layout of the rows of data: there are some rows, all of them have the width, the places of their cells are numbers of a word, and there are at
--- least as many points, of a domain that has a root
+-- the layout of the rows of data, which are fewer than 2^61 words: there are some rows, all of them have the width, the places of their cells are
+-- numbers of a word, and there are at least as many points, of a domain that has a root
 pub record IsLayoutOf (words : List ℕ) (layout : Layout) : Type 0 where
+  pub few : length words < 2 ^ 61
   pub some : 1 ≤ layout.min
   pub width : layout.width ≡ width_for layout.min words
   pub fits : layout.min * layout.width < 2 ^ 64

@@ -13,14 +13,15 @@ use Rattle.math_shards.specs.declared.shards.Shard.{Shard}
 use Rattle.math_shards.specs.Fitting.{distinct_among}
 use Rattle.math_shards.specs.Shards.{value_at}
 
--- each index is that of one of the rows, none stands twice, and `width` cells are found for each; where there are as many indices as rows, they are the
--- indices of all rows, in order, and the cells found are the cells of these
-pub record AreChosen {R : Type 0} (index : R → ℕ) (cells : R → List F) (width : ℕ) (rows : List R) (indices : List ℕ) (found : List F) : Type 0 where
-  pub few : length indices ≤ length rows
+-- of some rows, all of them if they are as many, these are the indices, of which none stands twice, and the cells one row after the other
+pub record AreChosen {R : Type 0} (index : R → ℕ) (cells : R → List F) (rows : List R) (indices : List ℕ) (found : List F) : Type 0 where
+  pub picked : List R
+  pub few : length picked ≤ length rows
+  pub among : All (Contains rows) picked
+  pub whole : length picked ≡ length rows → picked ≡ rows
+  pub keys : indices ≡ map index picked
   pub distinct : AreDistinct indices
-  pub among : All (Contains (map index rows)) indices
-  pub count : length found ≡ length indices * width
-  pub whole : length indices ≡ length rows → (indices ≡ map index rows) × (found ≡ flat_map cells rows)
+  pub held : found ≡ flat_map cells picked
 
 -- u has the index and these numbers, and n cells: one at place i, and zero at every other
 pub record IsUnitShard (n i row min total : ℕ) (u : Shard) : Type 0 where

@@ -6,10 +6,10 @@
 //! cell of row r. Shard i, for i below `total`, holds the value of each column at power i of the
 //! root of unity of order N, where N is the least power of two that is `total` or more. A
 //! polynomial of `min` coefficients is the only one with its values at `min` points: so any `min`
-//! shards give the data back, and where more are there, one that was damaged fits no data with the
-//! others. This is Reed and Solomon's code.
+//! shards give the data back, and where more are there, one of which cells were damaged fits no
+//! data with the others. This is Reed and Solomon's code.
 //!
-//! The shards hide nothing of the data. Where only `min` of them are there, damage is not found.
+//! The shards hide nothing of the data. Where only `min` of them are there, damage may not be found.
 
 ghost use Rattle.std.specs.Prelude.{◌≡◌, alloc_error};
 ghost use Rattle.math_shards.specs.declared.shards.Error.TheVariants.{Memory};
@@ -19,12 +19,12 @@ mod encoding;
 mod fitting;
 mod joining;
 mod joining_rows;
-mod layout;
 mod restoring;
+mod rooms;
 mod rows;
+mod sources;
 mod splitting;
 mod strips;
-mod turns;
 mod unpacking;
 mod weighing;
 
@@ -32,8 +32,11 @@ pub use correcting::{Joined, join_corrected};
 pub use joining::join;
 pub use joining_rows::{join_rows, shards_of_rows};
 use math_base::fields::goldilocks::F;
-pub use splitting::{split, split_rows};
+pub use rooms::Room;
+pub use sources::{Source, Word};
+pub use splitting::{split, split_rows, split_source, split_source_rows};
 use std::alloc::{AllocError, AllocFailed};
+pub use strips::shard_width;
 use thiserror::Error;
 
 /// One of `total` shards of some data, any `min` of which give them back: the values of all columns
@@ -56,7 +59,8 @@ pub enum Error {
     /// Memory ran out, or a size is past what a `usize` can say.
     #[error("out of memory")]
     Memory(AllocError),
-    /// Fewer than `min` distinct indices are there, or no shard at all.
+    /// Fewer than `min` distinct indices are there, or no shard at all. In `join_corrected` those
+    /// count of which all shards have equal cells.
     #[error("too few shards")]
     TooFew,
     /// The numbers `min` and `total` or the number of cells of a shard are not those of the first,

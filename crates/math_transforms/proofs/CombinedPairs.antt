@@ -1,23 +1,15 @@
 -- Pairs of cells that are combined, one after the other.
-use Rattle.std.proofs.Common.{◌≡◌, ◌≢◌, ◌∙◌, inl, inr, ℕ, ◌+◌, ◌-◌, ◌*◌, ◌/◌, ◌<◌, ◌≤◌, Bool, true, false, eqb, not, List, ◌++◌, length, take, drop, get_or, set, ap, subst, refl, arith}
+use Rattle.std.proofs.Common.{◌≡◌, ◌≢◌, ◌∙◌, inl, inr, ℕ, ◌+◌, ◌<◌, ◌≤◌, Bool, true, false, eqb, not, List, length, get_or, set, subst, refl, arith}
 use Rattle.std.specs.Prelude.{IsTrue}
 use Rattle.std.proofs.lemmas.Bool.{cases_lt, eq-eqb, ne_eqb}
 use Rattle.std.proofs.lemmas.List.{get_or_default, get_or-set_same, get_or-set_other}
-use Rattle.std.proofs.lemmas.Nat.{div-mul-add}
 use Rattle.math_theory.specs.Laws.{IsEquality, IsGroup, IsProduct, IsRing}
 use Rattle.math_base.specs.Members.{RingOf}
 use Rattle.math_transforms.specs.CombinedCells.{IsCombined, AreCombined}
-use Rattle.math_transforms.proofs.WrittenRows.{put-before, put-within, put-after, part-read}
 
 -- a number that stands for a truth value and is not zero stands for true
 pub true-from_number : (n : ℕ) → n ≢ 0 → IsTrue (not (eqb n 0))
 true-from_number n h = rw (ne_eqb n 0 h) refl
-
--- the number of the row of c places in which place p stands
-pub row-of : (i c p : ℕ) → i * c ≤ p → p < i * c + c → p / c ≡ i
-row-of i c p l m =
-    let e : p ≡ i * c + (p - i * c) = omega arith in
-    ap (λ q. q / c) e ∙ div-mul-add i c (p - i * c) (omega arith)
 
 module _ {A : Type 0} (R : RingOf A) where
   module _ (E : IsEquality R.same) (G : IsGroup R.same R.zero R.sum R.negative) where
@@ -75,41 +67,6 @@ module _ {A : Type 0} (R : RingOf A) where
       lows_after = λ p q. k.lows_after p q ∙ h.lows_after p (omega arith);
       highs_before = λ p q. k.highs_before p (omega arith) ∙ h.highs_before p q;
       highs_after = λ p q. k.highs_after p q ∙ h.highs_after p (omega arith);
-    }
-
-    -- by other factors that are the same at these places
-    pub combined-by : (other : ℕ → A) (first last : ℕ) (lows highs new_lows new_highs : List A) → ((p : ℕ) → first ≤ p → p < last → other p ≡ factor p)
-        → AreCombined R forward other first last lows highs new_lows new_highs → AreCombined R forward factor first last lows highs new_lows new_highs
-    combined-by other first last lows highs new_lows new_highs e h = record {
-      combined = λ p below above. rw (← e p below above) (h.combined p below above);
-      lows_before = h.lows_before;
-      lows_after = h.lows_after;
-      highs_before = h.highs_before;
-      highs_after = h.highs_after;
-    }
-
-    -- n cells of each half from the first place on, by one factor
-    pub combined-row : (w : A) (first n c many : ℕ) (lows highs row other : List A) → n ≡ c → many ≡ n → first + n ≤ length lows → first + n ≤ length highs
-        → length row ≡ n → length other ≡ n → ((p : ℕ) → first ≤ p → p < first + c → w ≡ factor p)
-        → AreCombined R forward (λ _. w) 0 many (take n (drop first lows)) (take n (drop first highs)) row other
-        → AreCombined R forward factor first (first + c) lows highs (take first lows ++ (row ++ drop n (drop first lows))) (take first highs ++ (other ++ drop n (drop first highs)))
-    combined-row w first n c many lows highs row other u v l m e f q h = record {
-      combined = λ p below above.
-          let k = p - first in
-          let at : first + k ≡ p = omega (arith, below) in
-          let inside : k < n = omega (arith, above, below, u) in
-          rw (
-            ← q p below above,
-            ← at,
-            put-within R.zero lows row first n l e k inside,
-            put-within R.zero highs other first n m f k inside,
-            ← part-read R.zero lows first n k inside,
-            ← part-read R.zero highs first n k inside,
-          ) (h.combined k (omega arith) (omega (arith, inside, v)));
-      lows_before = λ p b. put-before R.zero lows row first n l e p b;
-      lows_after = λ p b. put-after R.zero lows row first n l e p (omega (arith, b, u));
-      highs_before = λ p b. put-before R.zero highs other first n m f p b;
-      highs_after = λ p b. put-after R.zero highs other first n m f p (omega (arith, b, u));
     }
 
     -- one pair

@@ -1,6 +1,6 @@
 -- Values on a domain and coefficients, in the columns of matrices.
-use Rattle.std.proofs.Common.{◌≡◌, ◌∙◌, ℕ, ◌+◌, ◌*◌, ◌<◌, ◌≤◌, List, length, take, drop, get_or, sym, ap, arith}
-use Rattle.std.proofs.lemmas.List.{length-take-le, get_or-take, get_or-drop, get_or_default, same_lists}
+use Rattle.std.proofs.Common.{◌≡◌, ◌∙◌, ℕ, ◌+◌, ◌*◌, ◌<◌, List, length, drop, get_or, sym, ap, arith}
+use Rattle.std.proofs.lemmas.List.{get_or-take, get_or-drop, get_or_default, same_lists}
 use Rattle.math_theory.specs.Laws.{IsEquality, IsGroup, IsProduct, IsRing}
 use Rattle.math_theory.specs.Powers.{power}
 use Rattle.math_theory.proofs.polynomials.BuiltPolynomials.{value-at, value-dilated}
@@ -59,16 +59,9 @@ module _ {A : Type 0} (R : RingOf A) (E : IsEquality R.same) (G : IsGroup R.same
       rw (column-cell R.zero n c k j dilated l m, column-cell R.zero n c k j cells l m) (hd j k l m)))
       (value-at E G P L (R.product ratio r) (R.product s r) (column c cells k) (P.respects _ _ _ _ h (E.reflexive r)))
 
--- coefficients times the powers of s: the value at r is that at s r
+-- coefficients times the powers of a ratio that is same as s: the value at r is that at s r
 pub value-moved : {A : Type 0} (R : RingOf A) (E : IsEquality R.same) (G : IsGroup R.same R.zero R.sum R.negative) (P : IsProduct R.same R.product)
-    (L : IsRing R.same R.sum R.product R.one) (s : A) (n m : ℕ) (p moved back powers : List A)
-    → length p ≤ n → length moved ≡ length p → length back ≡ n → ((i : ℕ) → i < n → R.same (get_or back i R.zero) (power R.one R.product s i))
-    → m ≡ length p → powers ≡ take m back → AreRowProducts R (length powers) 1 (λ i. get_or powers i R.zero) p moved
-    → (r : A) → R.same (value_in_ring R moved r) (value_in_ring R p (R.product s r))
-value-moved R E G P L s n m p moved back powers lp lm lb hb hm hp h r =
-    let count : length powers ≡ length p = ap length hp ∙ length-take-le m back (omega (arith, lp, lb, hm)) ∙ hm in
-    value-dilated E G P L r s p moved lm
-    (λ j l. let place : j * 1 + 0 ≡ j = omega arith in
-    let here : R.same (get_or moved (j * 1 + 0) R.zero) (R.product (get_or p (j * 1 + 0) R.zero) (get_or powers j R.zero)) = h j 0 (omega (arith, l, count)) (omega arith) in
-    let entry : get_or powers j R.zero ≡ get_or back j R.zero = ap (λ xs. get_or xs j R.zero) hp ∙ get_or-take m back j R.zero (omega (arith, l, hm)) in
-    E.transitive _ _ _ (rw place at here) (P.respects _ _ _ _ (E.reflexive (get_or p j R.zero)) (rw entry (hb j (omega (arith, l, lp))))))
+    (L : IsRing R.same R.sum R.product R.one) (s ratio : A) (n : ℕ) (p moved : List A) → length p ≡ n → length moved ≡ n → R.same ratio s
+    → AreRowProducts R n 1 (λ i. power R.one R.product ratio i) p moved → (r : A) → R.same (value_in_ring R moved r) (value_in_ring R p (R.product s r))
+value-moved R E G P L s ratio n p moved lp lm h hm r =
+    rw (column_of-one R.zero n moved lm, column_of-one R.zero n p lp) at (value-dilated_column R E G P L s n 1 s ratio p moved h hm 0 (omega arith) r)

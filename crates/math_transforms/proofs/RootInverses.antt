@@ -1,5 +1,5 @@
 -- The inverses of roots of unity.
-use Rattle.std.proofs.Common.{◌≡◌, ◌≢◌, ◌∙◌, ℕ, suc, ◌+◌, ◌≤◌, Bool, true, false, if◌then◌else◌, [], ◌∷◌, refl, sym, ap, add-one, arith}
+use Rattle.std.proofs.Common.{◌≡◌, ◌≢◌, ◌∙◌, ℕ, suc, ◌+◌, ◌<◌, ◌≤◌, Bool, true, false, if◌then◌else◌, [], ◌∷◌, refl, sym, ap, add-one, arith}
 use Rattle.math_theory.specs.Domains.{HasExactOrder}
 use Rattle.math_theory.specs.Laws.{IsEquality, IsGroup, IsProduct, IsRing, IsField}
 use Rattle.math_theory.specs.RootLaws.{HasRootsOfUnity}
@@ -35,3 +35,9 @@ module _ {A : Type 0} {same : A → A → Type 0} {zero_of : A} {sum : A → A �
   level_root-square roots true l h = rw (add-one l) (roots.square l (omega arith))
   level_root-square roots false l h =
       rw (add-one l) (inverse_square-same _ _ _ _ (roots.order (suc l) (omega arith)) (roots.order l (omega arith)) (roots.square l (omega arith)))
+
+  -- the inverse of each root below the greatest is the square of the next
+  pub inverse-tree_squares : {root : ℕ → A} {shift : A} {half : A → A} {greatest : ℕ} → HasRootsOfUnity same zero_of sum product one greatest root shift half → (lg : ℕ) → lg ≤ greatest
+      → (l : ℕ) → l < lg → same (product (inverse (root (suc l))) (inverse (root (suc l)))) (inverse (root l))
+  inverse-tree_squares roots lg within l h =
+      inverse_square-same _ _ _ _ (roots.order (suc l) (omega arith)) (roots.order l (omega arith)) (roots.square l (omega arith))

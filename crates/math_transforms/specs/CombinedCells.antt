@@ -1,10 +1,8 @@
--- Pairs of cells of two halves that are combined, and columns that are transformed.
+-- Pairs of cells of two halves that are combined, and rows in bit-reversed order.
 use Rattle.std.specs.Prelude.{◌≡◌, ℕ, ◌<◌, ◌≤◌, ◌^◌, Bool, if◌then◌else◌, List, slice_index_or}
-use Rattle.std.specs.List.{AllZip}
 use Rattle.math_theory.specs.BitReversal.{bit_reversed}
-use Rattle.math_theory.specs.Transforms.{transform, inverse_transform}
 use Rattle.math_base.specs.Members.{RingOf}
-use Rattle.math_transforms.specs.Matrices.{MatrixOf, column_of, cell_of}
+use Rattle.math_transforms.specs.Matrices.{MatrixOf, cell_of}
 
 module _ {A : Type 0} (R : RingOf A) where
   -- forward the pair a, b becomes a + b w, a - b w, and on the way back a + b, (a - b) w
@@ -20,16 +18,6 @@ module _ {A : Type 0} (R : RingOf A) where
     pub lows_after : (p : ℕ) → last ≤ p → slice_index_or new_lows p R.zero ≡ slice_index_or lows p R.zero
     pub highs_before : (p : ℕ) → p < first → slice_index_or new_highs p R.zero ≡ slice_index_or highs p R.zero
     pub highs_after : (p : ℕ) → last ≤ p → slice_index_or new_highs p R.zero ≡ slice_index_or highs p R.zero
-
-  -- each column of v is same as the transform at w of that column of m
-  abbrev pub AreTransformed : ℕ → A → MatrixOf A → MatrixOf A → Type 0
-  AreTransformed lg w m v =
-      (k : ℕ) → k < m.cols → AllZip R.same (column_of R.zero v k) (transform R.sum R.negative R.product R.one lg w (column_of R.zero m k))
-
-  -- each column of v is same as the inverse transform at w of that column of m
-  abbrev pub AreTransformedBack : ℕ → A → MatrixOf A → MatrixOf A → Type 0
-  AreTransformedBack lg w m v =
-      (k : ℕ) → k < m.cols → AllZip R.same (column_of R.zero v k) (inverse_transform R.sum R.negative R.product R.one lg w (column_of R.zero m k))
 
 -- row i of v is row j of m, where j has the lg bits of i in the opposite order; d stands for a cell that is not there
 abbrev pub AreRowsReversed : {A : Type 0} → A → ℕ → MatrixOf A → MatrixOf A → Type 0

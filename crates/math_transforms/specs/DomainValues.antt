@@ -1,5 +1,5 @@
--- Values of polynomials at the powers of a root, in the columns of a matrix, and tables of these powers.
-use Rattle.std.specs.Prelude.{◌≡◌, ℕ, suc, ◌+◌, ◌<◌, ◌≤◌, ◌^◌, List, length, slice_index_or}
+-- Values of polynomials at the powers of a root, in the columns of a matrix.
+use Rattle.std.specs.Prelude.{◌≡◌, ℕ, ◌<◌, ◌≤◌, ◌^◌, List, length, slice_index_or}
 use Rattle.math_theory.specs.Coefficients.{HaveSameCoefficients}
 use Rattle.math_theory.specs.Powers.{power}
 use Rattle.math_base.specs.Members.{RingOf}
@@ -14,11 +14,6 @@ matrix_of r c xs = record { rows = r; cols = c; cells = xs }
 abbrev pub AreValuesAtPowers : {A : Type 0} → RingOf A → A → MatrixOf A → MatrixOf A → Type 0
 AreValuesAtPowers R w m v =
     (j k : ℕ) → j < m.rows → k < m.cols → R.same (cell_of R.zero v j k) (value_in_ring R (column_of R.zero m k) (power R.one R.product w j))
-
--- there are 2^lg entries, and for each level l below lg, entry 2^l + i is same as power i of root l + 1, where i is below 2^l
-pub record ArePowersByLevel {A : Type 0} (R : RingOf A) (root : ℕ → A) (lg : ℕ) (table : List A) : Type 0 where
-  pub count : length table ≡ 2 ^ lg
-  pub powers : (l i : ℕ) → l < lg → i < 2 ^ l → R.same (slice_index_or table (2 ^ l + i) R.zero) (power R.one R.product (root (suc l)) i)
 
 -- the matrix of one column that has these cells
 abbrev pub one_column : {A : Type 0} → List A → MatrixOf A

@@ -6,5 +6,7 @@ pub mod CosetValues
 pub mod RowProducts
 pub mod MissingPoints
 pub mod CombinedCells
-pub mod LevelTables
 pub mod RootWeights
+pub mod RootTrees
+pub mod TreeLevels
+pub mod Quarters

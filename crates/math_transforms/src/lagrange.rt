@@ -47,9 +47,9 @@ mod points;
 
 use super::columns::EvaluationColumn;
 use super::vanishing_points::VanishingPoints;
-use crate::weights::{first_place, one_at, quotients};
 use indices::{keyed, lg_of_domain, present_points};
 use math_base::algebra::{FieldNTT, Mem};
+use math_base::weights::{first_place, one_at, quotients};
 pub use points::domain_points;
 use points::{differences, gathered, power_minus_one, products, scaled, size, value_at};
 use std::alloc::Global;

@@ -6,12 +6,13 @@
 //! need.
 #![tactic(auto)]
 
+pub mod below;
 pub mod cells;
 pub mod columns;
 pub mod lagrange;
 pub mod row_products;
 pub mod transform;
+pub mod trees;
 pub mod vanishing;
 pub mod vanishing_points;
-pub mod weights;
 pub mod work;

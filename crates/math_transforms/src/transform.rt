@@ -1,20 +1,13 @@
 //! Number theoretic transforms of rows of cells, in place and counted.
 //!
-//! A polynomial p with N = 2^lg coefficients is p(x) = e(x^2) + x o(x^2), where e has its
-//! coefficients of even index and o those of odd index. Let w be a root of unity of order N. The
-//! N / 2 powers of w^2 are the squares of the powers of w, and power i + N / 2 of w is minus power
-//! i. So, with e and o known at the powers of w^2, value i of p is e_i + w^i o_i, and value
-//! i + N / 2 is e_i - w^i o_i. Combining e_i and o_i into these two is a butterfly. There are N / 2
-//! of them, and lg levels: N lg / 2 in all.
+//! The tree of the powers of a root of order 2^lg has them below its first place: there the rows of
+//! values stand in bit-reversed order, in which row i stands at the place whose bits are those of i
+//! in the opposite order. `evaluate_below` and `interpolate_below` lead from coefficients in natural
+//! order to values in that of the tree, and back. Outside of this module both are in natural order,
+//! so the rows of values are put in the other order after the one, and before the other.
 //!
-//! The coefficients of even index lie in the low half of the cells, at each level, where the rows
-//! are in bit-reversed order: row i stands at the place whose bits are those of i in the opposite
-//! order. The rows are put in this order first, so that both the coefficients and the values are in
-//! natural order outside of this module.
-//!
-//! The way back undoes the levels from the last to the first: a + b and (a - b) w^-i are twice what
-//! a and b were made of. No level halves a cell, so that in the end each cell is multiplied once by
-//! 1 / N.
+//! The way back gives 2^lg times the coefficients, so that in the end each cell is multiplied once
+//! by 1 / 2^lg.
 
 ghost use Rattle.std.specs.Prelude.{
   ◌≡◌,
@@ -35,28 +28,21 @@ ghost use Rattle.std.specs.Prelude.{
 };
 ghost use Rattle.std.specs.Int.{IsPowerOfTwo};
 ghost use Rattle.math_theory.specs.Powers.{power};
-ghost use Rattle.math_transforms.specs.CombinedCells.{AreTransformed, AreTransformedBack};
 ghost use Rattle.math_transforms.specs.CosetValues.{AreMultiplesAtPowers};
 ghost use Rattle.math_transforms.specs.CountedWork.{AddsAtMost};
-ghost use Rattle.math_transforms.specs.DomainValues.{
-  matrix_of,
-  AreValuesAtPowers,
-  ArePowersByLevel,
-};
+ghost use Rattle.math_transforms.specs.DomainValues.{matrix_of, AreValuesAtPowers};
+ghost use Rattle.math_transforms.specs.RootTrees.{IsTreeOf};
 
-mod butterflies;
+pub(crate) mod butterflies;
 pub mod coset;
-mod four;
-mod order;
-mod table;
+pub mod order;
 
+use super::below::{evaluate_below, interpolate_below};
+use super::trees::domain_tree;
 use super::work::Work;
-use butterflies::{combine_halves, combine_pair};
-use four::{transform_four, untransform_four};
 use math_base::algebra::{Field, FieldNTT, Mem, Multiplicative, Object, Ring};
 use order::reverse_rows;
 use std::alloc::Global;
-use table::powers_by_level;
 
 /// The lg of a power of two.
 pub fn lg_of(count: usize) -> u8
@@ -75,25 +61,25 @@ pub fn size_of(lg: u8) -> usize
     1 << lg
 }
 
-/// The table for `evaluate_rows` at 2^lg rows: 2^lg entries, the powers of the roots of all levels.
+/// The table for `evaluate_rows` at 2^lg rows: the tree of the powers of the root, of 2^lg entries.
 pub fn evaluation_table<F: FieldNTT>(alloc: Global, lg: u8) -> Mem<Vec<F>>
     requires domain { lg ≤ F.MAX_LG_ROOT_ORDER }
     requires small { lg < 64 }
-    ensures { IfOk result (λ table. ArePowersByLevel F.Ring F.root lg table.items) }
+    ensures { IfOk result (λ table. IsTreeOf F.Ring F.root F.one lg table.items) }
 {
-    let table = powers_by_level::<F, true>(alloc, lg)?;
+    let table = domain_tree::<F, true>(alloc, lg)?;
     Ok(table)
 }
 
-/// The table for `interpolate_rows` at 2^lg rows: 2^lg entries, the powers of the inverses of the
-/// roots of all levels.
+/// The table for `interpolate_rows` at 2^lg rows: the tree of the powers of the inverse of the root,
+/// of 2^lg entries.
 pub fn interpolation_table<F: FieldNTT>(alloc: Global, lg: u8) -> Mem<Vec<F>>
     requires domain { lg ≤ F.MAX_LG_ROOT_ORDER }
     requires small { lg < 64 }
     ensures { IfOk result
-        (λ table. ArePowersByLevel F.Ring (λ l. F.inverse (F.root l)) lg table.items) }
+        (λ table. IsTreeOf F.Ring (λ l. F.inverse (F.root l)) F.one lg table.items) }
 {
-    let table = powers_by_level::<F, false>(alloc, lg)?;
+    let table = domain_tree::<F, false>(alloc, lg)?;
     Ok(table)
 }
 
@@ -112,7 +98,7 @@ pub fn evaluate_rows<F: FieldNTT>(
     requires domain { lg ≤ F.MAX_LG_ROOT_ORDER }
     requires small { lg < 64 }
     requires size { length cells.old ≡ 2 ^ lg * cols }
-    requires table { ArePowersByLevel F.Ring F.root lg table.now }
+    requires table { IsTreeOf F.Ring F.root F.one lg table.now }
     requires room { 2 * work.old.butterflies + cols * 2 ^ lg * lg < 2 ^ 129 }
     ensures size { length cells.new ≡ length cells.old }
     ensures values { OnOk result (AreValuesAtPowers F.Ring (F.root lg)
@@ -120,10 +106,11 @@ pub fn evaluate_rows<F: FieldNTT>(
     ensures counted { OnOk result
         (2 * work.new.butterflies ≡ 2 * work.old.butterflies + cols * 2 ^ lg * lg) }
     ensures bounded { AddsAtMost (cols * 2 ^ lg * lg) work.old work.new }
+    ensures refused { OnErr result (work.old.butterflies < work.new.butterflies) }
     ensures never { IsTrue F.NEVER_REFUSES → IsOk result }
 {
+    evaluate_below(alloc, cells, cols, lg, 1, true, table, work)?;
     reverse_rows(cells, cols, lg);
-    transform_halves(alloc, cells, cols, lg, table, work)?;
     Ok(())
 }
 
@@ -142,7 +129,7 @@ pub fn interpolate_rows<F: FieldNTT>(
     requires domain { lg ≤ F.MAX_LG_ROOT_ORDER }
     requires small { lg < 64 }
     requires size { length cells.old ≡ 2 ^ lg * cols }
-    requires table { ArePowersByLevel F.Ring (λ l. F.inverse (F.root l)) lg table.now }
+    requires table { IsTreeOf F.Ring (λ l. F.inverse (F.root l)) F.one lg table.now }
     requires room { 2 * work.old.butterflies + cols * 2 ^ lg * lg < 2 ^ 129 }
     ensures size { length cells.new ≡ length cells.old }
     ensures values { OnOk result (AreValuesAtPowers F.Ring (F.root lg)
@@ -172,7 +159,7 @@ pub fn interpolate_multiples<F: FieldNTT>(
     requires domain { lg ≤ F.MAX_LG_ROOT_ORDER }
     requires small { lg < 64 }
     requires size { length cells.old ≡ 2 ^ lg * cols }
-    requires table { ArePowersByLevel F.Ring (λ l. F.inverse (F.root l)) lg table.now }
+    requires table { IsTreeOf F.Ring (λ l. F.inverse (F.root l)) F.one lg table.now }
     requires room { 2 * work.old.butterflies + cols * 2 ^ lg * lg < 2 ^ 129 }
     ensures size { length cells.new ≡ length cells.old }
     ensures values { OnOk result (AreMultiplesAtPowers F.Ring (F.root lg) lg
@@ -180,99 +167,14 @@ pub fn interpolate_multiples<F: FieldNTT>(
     ensures counted { OnOk result
         (2 * work.new.butterflies ≡ 2 * work.old.butterflies + cols * 2 ^ lg * lg) }
     ensures bounded { AddsAtMost (cols * 2 ^ lg * lg) work.old work.new }
+    ensures refused { OnErr result (work.old.butterflies < work.new.butterflies) }
     ensures never { IsTrue F.NEVER_REFUSES → IsOk result }
 {
-    untransform_halves(alloc, cells, cols, lg, table, work)?;
+    if lg == 0 {
+        return Ok(());
+    }
     reverse_rows(cells, cols, lg);
-    Ok(())
-}
-
-/// Transforms both halves, and combines them.
-fn transform_halves<F: FieldNTT>(
-    alloc: Global,
-    cells: &mut [F],
-    cols: usize,
-    lg: u8,
-    table: &[F],
-    work: &mut Work,
-) -> Mem<()>
-    requires domain { lg ≤ F.MAX_LG_ROOT_ORDER }
-    requires small { lg < 64 }
-    requires size { length cells.old ≡ 2 ^ lg * cols }
-    requires table { ArePowersByLevel F.Ring F.root lg table.now }
-    requires room { 2 * work.old.butterflies + cols * 2 ^ lg * lg < 2 ^ 129 }
-    ensures size { length cells.new ≡ length cells.old }
-    ensures values { OnOk result (AreTransformed F.Ring lg (F.root lg)
-        (matrix_of (2 ^ lg) cols cells.old) (matrix_of (2 ^ lg) cols cells.new)) }
-    ensures counted { OnOk result
-        (2 * work.new.butterflies ≡ 2 * work.old.butterflies + cols * 2 ^ lg * lg) }
-    ensures bounded { AddsAtMost (cols * 2 ^ lg * lg) work.old work.new }
-    ensures refused { OnErr result (work.old.butterflies < work.new.butterflies) }
-    ensures never { IsTrue F.NEVER_REFUSES → IsOk result }
-{
-    if lg == 0 {
-        return Ok(());
-    }
-    // Without these two, most calls would be for few cells of such a column.
-    if lg == 1 && cols == 1 {
-        combine_pair::<F, true>(alloc, cells, &table[1], work)?;
-        return Ok(());
-    }
-    if lg == 2 && cols == 1 {
-        transform_four(alloc, cells, table, work)?;
-        return Ok(());
-    }
-    let half = size_of(lg - 1);
-    let (low, high) = cells.split_at_mut(half * cols);
-    let (below, powers) = table.split_at(half);
-    transform_halves(alloc, low, cols, lg - 1, below, work)?;
-    transform_halves(alloc, high, cols, lg - 1, below, work)?;
-    combine_halves::<F, true>(alloc, low, high, cols, powers, work)?;
-    Ok(())
-}
-
-/// Undoes the combining of both halves, and then the transform of each, but for a factor of two a
-/// level.
-fn untransform_halves<F: FieldNTT>(
-    alloc: Global,
-    cells: &mut [F],
-    cols: usize,
-    lg: u8,
-    table: &[F],
-    work: &mut Work,
-) -> Mem<()>
-    requires domain { lg ≤ F.MAX_LG_ROOT_ORDER }
-    requires small { lg < 64 }
-    requires size { length cells.old ≡ 2 ^ lg * cols }
-    requires table { ArePowersByLevel F.Ring (λ l. F.inverse (F.root l)) lg table.now }
-    requires room { 2 * work.old.butterflies + cols * 2 ^ lg * lg < 2 ^ 129 }
-    ensures size { length cells.new ≡ length cells.old }
-    ensures values { OnOk result (AreTransformedBack F.Ring lg (F.inverse (F.root lg))
-        (matrix_of (2 ^ lg) cols cells.old) (matrix_of (2 ^ lg) cols cells.new)) }
-    ensures counted { OnOk result
-        (2 * work.new.butterflies ≡ 2 * work.old.butterflies + cols * 2 ^ lg * lg) }
-    ensures bounded { AddsAtMost (cols * 2 ^ lg * lg) work.old work.new }
-    ensures refused { OnErr result (work.old.butterflies < work.new.butterflies) }
-    ensures never { IsTrue F.NEVER_REFUSES → IsOk result }
-{
-    if lg == 0 {
-        return Ok(());
-    }
-    // Without these two, most calls would be for few cells of such a column.
-    if lg == 1 && cols == 1 {
-        combine_pair::<F, false>(alloc, cells, &table[1], work)?;
-        return Ok(());
-    }
-    if lg == 2 && cols == 1 {
-        untransform_four(alloc, cells, table, work)?;
-        return Ok(());
-    }
-    let half = size_of(lg - 1);
-    let (low, high) = cells.split_at_mut(half * cols);
-    let (below, powers) = table.split_at(half);
-    combine_halves::<F, false>(alloc, low, high, cols, powers, work)?;
-    untransform_halves(alloc, low, cols, lg - 1, below, work)?;
-    untransform_halves(alloc, high, cols, lg - 1, below, work)?;
+    interpolate_below(alloc, cells, cols, lg, 1, true, table, work)?;
     Ok(())
 }
 

@@ -34,7 +34,6 @@ ghost use Rattle.math_theory.specs.Powers.{power};
 ghost use Rattle.math_theory.specs.Recovery.{count_true};
 ghost use Rattle.math_base.specs.Polynomials.{value_in_ring};
 ghost use Rattle.math_transforms.specs.CountedWork.{AddsAtMost, AddsWithin};
-ghost use Rattle.math_transforms.specs.DomainValues.{ArePowersByLevel};
 ghost use Rattle.math_transforms.specs.MissingPoints.{
   count_false,
   every,
@@ -46,12 +45,14 @@ ghost use Rattle.math_transforms.specs.MissingPoints.{
   IsVanishing,
   VanishesAtFalse,
 };
+ghost use Rattle.math_transforms.specs.RootTrees.{IsTreeOf};
 
 use super::cells::{copies, filled_up};
-use super::row_products::{multiply_row, multiply_rows};
+use super::row_products::{dilate_rows, multiply_row, multiply_rows};
 use super::transform::{
     evaluate_rows, evaluation_table, interpolate_rows, interpolation_table, size_of,
 };
+use super::trees::level_root;
 use super::vanishing_points::VanishingPoints;
 use super::work::Work;
 use math_base::algebra::{Additive, Field, FieldNTT, Mem, Multiplicative, Object, Ring};
@@ -287,9 +288,9 @@ fn multiply_values<F: FieldNTT>(
     requires small { lg < 64 }
     requires left { length left.old ≡ 2 ^ lg }
     requires right { length right.old ≡ 2 ^ lg }
-    requires evaluation { ArePowersByLevel F.Ring F.root lg evaluation.now }
-    requires interpolation { ArePowersByLevel F.Ring
-        (λ l. F.inverse (F.root l)) lg interpolation.now }
+    requires evaluation { IsTreeOf F.Ring F.root F.one lg evaluation.now }
+    requires interpolation { IsTreeOf F.Ring
+        (λ l. F.inverse (F.root l)) F.one lg interpolation.now }
     requires room { 2 * work.old.butterflies + 3 * 2 ^ lg * lg < 2 ^ 129 }
     ensures size { length left.new ≡ length left.old }
     ensures values { OnOk result
@@ -320,9 +321,9 @@ fn multiplied<F: FieldNTT>(
     requires domain { lg ≤ F.MAX_LG_ROOT_ORDER }
     requires small { lg < 64 }
     requires few { vec_len left + vec_len right ≤ 2 ^ lg }
-    requires evaluation { ArePowersByLevel F.Ring F.root lg evaluation.now }
-    requires interpolation { ArePowersByLevel F.Ring
-        (λ l. F.inverse (F.root l)) lg interpolation.now }
+    requires evaluation { IsTreeOf F.Ring F.root F.one lg evaluation.now }
+    requires interpolation { IsTreeOf F.Ring
+        (λ l. F.inverse (F.root l)) F.one lg interpolation.now }
     requires room { 2 * work.old.butterflies + 3 * 2 ^ lg * lg < 2 ^ 129 }
     ensures length { IfOk result (λ p. vec_len p ≤ 2 ^ lg) }
     ensures values { IfOk result (λ p. (r : F) → F.same (value_in_ring F.Ring p.items r)
@@ -352,6 +353,20 @@ fn multiplied<F: FieldNTT>(
     Ok(out)
 }
 
+/// The polynomial at X / w, w being the root of order 2^lg: its roots are w times those of before.
+fn with_roots_moved<F: FieldNTT>(alloc: Global, coefficients: Vec<F>, lg: u8) -> Mem<Vec<F>>
+    requires { lg ≤ F.MAX_LG_ROOT_ORDER }
+    ensures length { IfOk result (λ p. vec_len p ≡ vec_len coefficients) }
+    ensures values { IfOk result (λ p. (r : F) → F.same (value_in_ring F.Ring p.items r)
+        (value_in_ring F.Ring coefficients.items (F.product (F.inverse (F.root lg)) r))) }
+{
+    let mut moved = coefficients;
+    let count = moved.len();
+    let back = level_root::<F, false>(alloc, lg)?;
+    dilate_rows(alloc, &mut moved, 1, count, &back)?;
+    Ok(moved)
+}
+
 /// p(X) q(X / w), up to its sign, for pieces p and q of 2^(lg - 1) points, w being the root of
 /// order 2^lg.
 ///
@@ -372,9 +387,9 @@ fn merged<F: FieldNTT>(
     requires positive { 0 < lg }
     requires left { HasAtMost (2 ^ (lg - 1)) left }
     requires right { HasAtMost (2 ^ (lg - 1)) right }
-    requires evaluation { ArePowersByLevel F.Ring F.root lg evaluation.now }
-    requires interpolation { ArePowersByLevel F.Ring
-        (λ l. F.inverse (F.root l)) lg interpolation.now }
+    requires evaluation { IsTreeOf F.Ring F.root F.one lg evaluation.now }
+    requires interpolation { IsTreeOf F.Ring
+        (λ l. F.inverse (F.root l)) F.one lg interpolation.now }
     requires room { 2 * work.old.butterflies + 3 * 2 ^ lg * lg < 2 ^ 129 }
     ensures length { IfOk result (λ piece. HasAtMost (2 ^ lg) piece) }
     ensures merged { IfOk result (λ piece. IsMerged F.Ring (F.inverse (F.root lg))
@@ -412,10 +427,7 @@ fn merged<F: FieldNTT>(
             }
         },
         Piece::Somewhere(q) => {
-            let mut moved = q;
-            let (_, back) = interpolation.split_at(half);
-            let (powers, _) = back.split_at(moved.len());
-            multiply_rows(alloc, &mut moved, 1, powers)?;
+            let moved = with_roots_moved(alloc, q, lg)?;
             match left {
                 Piece::Nowhere => Ok(Piece::Somewhere(moved)),
                 Piece::Everywhere => {
@@ -453,9 +465,9 @@ fn tree<F: FieldNTT>(
     requires start { start < stride }
     requires covers { 2 ^ lg * stride ≡ length points.now }
     requires fits { length points.now < 2 ^ 64 }
-    requires evaluation { ArePowersByLevel F.Ring F.root lg evaluation.now }
-    requires interpolation { ArePowersByLevel F.Ring
-        (λ l. F.inverse (F.root l)) lg interpolation.now }
+    requires evaluation { IsTreeOf F.Ring F.root F.one lg evaluation.now }
+    requires interpolation { IsTreeOf F.Ring
+        (λ l. F.inverse (F.root l)) F.one lg interpolation.now }
     requires room { 2 * work.old.butterflies + 2 ^ lg * lg * (3 * lg - 1) < 2 ^ 129 }
     requires product_room { work.old.root_products + 128 * 2 ^ lg + 2 ^ 16 < 2 ^ 128 }
     ensures length { IfOk result (λ piece. HasAtMost (2 ^ lg) piece) }
@@ -517,9 +529,9 @@ pub fn vanishing_coefficients<F: FieldNTT>(
     requires small { lg < 64 }
     requires points { length points.now ≡ 2 ^ lg }
     requires some { 0 < count_true points.now }
-    requires evaluation { ArePowersByLevel F.Ring F.root lg evaluation.now }
-    requires interpolation { ArePowersByLevel F.Ring
-        (λ l. F.inverse (F.root l)) lg interpolation.now }
+    requires evaluation { IsTreeOf F.Ring F.root F.one lg evaluation.now }
+    requires interpolation { IsTreeOf F.Ring
+        (λ l. F.inverse (F.root l)) F.one lg interpolation.now }
     requires room { work.old.butterflies ≤ 2 ^ 127 }
     requires product_room { work.old.root_products ≤ 2 ^ 127 }
     ensures length { IfOk result (λ p. vec_len p ≡ 2 ^ lg) }

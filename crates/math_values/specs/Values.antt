@@ -1,14 +1,9 @@
 -- Powers of an element of the Goldilocks field, and words as elements of it.
-use Rattle.std.specs.Prelude.{◌≡◌, ℕ, ◌<◌, List, length, map, slice_index_or, All, None, true}
+use Rattle.std.specs.Prelude.{◌≡◌, ℕ, ◌<◌, List, length, map, slice_index_or, All}
 use Rattle.math_theory.specs.Powers.{power}
 use Rattle.math_numbers.specs.Goldilocks.{P}
 use Rattle.math_base.specs.declared.fields.goldilocks.F.{F}
 use Rattle.math_base.specs.Elements.{residue, same, sum, product, negative}
-use Rattle.math_base.specs.Members.{RingOf}
-
--- the operations of the Goldilocks field
-abbrev pub goldilocks : RingOf F
-goldilocks = record { product = product; debug_output = λ a. None; same = same; NEVER_REFUSES = true; zero = residue 0; sum = sum; negative = negative; one = residue 1 }
 
 -- each word is below P
 abbrev pub AreElements : List ℕ → Type 0

@@ -2,9 +2,9 @@
 
 ghost use Rattle.std.specs.Prelude.{◌≡◌, ◌↔◌, ◌<◌, ◌≤◌, IsTrue, All, length, map};
 ghost use Rattle.math_numbers.specs.Goldilocks.{P};
-ghost use Rattle.math_base.specs.Elements.{residue};
+ghost use Rattle.math_base.specs.Elements.{residue, goldilocks};
 ghost use Rattle.math_base.specs.Polynomials.{value_in_ring};
-ghost use Rattle.math_values.specs.Values.{goldilocks, ArePowersOf};
+ghost use Rattle.math_values.specs.Values.{ArePowersOf};
 
 use crate::products::products;
 use crate::words::Word;

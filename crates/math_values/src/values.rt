@@ -10,9 +10,9 @@
 ghost use Rattle.std.specs.Prelude.{◌≡◌, ◌↔◌, ◌<◌, ◌≤◌, IfOk, IfSome, IsTrue, None, All, length, map};
 ghost use Rattle.math_numbers.specs.Goldilocks.{P};
 ghost use Rattle.math_theory.specs.Powers.{power};
-ghost use Rattle.math_base.specs.Elements.{residue, product};
+ghost use Rattle.math_base.specs.Elements.{residue, product, goldilocks};
 ghost use Rattle.math_base.specs.Polynomials.{value_in_ring};
-ghost use Rattle.math_values.specs.Values.{goldilocks, elements, AreElements, ArePowersOf};
+ghost use Rattle.math_values.specs.Values.{elements, AreElements, ArePowersOf};
 
 use crate::blocks::block_value;
 use crate::words::Word;

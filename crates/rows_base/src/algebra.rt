@@ -1,5 +1,7 @@
 //! Operations of a field.
 
+ghost use Rattle.std.specs.Prelude.{◌≤◌, ◌⊎◌};
+
 use crate::answer::{Answer, are_equal, put, put_firsts};
 use crate::fault::Fault;
 use crate::refusals::{Breach, begin, end, tell};
@@ -41,6 +43,7 @@ fn run_others<R: Element>(
     let done = match call {
         "powers" => progression(alloc, arguments, answer),
         "root_of_unity" => root(alloc, arguments, answer),
+        "times_root_of_four" => by_root_of_four(alloc, arguments, answer),
         "equals" => same(alloc, arguments, answer),
         "parts" => parts(alloc, arguments, answer),
         "parts_add" | "parts_sub" | "parts_mul" => parts_of_two(alloc, call, arguments, answer),
@@ -262,6 +265,39 @@ fn root<R: Element>(alloc: Global, arguments: &str, answer: &mut Answer<R>) -> R
         return Err(Fault::OutOfRange("lg above 255"));
     }
     put_root(alloc, lg as u8, answer).map_err(Fault::Memory)
+}
+
+/// Adds the product of x and `root`.
+fn put_multiple<R: Element>(alloc: Global, x: &R, root: &R, answer: &mut Answer<R>) -> Mem<()>
+    requires order { 2 ≤ R.MAX_LG_ROOT_ORDER }
+    requires root { R.same root.now (R.root 2) ⊎ R.same root.now (R.inverse (R.root 2)) }
+{
+    let mut out = x.clone(alloc)?;
+    let given = begin(alloc, &out);
+    let done = out.times_root_of_four(alloc, root);
+    end(alloc, given, &out, done.is_err());
+    done?;
+    answer.element(out)
+}
+
+/// Adds the products of x and the root of order four, and of x and the inverse of that root.
+fn put_multiples<R: Element>(alloc: Global, x: &R, answer: &mut Answer<R>) -> Mem<()> {
+    if let Some(root) = R::root_of_unity(alloc, 2)? {
+        let inverse = root.inv(alloc)?;
+        put_multiple(alloc, x, &root, answer)?;
+        put_multiple(alloc, x, &inverse, answer)?;
+    }
+    Ok(())
+}
+
+/// `times_root_of_four A`: A times the root of order four, and A times the inverse of that root.
+fn by_root_of_four<R: Element>(
+    alloc: Global,
+    arguments: &str,
+    answer: &mut Answer<R>,
+) -> Result<(), Fault> {
+    let x = element::<R>(alloc, arguments)?;
+    put_multiples(alloc, &x, answer).map_err(Fault::Memory)
 }
 
 /// `equals A ..`: for each element the place of the first that it equals.

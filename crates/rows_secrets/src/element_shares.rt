@@ -1,13 +1,16 @@
 //! Secrets that are elements of a field, in shares.
 
-use math_base::algebra::{Mem, Random};
+use math_base::algebra::{Mem, Random, msm_naive};
 use math_samples::elements::Element;
 use math_samples::sources::Listed;
 use rows_base::answer::{Answer, put};
 use rows_base::fault::Fault;
 use rows_base::refusals::{begin, end};
 use rows_base::words::{element, numbers, parted, short};
-use shared_secret::{CombineError, Corrected, DealError, Share, combine, combine_corrected, deal};
+use shared_secret::{
+    CombineError, Corrected, DealError, Share, Weights, combine, combine_corrected, deal,
+    secret_of, weigh,
+};
 use std::alloc::{AllocError, Global};
 
 /// Runs a call of this module; `false` where it is none.
@@ -21,6 +24,8 @@ pub fn run<R: Element + Random>(
         "deal" => deal_shares(alloc, arguments, answer),
         "combine" => combine_shares(alloc, arguments, answer),
         "combine_corrected" => correct_shares(alloc, arguments, answer),
+        "weigh" => weigh_shares(alloc, arguments, answer),
+        "secret_of" => weighed_secret(alloc, arguments, answer),
         _ => return Ok(false),
     };
     done.and(Ok(true))
@@ -213,4 +218,111 @@ fn correct_shares<R: Element>(
     let t = short(t)?;
     let shares = shares_in::<R>(alloc, shares)?;
     put_found(alloc, t, &shares, answer).map_err(Fault::Memory)
+}
+
+/// Adds elements.
+fn put_elements<R: Element>(elements: Vec<R>, answer: &mut Answer<R>) -> Mem<()> {
+    for x in elements {
+        answer.element(x)?;
+    }
+    Ok(())
+}
+
+/// Adds the weights for the secret, and after a bar those for each further share.
+fn put_weights<R: Element>(weights: Weights<R>, answer: &mut Answer<R>) -> Mem<()> {
+    let Weights { secret, further } = weights;
+    put_elements(secret, answer)?;
+    for weights in further {
+        answer.text.push_str(" |")?;
+        put_elements(weights, answer)?;
+    }
+    Ok(())
+}
+
+/// Adds the weights of shares, or why they are refused.
+fn put_weighed<R: Element>(
+    alloc: Global,
+    t: u32,
+    shares: &[Share<R>],
+    answer: &mut Answer<R>,
+) -> Mem<()> {
+    let given = begin(alloc, &shares);
+    let weights = weigh(alloc, t, shares);
+    end(
+        alloc,
+        given,
+        &shares,
+        matches!(weights, Err(CombineError::Memory(_))),
+    );
+    match weights {
+        Ok(weights) => put_weights(weights, answer),
+        Err(error) => put_uncombined(&mut answer.text, &error),
+    }
+}
+
+/// `weigh T @ INDEX:VALUE ..`: the weights by which the first T values give the secret, and after
+/// a bar those by which they give each further value.
+fn weigh_shares<R: Element>(
+    alloc: Global,
+    arguments: &str,
+    answer: &mut Answer<R>,
+) -> Result<(), Fault> {
+    let (t, shares) = parted(arguments, '@')?;
+    let t = short(t)?;
+    let shares = shares_in::<R>(alloc, shares)?;
+    put_weighed(alloc, t, &shares, answer).map_err(Fault::Memory)
+}
+
+/// Adds the secret that values give by weights, or `none`.
+fn put_secret<R: Element>(
+    alloc: Global,
+    weights: &Weights<R>,
+    values: &[R],
+    answer: &mut Answer<R>,
+) -> Mem<()> {
+    let given = begin(alloc, &values);
+    let secret = secret_of(
+        alloc,
+        weights,
+        values,
+        |xs: &[R], ys: &[R]| msm_naive(alloc, xs, ys),
+    );
+    end(alloc, given, &values, secret.is_err());
+    match secret? {
+        Some(secret) => answer.element(secret),
+        None => answer.text.push_str(" none"),
+    }
+}
+
+/// Adds the secret that the values of shares give by the weights of these shares, or `none`, or why
+/// they are refused.
+fn put_secret_of<R: Element>(
+    alloc: Global,
+    t: u32,
+    shares: Vec<Share<R>>,
+    answer: &mut Answer<R>,
+) -> Mem<()> {
+    match weigh(alloc, t, &shares) {
+        Ok(weights) => {
+            let mut values = Vec::with_capacity(alloc, shares.len())?;
+            for share in shares {
+                values.push(share.value)?;
+            }
+            put_secret(alloc, &weights, &values, answer)
+        }
+        Err(error) => put_uncombined(&mut answer.text, &error),
+    }
+}
+
+/// `secret_of T @ INDEX:VALUE ..`: the secret of these values by the weights of these shares, or
+/// `none`.
+fn weighed_secret<R: Element>(
+    alloc: Global,
+    arguments: &str,
+    answer: &mut Answer<R>,
+) -> Result<(), Fault> {
+    let (t, shares) = parted(arguments, '@')?;
+    let t = short(t)?;
+    let shares = shares_in::<R>(alloc, shares)?;
+    put_secret_of(alloc, t, shares, answer).map_err(Fault::Memory)
 }

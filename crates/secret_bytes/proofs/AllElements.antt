@@ -5,11 +5,10 @@ use Rattle.std.proofs.lemmas.List.{length-map}
 use Rattle.std.proofs.lemmas.List.FromFn.{get_or-range_with_len, length-range_with_len}
 use Rattle.math_numbers.specs.Goldilocks.{P}
 use Rattle.math_base.specs.declared.fields.goldilocks.F.{F}
-use Rattle.math_base.specs.Elements.{number, residue, same}
+use Rattle.math_base.specs.Elements.{number, residue, same, goldilocks}
 use Rattle.math_base.proofs.ElementNumbers.{residue-number}
 use Rattle.shared_secret.specs.Explanations.{AreAllElements}
 use Rattle.shared_secret.proofs.ListsOfElements.{contains-map, pairs-map}
-use Rattle.secret_bytes.specs.Columns.{goldilocks}
 
 number-at : (n i d : ℕ) → i < n → get_or (range_with_len 0 n) i d ≡ i
 number-at n i d l = let e : 0 + i ≡ i = omega arith in get_or-range_with_len 0 n i d l ∙ e

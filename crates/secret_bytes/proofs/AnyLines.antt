@@ -17,6 +17,7 @@ use Rattle.secret_bytes.specs.CombiningLaws.{AnyLinesCombine, CombineToAlone, Is
 use Rattle.secret_bytes.specs.Deals.{AreDealtBytes, IsOfDeal}
 use Rattle.secret_bytes.specs.Settled.{firsts, firsts_after, has_index}
 use Rattle.secret_bytes.specs.Texts.{AreReadAs, IsDueReading, IsFirstNoLine, IsBlank, IsLineOf, text_lines}
+use Rattle.secret_bytes.specs.declared.line.LineError.{LineError}
 use Rattle.secret_bytes.specs.declared.text.LineFault.{LineFault}
 use Rattle.secret_bytes.proofs.AnyShares.{any-shares, number_of-index}
 use Rattle.secret_bytes.proofs.TextLines.{line-fits, read-same}
@@ -93,8 +94,8 @@ any-lines bytes text t n before after dealt chosen numbers some enough small few
     admitted : (s : SecretShare) → Contains dealt s → AdmitsShare (2 ^ 20) s
     admitted s h = dealt-admitted bytes t n before after dealt enough small few D s h
 
-    no-fault : (number : ℕ) → IsFirstNoLine text number → ⊥
-    no-fault number f = at (line-fits (Contains dealt) 1 f.before f.line f.after chosen numbers (rw f.parts at of_dealt) within)
+    no-fault : (number : ℕ) (why : LineError) → IsFirstNoLine text number why → ⊥
+    no-fault number why f = at (line-fits (Contains dealt) 1 f.before f.line f.after chosen numbers (rw f.parts at of_dealt) within)
       where
         at : (IsBlank f.line ⊎ ((s : SecretShare) × Contains dealt s × IsLineOf f.line s)) → ⊥
         at (inl b) = f.none.0 b
@@ -102,7 +103,7 @@ any-lines bytes text t n before after dealt chosen numbers some enough small few
 
     faults : (fault : LineFault) → IsDueReading text fault → line.IsMemory fault.why
     faults fault (inl m) = m
-    faults fault (inr f) = absurd (no-fault fault.number f)
+    faults fault (inr f) = absurd (no-fault fault.number fault.why f)
 
     combine : (shares : List SecretShare) (places : List ℕ) → AreReadAs text shares places → CombineToAlone bytes shares
     combine shares places r =

@@ -11,7 +11,7 @@ use Rattle.math_theory.proofs.polynomials.Horner.{value_over-at_zero}
 use Rattle.math_theory.specs.Interpolation.{AreApart}
 use Rattle.math_base.specs.declared.fields.goldilocks.F.{F}
 use Rattle.math_base.specs.ElementLaws.{commutes, equality, group, ring}
-use Rattle.math_base.specs.Elements.{number, residue, same}
+use Rattle.math_base.specs.Elements.{number, residue, same, goldilocks}
 use Rattle.math_base.specs.Polynomials.{value_in_ring}
 use Rattle.math_base.proofs.ElementNumbers.{same_number}
 use Rattle.secret_bytes.specs.declared.share.SecretShare.{SecretShare}
@@ -19,7 +19,7 @@ use Rattle.secret_bytes.specs.SecretShares.{AreSameShares}
 use Rattle.shared_secret.specs.declared.shares.Share.{Share}
 use Rattle.shared_secret.specs.CorrectedShares.{AreWithinRadius}
 use Rattle.shared_secret.specs.Shares.{point, points}
-use Rattle.secret_bytes.specs.Columns.{column, goldilocks, share_of}
+use Rattle.secret_bytes.specs.Columns.{column, share_of}
 use Rattle.secret_bytes.specs.Combined.{AreCombined, AreRecovered, Fits, IsDueCombining, IsWrong, others}
 use Rattle.secret_bytes.specs.CombiningLaws.{AnySharesCombine, IsMemory, IsSameAsOne}
 use Rattle.secret_bytes.specs.Deals.{AreDealtBytes, AreSampled, IsOfDeal}
@@ -46,7 +46,7 @@ recovered-once t width shares all others wrong ws r m =
     (a.constant ∙ values-same a.polynomial b.polynomial (residue 0) (b.only a.polynomial a.within) ∙ sym b.constant))
 
 -- polynomial j has t coefficients, the first of which is element j
-sampled-at : (t : ℕ) (before after : Stream) (all : List F) (ps : List (List F)) → AreSampled t before after all ps → (j : ℕ) → j < length ps
+pub sampled-at : (t : ℕ) (before after : Stream) (all : List F) (ps : List (List F)) → AreSampled t before after all ps → (j : ℕ) → j < length ps
     → (length (get_or ps j []) ≡ t) × (slice_get (get_or ps j []) 0 ≡ Some (get_or all j (residue 0)))
 sampled-at t before after [] [] h j l = absurd (omega (arith, l))
 sampled-at t before after [] (p ∷ ps) h j l = absurd h
@@ -55,7 +55,7 @@ sampled-at t before after (a ∷ all) (p ∷ ps) h zero l = (h.1.count, h.1.cons
 sampled-at t before after (a ∷ all) (p ∷ ps) h (suc j) l = sampled-at t h.0 after all ps h.2 j (omega (arith, l))
 
 -- the first coefficient is the value at zero
-constant-at_zero : (p : List F) (a : F) → slice_get p 0 ≡ Some a → same a (value_in_ring goldilocks p (residue 0))
+pub constant-at_zero : (p : List F) (a : F) → slice_get p 0 ≡ Some a → same a (value_in_ring goldilocks p (residue 0))
 constant-at_zero p a e =
     ap number (sym (get_or_from_slice_get p 0 a (residue 0) e)) ∙ sym (value_over-at_zero equality group (ring_is_module equality group commutes ring) p)
 

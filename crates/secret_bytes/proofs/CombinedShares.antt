@@ -9,7 +9,7 @@ use Rattle.math_base.specs.declared.fields.goldilocks.F.{F}
 use Rattle.secret_bytes.specs.declared.share.SecretShare.{SecretShare}
 use Rattle.secret_bytes.specs.Combined.{AreOfOneDeal, IsDueCombining}
 use Rattle.secret_bytes.specs.Passes.{AreReady, IsDueRecovering, IsPlain}
-use Rattle.secret_bytes.specs.Settled.{IsFirstFault, StandBelow, firsts, firsts_after, has_index}
+use Rattle.secret_bytes.specs.Settled.{IsDueSettling, StandBelow, firsts, firsts_after, has_index}
 use Rattle.secret_bytes.specs.declared.error.CombineError.{CombineError}
 use Rattle.secret_bytes.specs.declared.error.CombineError.TheVariants.{AnotherDeal, AnotherLength, AnotherThreshold, Changed, Memory, NoShare, Repeated, TooFew, TooManyWrong, Unsound}
 
@@ -58,7 +58,7 @@ firsts-ready t identity width shares stand small enough = record {
 
 -- why shares do not stand is why they are not combined
 pub due-fault : (shares : List SecretShare) (first : SecretShare) → slice_get shares 0 ≡ Some first → (error : CombineError)
-    → IsFirstFault first.threshold first.deal (length first.values.items) shares error → IsDueCombining shares error
+    → IsDueSettling first.threshold first.deal (length first.values.items) shares error → IsDueCombining shares error
 due-fault shares first e (Memory m) h = tt
 due-fault shares first e NoShare h = absurd h.5
 due-fault shares first e (Unsound place) h = (first, e, h)

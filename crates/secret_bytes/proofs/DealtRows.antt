@@ -6,7 +6,7 @@ use Rattle.std.proofs.lemmas.List.Elements.{All-cons, All-head, All-nil, All-tai
 use Rattle.std.proofs.lemmas.List.FromFn.{length-range_with_len, get_or-range_with_len, map-range_with_len_more}
 use Rattle.rand_core.specs.Stream.{Stream}
 use Rattle.math_base.specs.declared.fields.goldilocks.F.{F}
-use Rattle.math_base.specs.Elements.{number, residue, same, sample_of}
+use Rattle.math_base.specs.Elements.{number, residue, same, sample_of, goldilocks}
 use Rattle.math_base.specs.Polynomials.{value_in_ring}
 use Rattle.math_base.proofs.ElementNumbers.{same_number}
 use Rattle.math_values.specs.Tables as Tables
@@ -14,7 +14,7 @@ use Rattle.shared_secret.specs.declared.shares.Share.{Share}
 use Rattle.shared_secret.specs.Shares.{AreDealt, AreSharesOf, IsSampled, point}
 use Rattle.secret_bytes.specs.declared.dealing.Row.{Row}
 use Rattle.secret_bytes.specs.declared.share.SecretShare.{SecretShare}
-use Rattle.secret_bytes.specs.Columns.{column, goldilocks, share_of}
+use Rattle.secret_bytes.specs.Columns.{column, share_of}
 use Rattle.secret_bytes.specs.Deals.{AreSampled, IsOfDeal}
 use Rattle.secret_bytes.specs.Rows.{AreRows, IsGrown, IsRow}
 use Rattle.secret_bytes.proofs.ElementPoints.{point-number}

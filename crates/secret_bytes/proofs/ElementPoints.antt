@@ -13,14 +13,14 @@ use Rattle.math_theory.proofs.polynomials.Coefficients.{value-HaveSameCoefficien
 use Rattle.math_base.specs.declared.fields.goldilocks.F.{F}
 use Rattle.math_base.specs.ElementLaws.{commutes, equality, group, ring}
 use Rattle.math_base.specs.ElementRootLaws.{field}
-use Rattle.math_base.specs.Elements.{number, residue, same, sum}
+use Rattle.math_base.specs.Elements.{number, residue, same, sum, goldilocks}
 use Rattle.math_base.specs.Polynomials.{value_in_ring}
 use Rattle.math_decoding.specs.Polynomials.{AreSame}
 use Rattle.secret_bytes.specs.declared.share.SecretShare.{SecretShare}
 use Rattle.shared_secret.specs.declared.shares.Share.{Share}
 use Rattle.shared_secret.specs.CorrectedShares.{AreWithinRadius}
 use Rattle.shared_secret.specs.Shares.{point, points, values}
-use Rattle.secret_bytes.specs.Columns.{column, goldilocks, share_of}
+use Rattle.secret_bytes.specs.Columns.{column, share_of}
 
 -- the number of the point of an index below P is the index
 pub point-number : (n : ℕ) → n < P → number (point goldilocks n) ≡ n

@@ -4,12 +4,12 @@ use Rattle.std.proofs.lemmas.List.{length-map}
 use Rattle.math_base.specs.declared.fields.goldilocks.F.{F}
 use Rattle.math_base.specs.ElementLaws.{commutes, equality, group, ring}
 use Rattle.math_base.specs.ElementRootLaws.{field}
-use Rattle.math_base.specs.Elements.{residue}
+use Rattle.math_base.specs.Elements.{residue, goldilocks}
 use Rattle.secret_bytes.specs.declared.share.SecretShare.{SecretShare}
 use Rattle.shared_secret.specs.Explanations.{ExplainsAlone}
 use Rattle.shared_secret.specs.Shares.{AreAtDistinctPoints}
 use Rattle.shared_secret.proofs.ExplainedShares.{once}
-use Rattle.secret_bytes.specs.Columns.{column, goldilocks, share_of}
+use Rattle.secret_bytes.specs.Columns.{column, share_of}
 use Rattle.secret_bytes.specs.Explanations.{EachSecretExplains}
 use Rattle.secret_bytes.proofs.RecoveredShares.{distinct-points-of}
 
@@ -48,9 +48,9 @@ module _ (shares : List SecretShare) (at-points : (j : ℕ) → AreAtDistinctPoi
       subst (λ (m : ℕ). ExplainsAlone goldilocks (length shares + 1) (get_or all j (residue 0)) (column m shares) (get_or (polynomials_from 0 all) j [])) e (each-from 0 all j l)
 
 pub each-explains : EachSecretExplains
-each-explains shares all apart some small =
-    let at-points : (j : ℕ) → AreAtDistinctPoints goldilocks (column j shares) = λ j. distinct-points-of j shares apart some small in (
+each-explains shares all distinct width =
+    let at-points : (j : ℕ) → AreAtDistinctPoints goldilocks (column j shares) = λ j. distinct-points-of j shares distinct.apart distinct.some distinct.small in (
       polynomials_from shares at-points 0 all,
-      record { count = count-from shares at-points 0 all; each = λ j l. (each shares at-points all j l).0 },
+      record { width = width; count = count-from shares at-points 0 all; each = λ j l. (each shares at-points all j l).0 },
       λ others h j l. (each shares at-points all j l).1 (get_or others j []) (h.each j l),
     )

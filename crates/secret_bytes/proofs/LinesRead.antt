@@ -1,5 +1,5 @@
 -- A text that is cut before its last twenty characters, and the line that it is.
-use Rattle.std.proofs.Common.{◌≡◌, ◌∙◌, ℕ, List, ◌++◌, length, true, false, true≢false, not, nat_eq, Result, Ok, Err, IfOk, refl, sym, ap, arith}
+use Rattle.std.proofs.Common.{◌≡◌, ◌∙◌, ℕ, List, ◌++◌, length, true, false, true≢false, not, nat_eq, ◌⊎◌, inl, inr, Result, Ok, Err, IfOk, IfErr, refl, sym, ap, arith}
 use Rattle.std.specs.Cmp.{unsigned_Decides}
 use Rattle.std.specs.Cmp.Lexicographic.{pointwise}
 use Rattle.std.proofs.lemmas.Bool.{not-true, not-false}
@@ -8,7 +8,10 @@ use Rattle.std.proofs.lemmas.List.{length-append}
 use Rattle.secret_bytes.specs.declared.share.SecretShare.{SecretShare}
 use Rattle.secret_bytes.specs.Letters.{grouped}
 use Rattle.secret_bytes.specs.LineChecks.{check_bytes}
-use Rattle.secret_bytes.specs.Lines.{body_spelling, line_spelling}
+use Rattle.secret_bytes.specs.Lines.{body_spelling, line_spelling, with_check}
+use Rattle.secret_bytes.specs.Refusals.{IsDueRefusal, IsMemory}
+use Rattle.secret_bytes.specs.declared.line.LineError.{LineError}
+use Rattle.secret_bytes.specs.declared.line.LineError.TheVariants.{Memory, NoShare, Mistyped}
 use Rattle.secret_bytes.proofs.SeenSlips.{equal_parts, length-check}
 
 -- a test for a difference of texts finds none
@@ -26,11 +29,19 @@ pub line_taken : {X : Type 0} (r : Result SecretShare X) (text body check due : 
 line_taken (Ok s) text body check due e d k h = e ∙ ap (λ x. body ++ x) (k ∙ d) ∙ ap (λ x. x ++ grouped true (check_bytes x)) h
 line_taken (Err x) text body check due e d k h = tt
 
-pub line_parts : (s : SecretShare) (text body check : List ℕ) → text ≡ body ++ check → length check ≡ 20 → text ≡ line_spelling s
-    → (body ≡ body_spelling s) × (check ≡ grouped true (check_bytes body))
-line_parts s text body check e n h =
-    let due = grouped true (check_bytes (body_spelling s)) in
-    let both : body ++ check ≡ body_spelling s ++ due = sym e ∙ h in
-    let sizes : length body ≡ length (body_spelling s) = omega (arith, n, length-check (body_spelling s), length-append body check, length-append (body_spelling s) due, ap length both) in
-    let parts = equal_parts body check (body_spelling s) due both sizes in
+pub line_parts : (b text body check : List ℕ) → text ≡ body ++ check → length check ≡ 20 → text ≡ with_check b → (body ≡ b) × (check ≡ grouped true (check_bytes body))
+line_parts b text body check e n h =
+    let due = grouped true (check_bytes b) in
+    let both : body ++ check ≡ b ++ due = sym e ∙ h in
+    let sizes : length body ≡ length b = omega (arith, n, length-check b, length-append body check, length-append b due, ap length both) in
+    let parts = equal_parts body check b due both sizes in
     (parts.0, parts.1 ∙ ap (λ x. grouped true (check_bytes x)) (sym parts.0))
+
+-- the text ends with the check of what stands before it, and is that of no share
+pub none_due : {X : Type 0} (r : Result X LineError) (text body check due : List ℕ) → text ≡ body ++ check → due ≡ grouped true (check_bytes body) → check ≡ due
+    → IfErr r (λ why. IsMemory why ⊎ (why ≡ NoShare)) → IfErr r (IsDueRefusal text)
+none_due (Ok x) text body check due e d k h = tt
+none_due (Err (Memory x)) text body check due e d k h = tt
+none_due (Err NoShare) text body check due e d k h = inr (body, e ∙ ap (λ x. body ++ x) (k ∙ d))
+none_due (Err Mistyped) text body check due e d k (inl h) = absurd h
+none_due (Err Mistyped) text body check due e d k (inr h) = cc

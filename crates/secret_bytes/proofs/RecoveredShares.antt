@@ -8,14 +8,14 @@ use Rattle.std.proofs.lemmas.List.Elements.{All-append, All-contains, All-filter
 use Rattle.std.proofs.lemmas.List.Kept.{AllPairs-filter}
 use Rattle.math_theory.specs.Interpolation.{AreApart}
 use Rattle.math_base.specs.declared.fields.goldilocks.F.{F}
-use Rattle.math_base.specs.Elements.{number, residue, same}
+use Rattle.math_base.specs.Elements.{number, residue, same, goldilocks}
 use Rattle.math_base.specs.Polynomials.{value_in_ring}
 use Rattle.math_decoding.specs.Polynomials.{AreSame}
 use Rattle.secret_bytes.specs.declared.share.SecretShare.{SecretShare}
 use Rattle.shared_secret.specs.declared.shares.Share.{Share}
 use Rattle.shared_secret.specs.CorrectedShares.{AreWithinRadius, IsCorrected}
 use Rattle.shared_secret.specs.Shares.{AreAtDistinctPoints, point, points, values}
-use Rattle.secret_bytes.specs.Columns.{column, goldilocks, share_of}
+use Rattle.secret_bytes.specs.Columns.{column, share_of}
 use Rattle.secret_bytes.specs.Combined.{AreRecovered, Fits, IsWrong, is_outside, others}
 use Rattle.secret_bytes.specs.Passes.{AreElements, AreReady, IsPlain, indices_at}
 use Rattle.secret_bytes.proofs.ElementPoints.{point-number, points_apart, values-same, within-once}

@@ -8,7 +8,8 @@ use Rattle.math_base.specs.declared.fields.goldilocks.F.{F}
 use Rattle.secret_bytes.specs.declared.share.SecretShare.{SecretShare}
 use Rattle.shared_secret.specs.CorrectedShares.{AreWithinRadius, IsCorrected}
 use Rattle.math_decoding.specs.Polynomials.{AreSame}
-use Rattle.secret_bytes.specs.Columns.{column, goldilocks}
+use Rattle.math_base.specs.Elements.{goldilocks}
+use Rattle.secret_bytes.specs.Columns.{column}
 use Rattle.secret_bytes.specs.Combined.{AreRecovered, Fits, IsWrong, is_outside, others}
 use Rattle.secret_bytes.specs.Passes.{AreReady, indices_at}
 use Rattle.secret_bytes.proofs.LeftShares.{filter-has, left-count, others-each, outside-cases, pairs-head, pairs-tail}

@@ -69,7 +69,7 @@ exchange_seen xs ys a b l m h =
     (cancel ys (sum (product (sum (product c r) (residue a)) r) (residue b)) (sum (product (sum (product c r) (residue b)) r) (residue a))
     (sym (ap number (from-append xs (a ∷ b ∷ ys) (residue 0))) ∙ h ∙ ap number (from-append xs (b ∷ a ∷ ys) (residue 0)))))
 
-pub equal_parts : (a b c d : List ℕ) → a ++ b ≡ c ++ d → length a ≡ length c → (a ≡ c) × (b ≡ d)
+pub equal_parts : {A : Type 0} (a b c d : List A) → a ++ b ≡ c ++ d → length a ≡ length c → (a ≡ c) × (b ≡ d)
 equal_parts [] b [] d e l = (refl, e)
 equal_parts [] b (z ∷ c) d e l = absurd (omega (arith, l))
 equal_parts (x ∷ a) b [] d e l = absurd (omega (arith, l))

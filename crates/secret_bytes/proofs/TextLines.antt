@@ -1,8 +1,7 @@
 -- The lines of a text one by one, and the shares that are read of them.
-use Rattle.std.proofs.Common.{◌≡◌, ◌≢◌, ◌∙◌, ◌⊎◌, inl, inr, ℕ, suc, ◌+◌, ◌<◌, ◌≤◌, ◌^◌, List, [], ◌∷◌, ◌++◌, false, eqb, length, drop, Result, Ok, Err, IfErr, refl, sym, ap, ap₂, subst, arith, append_assoc}
+use Rattle.std.proofs.Common.{◌≡◌, ◌≢◌, ◌∙◌, ◌⊎◌, inl, inr, ℕ, suc, ◌+◌, ◌<◌, ◌≤◌, ◌^◌, List, [], ◌∷◌, ◌++◌, false, eqb, length, drop, refl, sym, ap, ap₂, arith, append_assoc}
 use Rattle.std.specs.Char.{is_ascii_whitespace}
 use Rattle.std.specs.List.{All, AllZip, onto_first, prefix_len}
-use Rattle.std.specs.Result.{IsErrAnd}
 use Rattle.std.specs.Str.{IsTrimAscii}
 use Rattle.std.proofs.lemmas.Bool.{ne_eqb}
 use Rattle.std.proofs.lemmas.List.{append-nil, length_push}
@@ -12,7 +11,7 @@ use Rattle.secret_bytes.specs.declared.line.LineError.{LineError}
 use Rattle.secret_bytes.specs.declared.line.LineError.TheVariants.{Memory, Mistyped, NoShare}
 use Rattle.secret_bytes.specs.declared.share.SecretShare.{SecretShare}
 use Rattle.secret_bytes.specs.Lines.{line_spelling}
-use Rattle.secret_bytes.specs.Refusals.{IsMemory}
+use Rattle.secret_bytes.specs.Refusals.{IsDueRefusal, IsMemory}
 use Rattle.secret_bytes.specs.SecretShares.{AdmitsShare, AreSameShares}
 use Rattle.secret_bytes.specs.Texts.{FitShares, IsBlank, IsFirstNoLine, IsLineOf, IsNoLine, IsReadAs, IsReadLine, text_lines}
 use Rattle.secret_bytes.specs.declared.text.Lines.{Lines}
@@ -42,17 +41,14 @@ trimmed-once line a b h k =
 pub blank-of_none : (line : List ℕ) (s : SecretShare) → IsBlank line → IsLineOf line s → ⊥
 blank-of_none line s h k = absurd (omega (arith, ap length (trimmed-once line [] (line_spelling s) h k)))
 
--- what an error says of itself, it says where it is passed on
-pub refused : {X : Type 0} (r : Result X LineError) (e : LineError) (P : LineError → Type 0) → IsErrAnd r (λ x. x ≡ e) → P e → IfErr r P
-refused (Ok x) e P h k = tt
-refused (Err x) e P h k = subst P (sym h) k
-
 -- why a line is refused
-pub no-line : (why : LineError) (line text : List ℕ) → IsTrimAscii line text → 0 < length text
-    → ((s : SecretShare) → AdmitsShare (2 ^ 20) s → text ≡ line_spelling s → IsMemory why) → IsMemory why ⊎ IsNoLine line
-no-line (Memory e) line text h some g = inl tt
-no-line NoShare line text h some g = inr (λ blank. absurd (omega (arith, some, ap length (trimmed-once line text [] h blank))), λ s a k. g s a (trimmed-once line text (line_spelling s) h k))
-no-line Mistyped line text h some g = inr (λ blank. absurd (omega (arith, some, ap length (trimmed-once line text [] h blank))), λ s a k. g s a (trimmed-once line text (line_spelling s) h k))
+pub no-line : (why : LineError) (line text : List ℕ) → IsTrimAscii line text → 0 < length text → IsDueRefusal text why
+    → ((s : SecretShare) → AdmitsShare (2 ^ 20) s → text ≡ line_spelling s → IsMemory why) → IsMemory why ⊎ IsNoLine line why
+no-line (Memory e) line text h some d g = inl tt
+no-line NoShare line text h some d g =
+    inr (λ blank. absurd (omega (arith, some, ap length (trimmed-once line text [] h blank))), λ s a k. g s a (trimmed-once line text (line_spelling s) h k), (text, h, d))
+no-line Mistyped line text h some d g =
+    inr (λ blank. absurd (omega (arith, some, ap length (trimmed-once line text [] h blank))), λ s a k. g s a (trimmed-once line text (line_spelling s) h k), (text, h, d))
 
 -- one blank line more
 fits-blank : (fits : List ℕ → SecretShare → Type 0) (n : ℕ) (lines : List (List ℕ)) (line : List ℕ) (shares : List SecretShare) (numbers : List ℕ)
@@ -137,9 +133,9 @@ read-all text rest number shares numbers r e =
     rw whole r.read
 
 -- the next line is none
-pub read-stopped : (text rest line after : List ℕ) (number : ℕ) (shares : List SecretShare) (numbers : List ℕ) → IsReadTo text rest number shares numbers → text_lines rest ≡ line ∷ text_lines after
-    → IsNoLine line → IsFirstNoLine text number
-read-stopped text rest line after number shares numbers r e none = record {
+pub read-stopped : (text rest line after : List ℕ) (number : ℕ) (why : LineError) (shares : List SecretShare) (numbers : List ℕ) → IsReadTo text rest number shares numbers
+    → text_lines rest ≡ line ∷ text_lines after → IsNoLine line why → IsFirstNoLine text number why
+read-stopped text rest line after number why shares numbers r e none = record {
   before = r.lines;
   line = line;
   after = text_lines after;

@@ -2,13 +2,8 @@
 use Rattle.std.specs.Prelude.{ℕ, List, map, slice_index_or, None, true}
 use Rattle.math_base.specs.declared.fields.goldilocks.F.{F}
 use Rattle.math_base.specs.Elements.{negative, product, residue, same, sum}
-use Rattle.math_base.specs.Members.{RingOf}
 use Rattle.secret_bytes.specs.declared.share.SecretShare.{SecretShare}
 use Rattle.shared_secret.specs.declared.shares.Share.{Share}
-
--- the operations of the Goldilocks field
-abbrev pub goldilocks : RingOf F
-goldilocks = record { product = product; debug_output = λ a. None; same = same; NEVER_REFUSES = true; zero = residue 0; sum = sum; negative = negative; one = residue 1 }
 
 -- the share of element j: the index, and value j
 abbrev pub share_of : ℕ → SecretShare → Share F

@@ -2,14 +2,14 @@
 use Rattle.std.specs.List.{Contains, filter, list_any}
 use Rattle.std.specs.Prelude.{◌≡◌, ◌↔◌, ◌+◌, ◌<◌, ◌≤◌, ◌==◌, ℕ, Bool, not, List, length, slice_get, slice_index_or, Some, All}
 use Rattle.math_base.specs.declared.fields.goldilocks.F.{F}
-use Rattle.math_base.specs.Elements.{residue, same}
+use Rattle.math_base.specs.Elements.{residue, same, goldilocks}
 use Rattle.math_base.specs.Polynomials.{value_in_ring}
 use Rattle.math_decoding.specs.Polynomials.{AreSame}
 use Rattle.secret_bytes.specs.declared.share.SecretShare.{SecretShare}
 use Rattle.shared_secret.specs.declared.shares.Share.{Share}
 use Rattle.shared_secret.specs.CorrectedShares.{AreWithinRadius}
 use Rattle.shared_secret.specs.Shares.{point}
-use Rattle.secret_bytes.specs.Columns.{column, goldilocks, share_of}
+use Rattle.secret_bytes.specs.Columns.{column, share_of}
 use Rattle.secret_bytes.specs.Keyed.{AreKeyed}
 use Rattle.secret_bytes.specs.Settled.{IsFirstFault, StandBelow, firsts}
 use Rattle.secret_bytes.specs.declared.error.CombineError.{CombineError}

@@ -1,12 +1,17 @@
--- What holds of all shares of a deal of bytes, and of all lines of such shares.
-use Rattle.std.specs.List.{Contains}
-use Rattle.std.specs.Prelude.{◌≡◌, ◌<◌, ◌≤◌, ◌^◌, ℕ, List, [], length, All}
+-- What holds of all shares of a deal of bytes, of all lines of such shares, and of shares that are changed.
+use Rattle.std.specs.List.{AllZip, Contains}
+use Rattle.std.specs.Prelude.{◌≡◌, ◌≢◌, ◌-◌, ◌<◌, ◌≤◌, ◌^◌, ℕ, List, [], length, All, AllPairs}
 use Rattle.rand_core.specs.Stream.{Stream}
+use Rattle.math_theory.specs.Interpolation.{AreApart}
+use Rattle.math_base.specs.declared.fields.goldilocks.F.{F}
+use Rattle.math_base.specs.Elements.{same, sum}
 use Rattle.secret_bytes.specs.declared.share.SecretShare.{SecretShare}
 use Rattle.secret_bytes.specs.Refusals as line
 use Rattle.secret_bytes.specs.SecretShares.{AreSameShares}
 use Rattle.secret_bytes.specs.Combined.{AreCombined, IsDueCombining}
 use Rattle.secret_bytes.specs.Deals.{AreDealtBytes}
+use Rattle.secret_bytes.specs.KeyChecks.{added}
+use Rattle.secret_bytes.specs.Keyed.{element_count}
 use Rattle.secret_bytes.specs.Settled.{firsts}
 use Rattle.secret_bytes.specs.Texts.{AreLinesOf, AreReadAs, IsDueReading}
 use Rattle.secret_bytes.specs.declared.error.CombineError.{CombineError}
@@ -39,3 +44,31 @@ AnyLinesCombine = (bytes text : List ℕ) (t n : ℕ) (before after : Stream) (d
     → AreDealtBytes bytes t n before after dealt → AreLinesOf text chosen numbers → All (Contains dealt) chosen → t ≤ length (firsts chosen)
     → ((fault : LineFault) → IsDueReading text fault → line.IsMemory fault.why)
     × ((shares : List SecretShare) (places : List ℕ) → AreReadAs text shares places → CombineToAlone bytes shares)
+
+-- s is one of the dealt shares, with its number of values, and with what is changed, by its index, added to these
+pub record IsChanged (dealt : List SecretShare) (s : SecretShare) (change : ℕ × List F) : Type 0 where
+  pub before : SecretShare
+  pub one_of : Contains dealt before
+  pub threshold : s.threshold ≡ before.threshold
+  pub index : s.index ≡ before.index
+  pub same_index : change.0 ≡ before.index
+  pub values : s.values.items ≡ added sum before.values.items change.1
+
+-- with this key, shares of some deal of the bytes, so changed, are combined to other bytes
+pub record PassesChanged (bytes : List ℕ) (t n : ℕ) (changes : List (ℕ × List F)) (key : F) : Type 0 where
+  pub before : Stream
+  pub after : Stream
+  pub dealt : List SecretShare
+  pub deal : AreDealtBytes bytes t n before after dealt
+  pub keyed : deal.keyed.key ≡ key
+  pub shares : List SecretShare
+  pub changed : AllZip (IsChanged dealt) shares changes
+  pub found : List ℕ
+  pub wrong : List ℕ
+  pub combined : AreCombined shares found wrong
+  pub other : found ≢ bytes
+
+-- changes of shares of distinct indices that do not depend on the key pass for at most n + 1 of all keys, n being the number of elements of the bytes
+abbrev pub ChangesPassRarely : Type 0
+ChangesPassRarely = (bytes : List ℕ) (t n : ℕ) (changes : List (ℕ × List F)) (keys : List F) → 0 < t → n < 2 ^ 32 → AllPairs (λ c d. c.0 ≢ d.0) changes
+    → AreApart same keys → All (PassesChanged bytes t n changes) keys → length keys ≤ element_count (length bytes) - 1

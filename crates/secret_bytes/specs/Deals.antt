@@ -1,13 +1,13 @@
 -- Shares of bytes that are dealt.
 use Rattle.std.specs.List.{range_with_len}
-use Rattle.std.specs.Prelude.{◌≡◌, ◌<◌, ℕ, List, [], ◌∷◌, length, map, slice_index_or, Some, All}
+use Rattle.std.specs.Prelude.{◌≡◌, ◌+◌, ◌-◌, ◌*◌, ◌<◌, ℕ, List, [], ◌∷◌, length, map, slice_index_or, Some, All}
 use Rattle.rand_core.specs.Stream.{Stream}
 use Rattle.math_base.specs.declared.fields.goldilocks.F.{F}
-use Rattle.math_base.specs.Elements.{sample_of}
+use Rattle.math_base.specs.Elements.{sample_of, goldilocks}
 use Rattle.secret_bytes.specs.declared.share.SecretShare.{SecretShare}
 use Rattle.shared_secret.specs.Shares.{AreDealt, IsSampled}
-use Rattle.secret_bytes.specs.Columns.{column, goldilocks}
-use Rattle.secret_bytes.specs.Keyed.{AreKeyed}
+use Rattle.secret_bytes.specs.Columns.{column}
+use Rattle.secret_bytes.specs.Keyed.{AreKeyed, element_count}
 
 -- for each element in turn a polynomial of t coefficients: the element, and then the next samples of a source, which they take from `before` to `after`
 abbrev pub AreSampled : ℕ → Stream → Stream → List F → List (List F) → Type 0
@@ -37,3 +37,7 @@ pub record AreDealtBytes (bytes : List ℕ) (t n : ℕ) (before after : Stream) 
   pub indices : map (λ s. s.index) shares ≡ range_with_len 1 n
   pub alike : All (IsOfDeal t deal (length all)) shares
   pub columns : (j : ℕ) → j < length polynomials → AreDealt goldilocks n (slice_index_or polynomials j []) (column j shares)
+
+-- how many samples a deal of n bytes takes: the deal, the key, and t - 1 for each element
+abbrev pub sample_count : ℕ → ℕ → ℕ
+sample_count t n = 2 + element_count n * (t - 1)

@@ -1,10 +1,10 @@
 -- One look at all elements of shares.
 use Rattle.std.specs.Prelude.{◌≡◌, ◌≢◌, ◌<◌, ◌≤◌, ◌^◌, ℕ, List, [], map, length, slice_index_or, All, AllPairs}
 use Rattle.math_base.specs.declared.fields.goldilocks.F.{F}
-use Rattle.math_base.specs.Elements.{residue}
+use Rattle.math_base.specs.Elements.{residue, goldilocks}
 use Rattle.secret_bytes.specs.declared.share.SecretShare.{SecretShare}
 use Rattle.shared_secret.specs.CorrectedShares.{AreWithinRadius, IsCorrected}
-use Rattle.secret_bytes.specs.Columns.{column, goldilocks}
+use Rattle.secret_bytes.specs.Columns.{column}
 use Rattle.secret_bytes.specs.Combined.{AreRecovered}
 use Rattle.secret_bytes.specs.declared.combining.Pass.{Pass}
 use Rattle.secret_bytes.specs.declared.combining.Pass.TheVariants.{Fit, TooManyWrong, Wrong}

@@ -2,11 +2,10 @@
 use Rattle.std.specs.List.{AllZip, range_with_len}
 use Rattle.std.specs.Prelude.{◌≡◌, ◌++◌, ℕ, List, [], ◌∷◌}
 use Rattle.math_base.specs.declared.fields.goldilocks.F.{F}
-use Rattle.math_base.specs.Elements.{number}
+use Rattle.math_base.specs.Elements.{number, goldilocks}
 use Rattle.math_base.specs.Polynomials.{value_in_ring}
 use Rattle.math_values.specs.Tables as Tables
 use Rattle.secret_bytes.specs.declared.dealing.Row.{Row}
-use Rattle.secret_bytes.specs.Columns.{goldilocks}
 
 -- the share has one value more, that of the polynomial at the row's point, and all else is as it was
 pub record IsGrown (p : List F) (old new : Row) : Type 0 where

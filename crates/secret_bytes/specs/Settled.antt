@@ -1,11 +1,11 @@
 -- Shares of one deal, and of each index the first.
 use Rattle.std.specs.List.{Contains, list_any}
-use Rattle.std.specs.Prelude.{◌≡◌, ◌<◌, ◌==◌, ℕ, Bool, List, [], ◌∷◌, ◌++◌, if◌then◌else◌, length, slice_index_or, take, All}
+use Rattle.std.specs.Prelude.{◌≡◌, ◌<◌, ◌==◌, ℕ, Bool, List, [], ◌∷◌, ◌++◌, if◌then◌else◌, length, slice_index_or, take, All, Option, Some, None}
 use Rattle.math_base.specs.declared.fields.goldilocks.F.{F}
 use Rattle.secret_bytes.specs.declared.share.SecretShare.{SecretShare}
 use Rattle.secret_bytes.specs.Deals.{IsOfDeal}
 use Rattle.secret_bytes.specs.declared.error.CombineError.{CombineError}
-use Rattle.secret_bytes.specs.declared.error.CombineError.TheVariants.{AnotherDeal, AnotherLength, AnotherThreshold, Repeated, Unsound}
+use Rattle.secret_bytes.specs.declared.error.CombineError.TheVariants.{AnotherDeal, AnotherLength, AnotherThreshold, Memory, Repeated, Unsound}
 
 -- neither the threshold nor the index is zero
 abbrev pub IsSound : SecretShare → Type 0
@@ -14,6 +14,10 @@ IsSound s = (0 < s.threshold) × (0 < s.index)
 -- both have the same values
 abbrev pub HaveSameValues : SecretShare → SecretShare → Type 0
 HaveSameValues s u = s.values.items ≡ u.values.items
+
+-- the share at this place has the values of s
+abbrev pub HasValuesAt : List SecretShare → SecretShare → ℕ → Type 0
+HasValuesAt shares s place = HaveSameValues (slice_index_or shares place s) s
 
 -- one of the shares has the index of s and other values
 abbrev pub IsContradicted : List SecretShare → SecretShare → Type 0
@@ -42,6 +46,16 @@ IsFault t identity width before s k _ = ⊥
 abbrev pub IsFirstFault : ℕ → F → ℕ → List SecretShare → CombineError → Type 0
 IsFirstFault t identity width shares error =
     (k : ℕ) × (s : SecretShare) × (k < length shares) × (slice_index_or shares k s ≡ s) × StandBelow t identity width shares k × IsFault t identity width (take k shares) s k error
+
+-- the refusal is that fault, or memory ran out
+abbrev pub IsDueSettling : ℕ → F → ℕ → List SecretShare → CombineError → Type 0
+IsDueSettling t identity width shares (Memory e) = Unit {0}
+IsDueSettling t identity width shares error = IsFirstFault t identity width shares error
+
+-- none of the first n shares has this index; or the one at the place that is given has it, and is one of them
+abbrev pub IsPlaceOf : List SecretShare → ℕ → ℕ → Option ℕ → Type 0
+IsPlaceOf shares n i None = (k : ℕ) (s : SecretShare) → k < n → ¬ ((slice_index_or shares k s).index ≡ i)
+IsPlaceOf shares n i (Some p) = (p < n) × ((s : SecretShare) → (slice_index_or shares p s).index ≡ i)
 
 -- whether one of the shares has this index
 abbrev pub has_index : List SecretShare → ℕ → Bool

@@ -1,11 +1,12 @@
 -- The lines of a text, and the shares that they are.
-use Rattle.std.specs.Prelude.{◌≡◌, ◌⊎◌, ◌+◌, ◌^◌, ◌==◌, ℕ, List, [], ◌∷◌, ◌++◌, if◌then◌else◌, length}
-use Rattle.std.specs.List.{onto_first}
+use Rattle.std.specs.Prelude.{◌≡◌, ◌⊎◌, ◌+◌, ◌^◌, ◌==◌, ℕ, List, [], ◌∷◌, ◌++◌, if◌then◌else◌, length, All}
+use Rattle.std.specs.List.{AllZip, onto_first, range_with_len}
 use Rattle.std.specs.Str.{IsTrimAscii}
 use Rattle.secret_bytes.specs.declared.share.SecretShare.{SecretShare}
-use Rattle.secret_bytes.specs.Lines.{line_spelling}
-use Rattle.secret_bytes.specs.Refusals.{IsMemory}
+use Rattle.secret_bytes.specs.Lines.{line_spelling, lines_spelling}
+use Rattle.secret_bytes.specs.Refusals.{IsDueRefusal, IsMemory}
 use Rattle.secret_bytes.specs.SecretShares.{AdmitsShare, AreSameShares}
+use Rattle.secret_bytes.specs.declared.line.LineError.{LineError}
 use Rattle.secret_bytes.specs.declared.text.LineFault.{LineFault}
 use Rattle.secret_bytes.specs.declared.text.Lines.{Lines}
 
@@ -26,9 +27,11 @@ IsLineOf line s = IsTrimAscii line (line_spelling s)
 abbrev pub IsReadAs : List ℕ → SecretShare → Type 0
 IsReadAs line s = IsLineOf line s × ((u : SecretShare) → AdmitsShare (2 ^ 20) u → IsLineOf line u → AreSameShares s u)
 
--- the line is not blank, and it is the line of no share
-abbrev pub IsNoLine : List ℕ → Type 0
-IsNoLine line = ¬ (IsBlank line) × ((s : SecretShare) → AdmitsShare (2 ^ 20) s → ¬ (IsLineOf line s))
+-- the line is not blank, and it is the line of no share; and this is why
+abbrev pub IsNoLine : List ℕ → LineError → Type 0
+IsNoLine line why =
+    ¬ (IsBlank line) × ((s : SecretShare) → AdmitsShare (2 ^ 20) s → ¬ (IsLineOf line s))
+    × ((text : List ℕ) × IsTrimAscii line text × IsDueRefusal text why)
 
 -- the lines, of which the first has the number n, are blank but for those that fit the shares, one after the other, and have these numbers
 abbrev pub FitShares : (List ℕ → SecretShare → Type 0) → ℕ → List (List ℕ) → List SecretShare → List ℕ → Type 0
@@ -45,8 +48,8 @@ AreLinesOf text shares numbers = FitShares IsLineOf 1 (text_lines text) shares n
 abbrev pub AreReadAs : List ℕ → List SecretShare → List ℕ → Type 0
 AreReadAs text shares numbers = FitShares IsReadAs 1 (text_lines text) shares numbers
 
--- the line of this number is the first that is neither blank nor that of a share
-pub record IsFirstNoLine (text : List ℕ) (number : ℕ) : Type 0 where
+-- the line of this number is the first that is neither blank nor that of a share, and this is why
+pub record IsFirstNoLine (text : List ℕ) (number : ℕ) (why : LineError) : Type 0 where
   pub before : List (List ℕ)
   pub line : List ℕ
   pub after : List (List ℕ)
@@ -55,14 +58,20 @@ pub record IsFirstNoLine (text : List ℕ) (number : ℕ) : Type 0 where
   pub shares : List SecretShare
   pub numbers : List ℕ
   pub read : FitShares IsReadAs 1 before shares numbers
-  pub none : IsNoLine line
+  pub none : IsNoLine line why
 
--- memory ran out, or the fault names the first line that is none
+-- memory ran out, or the fault names the first line that is none, and says why
 abbrev pub IsDueReading : List ℕ → LineFault → Type 0
-IsDueReading text fault = IsMemory fault.why ⊎ IsFirstNoLine text fault.number
+IsDueReading text fault = IsMemory fault.why ⊎ IsFirstNoLine text fault.number fault.why
 
 -- the line is blank, and nothing is appended; or it is that of a share, and this share and the number are appended
 abbrev pub IsReadLine : List ℕ → ℕ → Lines → Lines → Type 0
 IsReadLine line number old new =
     (IsBlank line × (new.shares.items ≡ old.shares.items) × (new.numbers.items ≡ old.numbers.items))
     ⊎ ((s : SecretShare) × IsReadAs line s × (new.shares.items ≡ old.shares.items ++ (s ∷ [])) × (new.numbers.items ≡ old.numbers.items ++ (number ∷ [])))
+
+-- the lines of shares that can be lines are read but for want of memory, as shares that are the same, with their numbers from 1 on
+abbrev pub LinesAreReadBack : Type 0
+LinesAreReadBack = (shares : List SecretShare) → All (AdmitsShare (2 ^ 20)) shares
+    → ((fault : LineFault) → IsDueReading (lines_spelling shares) fault → IsMemory fault.why)
+    × ((found : List SecretShare) (numbers : List ℕ) → AreReadAs (lines_spelling shares) found numbers → AllZip AreSameShares found shares × (numbers ≡ range_with_len 1 (length shares)))

@@ -1,14 +1,14 @@
 //! The line of a share.
 
-ghost use Rattle.std.specs.Prelude.{◌≡◌, ◌≢◌, ◌<◌, ◌^◌, ◌++◌, ℕ, List, length, true, codes, alloc_error, IfOk, IfSome, IfNone, MatchResult};
+ghost use Rattle.std.specs.Prelude.{◌≡◌, ◌≢◌, ◌↔◌, ◌⊎◌, ◌<◌, ◌^◌, ◌++◌, ℕ, List, length, true, codes, alloc_error, IfOk, IfErr, IfSome, IfNone, MatchResult};
 ghost use Rattle.math_codec.specs.Faults as Faults;
 ghost use Rattle.math_base.specs.Elements.{number};
 ghost use Rattle.secret_bytes.specs.SecretShares.{AdmitsShare, AreSameShares};
 ghost use Rattle.secret_bytes.specs.Letters.{grouped};
 ghost use Rattle.secret_bytes.specs.LineChecks.{check_bytes, check_value};
 ghost use Rattle.secret_bytes.specs.Lines.{body_spelling, line_spelling};
-ghost use Rattle.secret_bytes.specs.Refusals.{IsMemory};
-ghost use Rattle.secret_bytes.specs.declared.line.LineError.TheVariants.{Memory};
+ghost use Rattle.secret_bytes.specs.Refusals.{IsDueRefusal, IsMemory};
+ghost use Rattle.secret_bytes.specs.declared.line.LineError.TheVariants.{Memory, NoShare};
 
 use crate::letters::{push_grouped, ungrouped};
 use crate::share::{MOST_VALUES, SecretShare};
@@ -123,7 +123,8 @@ fn after_mark(text: &[u8]) -> Option<&[u8]>
 
 /// Why the bytes of a line are those of no share.
 fn refusal(error: Error) -> LineError
-    ensures { Faults.IsMemory error → IsMemory result }
+    ensures memory { Faults.IsMemory error ↔ IsMemory result }
+    ensures due { IsMemory result ⊎ (result ≡ NoShare) }
 {
     match error {
         Error::Memory(e) => LineError::Memory(e),
@@ -136,6 +137,7 @@ fn share_of_body(alloc: Global, body: &[u8]) -> Result<SecretShare, LineError>
     ensures taken { IfOk result (λ s. body.now ≡ body_spelling s) }
     ensures again { (s : SecretShare) → AdmitsShare (2 ^ 20) s → body.now ≡ body_spelling s
         → MatchResult result (λ u. AreSameShares u s) IsMemory }
+    ensures due { IfErr result (λ why. IsMemory why ⊎ (why ≡ NoShare)) }
 {
     let Some(letters) = after_mark(body) else {
         return Err(LineError::NoShare);
@@ -151,12 +153,14 @@ fn share_of_body(alloc: Global, body: &[u8]) -> Result<SecretShare, LineError>
 
 /// The share whose line the text is.
 ///
-/// A text that is the line of no share is refused: with `Mistyped` where the check is not that of
-/// what stands before it, else with `NoShare`.
+/// A text that is the line of no share is refused: with `Mistyped` where it has the characters of a
+/// check, and these are not the check of what stands before them, else with `NoShare`; or with
+/// `Memory`.
 pub fn share_in(alloc: Global, text: &[u8]) -> Result<SecretShare, LineError>
     ensures taken { IfOk result (λ s. text.now ≡ line_spelling s) }
     ensures again { (s : SecretShare) → AdmitsShare (2 ^ 20) s → text.now ≡ line_spelling s
         → MatchResult result (λ u. AreSameShares u s) IsMemory }
+    ensures due { IfErr result (IsDueRefusal text.now) }
 {
     if text.len() < CHECK_SIZE {
         return Err(LineError::NoShare);

@@ -1,7 +1,7 @@
 //! Lines of shares.
 
-ghost use Rattle.std.specs.Prelude.{◌≡◌, ◌<◌, ◌∷◌, ◌⊎◌, length, IfOk, IfErr, OnOk};
-ghost use Rattle.secret_bytes.specs.Refusals.{IsMemory};
+ghost use Rattle.std.specs.Prelude.{◌≡◌, ◌<◌, ◌∷◌, ◌⊎◌, length, All, IfOk, IfErr, OnOk};
+ghost use Rattle.secret_bytes.specs.Refusals.{HasLine, IsDueWriting, IsMemory};
 ghost use Rattle.secret_bytes.specs.Lines.{lines_spelling};
 ghost use Rattle.secret_bytes.specs.Texts.{AreReadAs, IsDueReading, IsNoLine, IsReadLine};
 ghost use Rattle.secret_bytes.specs.Texts.{text_lines};
@@ -45,7 +45,7 @@ fn first_line(text: &[u8]) -> (&[u8], &[u8])
 /// Appends the share that a line is, and the line's number, unless the line is blank.
 fn read_line(alloc: Global, line: &[u8], number: usize, lines: &mut Lines) -> Result<(), LineError>
     ensures read { OnOk result (IsReadLine line.now number lines.old lines.new) }
-    ensures due { IfErr result (λ why. IsMemory why ⊎ IsNoLine line.now) }
+    ensures due { IfErr result (λ why. IsMemory why ⊎ IsNoLine line.now why) }
 {
     let text = line.trim_ascii();
     if text.is_empty() {
@@ -60,7 +60,8 @@ fn read_line(alloc: Global, line: &[u8], number: usize, lines: &mut Lines) -> Re
 /// The shares of the lines that are not blank, in order, and the numbers of these lines. White
 /// space around a share is passed over.
 ///
-/// It refuses with the first line that is neither blank nor that of a share, or with `Memory`.
+/// It refuses with the first line that is neither blank nor that of a share, and says why as
+/// `share_in` does, or with `Memory`.
 pub fn read_lines(alloc: Global, text: &[u8]) -> Result<Lines, LineFault>
     ensures lines { IfOk result
         (λ lines. AreReadAs text.now lines.shares.items lines.numbers.items) }
@@ -85,9 +86,12 @@ pub fn read_lines(alloc: Global, text: &[u8]) -> Result<Lines, LineFault>
 
 /// The lines of the shares, each with its end.
 ///
-/// It refuses with `NoShare` where a share has more than `MOST_VALUES` values, or with `Memory`.
+/// It refuses with `NoShare` exactly where a share has more than `MOST_VALUES` values, or with
+/// `Memory`. What it writes, `read_lines` reads as these shares: see `laws::lines_are_read_back`.
 pub fn text_of(alloc: Global, shares: &[SecretShare]) -> Result<Vec<u8>, LineError>
-    ensures { IfOk result (λ text. text.items ≡ lines_spelling shares.now) }
+    ensures text { IfOk result (λ text. text.items ≡ lines_spelling shares.now) }
+    ensures few { IfOk result (λ _. All HasLine shares.now) }
+    ensures due { IfErr result (IsDueWriting shares.now) }
 {
     let mut text = Vec::new(alloc);
     for share in shares {

@@ -11,7 +11,7 @@ use Rattle.secretshares.specs.Answers.{IsAt, IsDueFor, IsNamed}
 -- what an error says of the shares that were read, the fault that names them says of the text
 pub named-due : (text : List ℕ) (shares : List SecretShare) (numbers indices : List ℕ) (error : CombineError) (fault : Fault) → AreReadAs text shares numbers → IsDueCombining shares error
     → indices ≡ map (λ (s : SecretShare). s.index) shares → IsNamed numbers indices error fault → IsDueFor text fault
-named-due text shares numbers indices error Usage r d i h = absurd h
+named-due text shares numbers indices error (Usage w) r d i h = absurd h
 named-due text shares numbers indices error (Memory e) r d i h = tt
 named-due text shares numbers indices error (Io e) r d i h = absurd h
 named-due text shares numbers indices error TooLong r d i h = absurd h

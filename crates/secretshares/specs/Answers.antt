@@ -27,10 +27,10 @@ IsNamed numbers indices error (Share number index e) = (e ≡ error) × (k : ℕ
 IsNamed numbers indices error (Combine e) = e ≡ error
 IsNamed numbers indices error _ = ⊥
 
--- why the text's lines give no secret: the first line that is none; or why their shares are not combined, with the number of the line and the index of the share that is meant
+-- why the text's lines give no secret: the first line that is none, and why it is none; or why their shares are not combined, with the number of the line and the index of the share that is meant
 abbrev pub IsDueFor : List ℕ → Fault → Type 0
 IsDueFor text (Memory e) = Unit {0}
-IsDueFor text (Line number why) = IsFirstNoLine text number
+IsDueFor text (Line number why) = IsFirstNoLine text number why
 IsDueFor text (Share number index error) =
     (shares : List SecretShare) × (numbers : List ℕ) × AreReadAs text shares numbers × IsDueCombining shares error
     × (k : ℕ) × IsAt error k × (slice_get numbers k ≡ Some number) × (slice_get (map (λ s. s.index) shares) k ≡ Some index)

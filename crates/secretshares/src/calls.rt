@@ -7,7 +7,7 @@ ghost use Rattle.secret_bytes.specs.Lines.{lines_spelling};
 ghost use Rattle.secret_bytes.specs.Texts.{IsDueReading};
 ghost use Rattle.secretshares.specs.Answers.{IsAnswerTo, IsDueFor, IsNamed};
 
-use crate::fault::Fault;
+use crate::fault::{Fault, WrongWord};
 use rand_core::{CryptoRng, Rng};
 use secret_bytes::{
     CombineError, LineError, LineFault, Lines, MOST_BYTES, MOST_SHARES, combine, deal, read_lines,
@@ -22,12 +22,14 @@ pub struct Told {
     pub err: String,
 }
 
-/// The number that a word writes in decimal, without a sign.
-fn number(word: &str) -> Result<u32, Fault> {
-    if word.starts_with('+') {
-        return Err(Fault::Usage);
+/// The number of shares that a word writes in decimal, without a sign.
+fn number(name: &'static str, word: &str) -> Result<u32, Fault>
+    ensures { IfOk result (λ number. 0 < number) }
+{
+    match word.parse::<u32>() {
+        Ok(number) if number >= 1 && number <= MOST_SHARES && !word.starts_with('+') => Ok(number),
+        _ => Err(Fault::Usage(WrongWord::Number(name))),
     }
-    word.parse().ok().ok_or(Fault::Usage)
 }
 
 /// `T N`: how many shares give the secret back, and how many there are.
@@ -36,12 +38,12 @@ pub fn counts(words: &[String]) -> Result<(u32, u32), Fault>
     ensures enough { IfOk result (λ counts. counts.0 ≤ counts.1) }
 {
     let [t, n] = words else {
-        return Err(Fault::Usage);
+        return Err(Fault::Usage(WrongWord::Counts(words.len())));
     };
-    let t = number(t)?;
-    let n = number(n)?;
-    if t == 0 || n < t || n > MOST_SHARES {
-        return Err(Fault::Usage);
+    let t = number("T", t)?;
+    let n = number("N", n)?;
+    if n < t {
+        return Err(Fault::Usage(WrongWord::FewerThanT(t, n)));
     }
     Ok((t, n))
 }

@@ -8,11 +8,30 @@ use std::alloc::{AllocError, AllocFailed};
 use std::io;
 use thiserror::Error;
 
+/// What is wrong with which word. What stands in a word is not said again: it may be a secret.
+#[derive(Debug, Drop, Error)]
+pub enum WrongWord {
+    #[error("no command is given")]
+    NoCommand,
+    #[error("the first word is no command")]
+    Command,
+    #[error("{0} words are given after deal, and T and N are wanted")]
+    Counts(usize),
+    #[error("{0} is no number from 1 to 255")]
+    Number(&'static str),
+    #[error("T is {0}, and N is {1}: T is N at most")]
+    FewerThanT(u32, u32),
+    #[error("words are given after {0}, which takes none")]
+    NoMore(&'static str),
+    #[error("a word is no UTF-8 text")]
+    NoText,
+}
+
 /// Why there is no answer. Texts name the line that is meant, and the share where it is known.
 #[derive(Debug, Drop, Error)]
 pub enum Fault {
-    #[error("usage: secretshares deal T N < SECRET | combine < LINES | --help | --version")]
-    Usage,
+    #[error("{0}\nusage: secretshares deal T N < SECRET | combine < LINES | --help | --version")]
+    Usage(WrongWord),
     #[error("refused: out of memory")]
     Memory(AllocError),
     #[error("refused: {0}")]
@@ -35,7 +54,7 @@ impl Fault {
     /// The status that the program ends with: 2 for wrong words, 1 else.
     pub fn status(&self) -> u8 {
         match self {
-            Fault::Usage => 2,
+            Fault::Usage(_) => 2,
             _ => 1,
         }
     }

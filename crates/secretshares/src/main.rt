@@ -9,7 +9,7 @@ mod calls;
 mod fault;
 
 use calls::{Told, combined, counts, dealt};
-use fault::Fault;
+use fault::{Fault, WrongWord};
 use rand::make_rng;
 use rand::rngs::StdRng;
 use secret_bytes::MOST_BYTES;
@@ -40,11 +40,23 @@ but its length. Of M lines, at most (M - T) / 2 may be wrong, and are named.
 Status: 0 done, 1 refused, 2 wrong words.
 ";
 
-/// Standard input to its end, or its first bytes where it is longer than that many.
-fn input(rt: &HostRuntime, most: u64, wanted: &str) -> Result<Vec<u8>, Fault> {
+/// What is said where the secret is read from a terminal.
+const SECRET_AT_TERMINAL: &str = "\
+reading the secret from the terminal, to its end (Ctrl-D): what is typed is shown, unless
+`stty -echo` came before this command (and then `stty echo`), or the secret comes by a pipe
+";
+
+/// What is said where shares are read from a terminal.
+const LINES_AT_TERMINAL: &str = "\
+reading shares, a line each, from the terminal, to its end (Ctrl-D)
+";
+
+/// Standard input to its end, or its first bytes where it is longer than that many. Where it is a
+/// terminal, this is said first.
+fn input(rt: &HostRuntime, most: u64, at_terminal: &str) -> Result<Vec<u8>, Fault> {
     let stdin = rt.reader();
     if stdin.is_terminal() {
-        let _told = eprintln!(rt; "reading {wanted} from the terminal, to its end (Ctrl-D)");
+        let _told = eprint!(rt; "{at_terminal}");
     }
     let mut bytes = Vec::new(rt.alloc());
     stdin.take(most).read_to_end(&mut bytes)?;
@@ -70,7 +82,7 @@ fn print_told(rt: &HostRuntime, told: &Told) -> Result<(), Fault> {
 fn deal(rt: &HostRuntime, words: &[String]) -> Result<(), Fault> {
     let (t, n) = counts(words)?;
     let mut rng: StdRng = make_rng(rt)?;
-    let secret = input(rt, MOST_BYTES as u64 + 1, "the secret")?;
+    let secret = input(rt, MOST_BYTES as u64 + 1, SECRET_AT_TERMINAL)?;
     let told = dealt(rt.alloc(), &secret, t, n, &mut rng)?;
     print_told(rt, &told)
 }
@@ -78,9 +90,9 @@ fn deal(rt: &HostRuntime, words: &[String]) -> Result<(), Fault> {
 /// The secret of the shares that are read.
 fn combine(rt: &HostRuntime, words: &[String]) -> Result<(), Fault> {
     if !words.is_empty() {
-        return Err(Fault::Usage);
+        return Err(Fault::Usage(WrongWord::NoMore("combine")));
     }
-    let text = input(rt, u64::MAX, "shares, a line each,")?;
+    let text = input(rt, u64::MAX, LINES_AT_TERMINAL)?;
     let told = combined(rt.alloc(), &text)?;
     print_told(rt, &told)
 }
@@ -89,7 +101,9 @@ fn combine(rt: &HostRuntime, words: &[String]) -> Result<(), Fault> {
 fn words_given(rt: &HostRuntime) -> Result<Vec<String>, Fault> {
     match env::args(rt) {
         Ok(words) => Ok(words.skip(1).collect(rt.alloc())?),
-        Err(error) if error.kind() == ErrorKind::InvalidData => Err(Fault::Usage),
+        Err(error) if error.kind() == ErrorKind::InvalidData => {
+            Err(Fault::Usage(WrongWord::NoText))
+        }
         Err(error) => Err(Fault::Io(error)),
     }
 }
@@ -97,7 +111,9 @@ fn words_given(rt: &HostRuntime) -> Result<Vec<String>, Fault> {
 /// Does what the words ask for.
 fn run(rt: &HostRuntime) -> Result<(), Fault> {
     let words = words_given(rt)?;
-    let (command, rest) = words.split_first().ok_or(Fault::Usage)?;
+    let Some((command, rest)) = words.split_first() else {
+        return Err(Fault::Usage(WrongWord::NoCommand));
+    };
     let asks_for_help = matches!(rest, [word] if word.as_str() == "--help");
     match command.as_str() {
         "--help" if rest.is_empty() => print(rt, HELP.as_bytes()),
@@ -105,7 +121,9 @@ fn run(rt: &HostRuntime) -> Result<(), Fault> {
         "deal" | "combine" if asks_for_help => print(rt, HELP.as_bytes()),
         "deal" => deal(rt, rest),
         "combine" => combine(rt, rest),
-        _ => Err(Fault::Usage),
+        "--help" => Err(Fault::Usage(WrongWord::NoMore("--help"))),
+        "--version" => Err(Fault::Usage(WrongWord::NoMore("--version"))),
+        _ => Err(Fault::Usage(WrongWord::Command)),
     }
 }
 

@@ -1,32 +1,54 @@
 //! Blocks to shards, and these to blocks.
 
-ghost use Rattle.std.specs.Prelude.{◌≡◌, ◌≤◌, ℕ, List, length, IfOk, IfErr, MatchResult};
+ghost use Rattle.std.specs.Prelude.{◌≡◌, ◌*◌, ◌≤◌, ℕ, List, length, IfOk, IfErr, MatchResult, OnErr, OnOk};
 ghost use Rattle.math_shards.specs.Joining.{IsMemory};
 ghost use Rattle.math_shards.specs.Shards.{AreShardsOf, width_for};
 ghost use Rattle.math_shards.specs.declared.shards.Error.TheVariants.{TooFew, Mismatch, Index};
 ghost use Rattle.math_shards.specs.declared.shards.Error.TheVariants.{Conflict, Inconsistent};
 ghost use Rattle.shard_blocks.specs.BlockWords.{words_of_bytes};
-ghost use Rattle.shard_blocks.specs.Blocks.{IsBlockDue, JoinToBlock, RefusesBlockExactly};
+ghost use Rattle.shard_blocks.specs.Blocks.{AreByteRows, IsBlockDue, JoinToBlock, RefusesBlockExactly};
 
-use crate::words::{bytes_of, words_of};
+use crate::words::{bytes_of, source_of};
 use math_base::algebra::Mem;
-use math_shards::shards::{Error, Shard, join, split};
+use math_shards::shards::{Error, Shard, join, shard_width, split_source, split_source_rows};
 use std::alloc::Global;
 
 /// The shards of the bytes, one for each index below `total`, in the order of the indices. Any
 /// `min` of them give the bytes back.
 ///
-/// `min` is at least 1, and at most `total`. Takes memory as `split` does for the words of the
-/// bytes, which are an eighth of their number, rounded up, and one more.
+/// `min` is at least 1, and at most `total`. Takes memory as `split` does: no list is made of the
+/// words of the bytes, which are read from these.
 pub fn split_block(alloc: Global, bytes: &[u8], min: u32, total: u32) -> Mem<Vec<Shard>>
     requires some { 1 ≤ min }
     requires within { min ≤ total }
     ensures { IfOk result
         (λ shards. AreShardsOf (words_of_bytes bytes.now) min total shards.items) }
 {
-    let words = words_of(alloc, bytes)?;
-    let shards = split(alloc, &words, min, total)?;
+    let shards = split_source(alloc, &source_of(bytes), min, total)?;
     Ok(shards)
+}
+
+/// Writes the shards of the bytes over those of `out`: shard i is row i of `total` rows, and each of
+/// its cells is eight bytes, the number of an element, the highest first.
+///
+/// The conditions are those of `split_block`. A row has eight times as many bytes as a shard of
+/// `split_block` has cells. Takes memory as `split_rows` does. Where that is refused nothing is
+/// written.
+pub fn split_block_rows(
+    alloc: Global,
+    bytes: &[u8],
+    min: u32,
+    total: u32,
+    out: &mut [u8],
+) -> Mem<()>
+    requires some { 1 ≤ min }
+    requires within { min ≤ total }
+    requires size { length out.old ≡ total * (8 * width_for min (words_of_bytes bytes.now)) }
+    ensures ok { OnOk result (AreByteRows bytes.now min total out.new) }
+    ensures err { OnErr result (out.new ≡ out.old) }
+{
+    split_source_rows(alloc, &source_of(bytes), min, total, out)?;
+    Ok(())
 }
 
 /// How many cells each shard has of a block of so many bytes, of which `min`, at least 1, give it
@@ -36,9 +58,7 @@ pub fn cells_for(bytes: usize, min: u32) -> usize
     ensures { (block : List ℕ) → length block ≡ bytes
         → width_for min (words_of_bytes block) ≡ result }
 {
-    let words = bytes.div_ceil(8) + 2;
-    let elements = words + words.div_ceil(63);
-    elements.div_ceil(min as usize)
+    shard_width(bytes.div_ceil(8) + 1, min)
 }
 
 /// The bytes of which each of the shards is one. There are no others, and a shard that is handed in

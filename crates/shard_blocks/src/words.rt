@@ -2,28 +2,31 @@
 
 ghost use Rattle.std.specs.Prelude.{◌≡◌, ◌↔◌, ◌+◌, ◌-◌, ◌*◌, ◌<◌, ◌≤◌, ◌++◌, ℕ, List, All, length, take, drop, replicate};
 ghost use Rattle.std.specs.Prelude.{IsTrue, IfOk, IfSome, IsSomeAnd};
-ghost use Rattle.std.specs.Int.{to_le_bytes, w64};
+ghost use Rattle.std.specs.Int.{from_le_bytes, to_le_bytes, w64};
 ghost use Rattle.std.specs.List.{flat_map};
+ghost use Rattle.math_shards.specs.DataWords.{words_in};
 ghost use Rattle.shard_blocks.specs.BlockWords.{IsBlockOf, words_of_bytes};
 
 use math_base::algebra::Mem;
+use math_shards::shards::Source;
 use std::alloc::Global;
 
 /// The number of the bytes, and then the bytes, eight a word, the lowest first, with zeros after
-/// the last.
-pub(crate) fn words_of(alloc: Global, bytes: &[u8]) -> Mem<Vec<u64>>
-    ensures { IfOk result (λ words. words.items ≡ words_of_bytes bytes.now) }
+/// the last. They are read from the bytes as they are wanted.
+pub(crate) fn source_of<'a>(bytes: &'a [u8]) -> Source<'a, [u8; 8]>
+    ensures { words_in (from_le_bytes w64) result ≡ words_of_bytes bytes.now }
 {
-    let (whole, rest) = bytes.as_chunks::<8>();
-    let mut words = Vec::with_capacity(alloc, whole.len().saturating_add(2))?;
-    words.push(bytes.len() as u64)?;
-    for eight in whole {
-        words.push(u64::from_le_bytes(*eight))?;
+    let (words, rest) = bytes.as_chunks::<8>();
+    let last = if rest.is_empty() {
+        None
+    } else {
+        Some(u64::from_le_bytes(padded_to_eight(rest)))
+    };
+    Source {
+        first: Some(bytes.len() as u64),
+        words,
+        last,
     }
-    if !rest.is_empty() {
-        words.push(u64::from_le_bytes(padded_to_eight(rest)))?;
-    }
-    Ok(words)
 }
 
 /// Fewer than eight bytes, and zeros after them.

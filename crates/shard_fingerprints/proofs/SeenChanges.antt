@@ -5,10 +5,10 @@ use Rattle.math_theory.specs.Laws.{IsEquality, IsGroup, IsProduct, IsRing, IsFie
 use Rattle.math_theory.specs.ModuleLaws.{ring_is_module}
 use Rattle.math_theory.specs.Values.{value}
 use Rattle.math_theory.specs.Interpolation.{AreApart}
-use Rattle.math_theory.proofs.classes.RingUpToSame.{combine_same, combine2_same}
+use Rattle.math_theory.proofs.classes.RingUpToSame.{combine_same, combine2_same, ring_same}
 use Rattle.math_theory.proofs.polynomials.CarriedRoots.{agreement-same}
 use Rattle.math_theory.proofs.polynomials.Horner.{value_over-cons}
-use Rattle.math_theory.proofs.rings.Normal.{◌⊕◌, ◌⊗◌, ◌⊖◌, 𝟙, v0, v1, v2, v3, v4}
+use Rattle.math_theory.proofs.rings.Normal.{◌⊕◌, ◌⊗◌, ◌⊖◌, 𝟘, 𝟙, v0, v1, v2, v3, v4}
 
 module _ {A : Type 0} {same : A → A → Type 0} {zero_of : A} {sum : A → A → A} {negative : A → A} {product : A → A → A} {one : A} {inverse : A → A}
     (E : IsEquality same) (G : IsGroup same zero_of sum negative) (P : IsProduct same product) (L : IsRing same sum product one) (F : IsField same zero_of product one inverse) where
@@ -17,6 +17,18 @@ module _ {A : Type 0} {same : A → A → Type 0} {zero_of : A} {sum : A → A �
 
   value-cons : (r a : A) (p : List A) → same (at r (a ∷ p)) (sum a (product (at r p) r))
   value-cons r a p = value_over-cons E G (ring_is_module E G P L) r a p
+
+  -- what is added to the value is as good as added to the first word
+  pub added_first : (a d : A) (p : List A) (key : A) → same (sum (at key (a ∷ p)) d) (at key (sum a d ∷ p))
+  added_first a d p key =
+      let rest = product (at key p) key in
+      let front : same (sum (at key (a ∷ p)) d) (sum (sum a rest) d) = G.respects_sum _ _ _ _ (value-cons key a p) (E.reflexive d) in
+      let moved : same (sum (sum a rest) d) (sum (sum a d) rest) = ring_same E G P L (a ∷ d ∷ at key p ∷ key ∷ []) ((v0 ⊕ (v2 ⊗ v3)) ⊕ v1) ((v0 ⊕ v1) ⊕ (v2 ⊗ v3)) refl in
+      E.transitive _ _ _ front (E.transitive _ _ _ moved (E.symmetric _ _ (value-cons key (sum a d) p)))
+
+  -- what leaves a sum as it is, is zero
+  pub adds_nothing : (a d : A) → same (sum a d) a → same d zero_of
+  adds_nothing a d h = combine_same E G P L (a ∷ d ∷ []) v1 𝟘 𝟙 (v0 ⊕ v1) v0 h refl
 
   few : (p q keys : List A) (k : ℕ) → length p ≡ length q → k < length p → ¬ (same (get_or p k zero_of) (get_or q k zero_of))
       → AreApart same keys → All (λ key. same (at key p) (at key q)) keys → length p ≤ length keys → ⊥

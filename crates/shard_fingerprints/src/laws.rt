@@ -1,7 +1,8 @@
 //! Laws of fingerprints, each the contract of a function that does nothing.
 
 ghost use Rattle.shard_fingerprints.specs.Fingerprints.{FewKeysAgree, OneChangeIsSeen};
-ghost use Rattle.shard_fingerprints.specs.KeyPairs.{DamageIsMissedRarely, FewPairsAgree, ShardsHaveTheirWords};
+ghost use Rattle.shard_fingerprints.specs.KeyPairs.{ChangesAreMissedRarely, DamageIsMissedRarely};
+ghost use Rattle.shard_fingerprints.specs.KeyPairs.{FewPairsAgree, FewPairsFit, ShardsHaveTheirWords};
 
 use math_base::algebra::Field;
 
@@ -15,8 +16,15 @@ pub fn changes_are_seen<R: Field>()
 /// Two lists of n words that differ have the same two fingerprints under at most (n - 1)^2 pairs of
 /// keys: where n is at most 2^18, under at most one of 2^90 of all pairs of keys other than zero.
 /// Shards that differ in the block, the index or a cell have lists of words that differ.
+///
+/// Where the fingerprints are damaged too, or alone, by what does not depend on the keys, it is the
+/// same as long as the first word is not damaged (`stored`, `stored_rare`): whoever reads a record
+/// knows the number of its block, and whoever reads a header the mark. A first word to which as
+/// much is added as to both fingerprints would not be seen.
 pub fn damage_is_missed_rarely()
     ensures pairs { FewPairsAgree }
     ensures rare { DamageIsMissedRarely }
+    ensures stored { FewPairsFit }
+    ensures stored_rare { ChangesAreMissedRarely }
     ensures shards { ShardsHaveTheirWords }
 {}

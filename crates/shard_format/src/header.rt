@@ -6,7 +6,7 @@
 ghost use Rattle.std.specs.Prelude.{◌≡◌, ◌≢◌, ◌↔◌, ◌<◌, ◌≤◌, ◌++◌, length, take, IsTrue, IfOk, OnOk, OnErr, MatchResult};
 ghost use Rattle.std.specs.Int.{w64, to_be_bytes};
 ghost use Rattle.math_numbers.specs.Goldilocks.{P};
-ghost use Rattle.math_codec.specs.Faults.{IsMemory, OnMemory, Reads};
+ghost use Rattle.math_codec.specs.Faults.{Agrees, IsMemory, OnMemory, Reads, scan_exactly};
 ghost use Rattle.math_base.specs.Elements.{number};
 ghost use Rattle.shard_format.specs.Headers.{AdmitsHeader, beginning_spelling, fingerprints_spelling, header_spelling, header_words, keys_spelling, split_spelling, words_spelling};
 ghost use Rattle.shard_format.specs.Headers.{scan_beginning, scan_fingerprints, scan_fixed, scan_header, scan_key, scan_keys, scan_length, scan_number, scan_split, scan_words};
@@ -365,12 +365,15 @@ pub fn header_bytes(alloc: Global, header: &Header) -> Mem<Vec<u8>>
 }
 
 /// The header that the bytes are the encoding of. It refuses where they are that of none, or the
-/// length is P or more, or a key is zero.
+/// length is P or more, or a key is zero: with the first fault from left to right, and never for
+/// want of memory.
 pub fn header_in(alloc: Global, bytes: &[u8]) -> Result<Header, Error>
     ensures taken { IfOk result (λ h. bytes.now ≡ header_spelling h) }
     ensures admitted { IfOk result AdmitsHeader }
     ensures again { (h : Header) → AdmitsHeader h → bytes.now ≡ header_spelling h
         → MatchResult result (λ g. g ≡ h) IsMemory }
+    ensures memory { OnMemory result ⊥ }
+    ensures exact { Agrees (λ _. tt) result (scan_exactly scan_header bytes.now) }
 {
     decode::<Header>(alloc, bytes, &())
 }

@@ -4,6 +4,7 @@
 #![tactic(auto)]
 
 pub mod header;
+pub mod indices;
 pub mod laws;
 pub mod records;
 pub mod splits;

@@ -9,6 +9,7 @@ use math_base::fields::goldilocks::F;
 use math_codec::codec::{self, decode};
 use shard_blocks::{Error, JoinedBlock, Shard, cells_for, join_block, join_block_corrected};
 use shard_format::header::Header;
+use shard_format::indices::count_distinct;
 use shard_format::records::{
     FINGERPRINTS_SIZE, is_record_of, is_shard_of, record_place, record_size,
 };
@@ -304,30 +305,28 @@ pub fn block_in(
     corrected(rt.alloc(), files, split, block, &found)
 }
 
-/// Whether the file is one of the split, and its shard of a block fits its fingerprints. What is
-/// wrong with that is noted.
-fn is_shard_sound(
+/// The index of the shard of a block that the file has, where it is a file of the split and the
+/// shard fits its fingerprints. What is wrong with that is noted.
+fn sound_index(
     rt: &HostRuntime,
     file: &mut ShardFile,
     split: &Header,
     block: Block,
     room: &mut RecordRoom,
-) -> Result<bool, Fault>
+) -> Result<Option<u32>, Fault>
     requires { 1 ≤ split.now.min }
 {
     let Some(source) = &file.source else {
-        return Ok(false);
+        return Ok(None);
     };
-    let header = &Header {
-        index: source.header.index,
-        ..*split
-    };
+    let index = source.header.index;
+    let header = &Header { index, ..*split };
     let cells = cells_of(header, block)?;
     match read_record(rt, file.name.as_str(), source, header, block, cells, room)? {
-        None => Ok(true),
+        None => Ok(Some(index)),
         Some(why) => {
             file.add_lost_block(block.number, why);
-            Ok(false)
+            Ok(None)
         }
     }
 }
@@ -343,15 +342,13 @@ pub fn check_block(
 ) -> Result<(), Fault>
     requires { 1 ≤ split.now.min }
 {
-    let mut count = 0u32;
-    let mut last = None;
+    let mut indices = Vec::new(rt.alloc());
     for file in files.iter_mut() {
-        if is_shard_sound(rt, file, split, block, room)? && file.number != last {
-            count = count.saturating_add(1);
-            last = file.number;
+        if let Some(index) = sound_index(rt, file, split, block, room)? {
+            indices.push(index)?;
         }
     }
-    if count < split.min {
+    if count_distinct(rt.alloc(), split.total, &indices)? < split.min as usize {
         return Err(Fault::Block(block.number, Error::TooFew));
     }
     Ok(())

@@ -10,17 +10,52 @@ use crate::names::Wanted;
 use crate::output::owned;
 use crate::progress::Progress;
 use crate::sources::{ShardFile, count_there, gather};
+use shard_blocks::cells_for;
 use shard_format::header::Header;
+use shard_format::records::{block_count, record_size};
 
-/// What was found of all blocks.
+/// How many bytes of records are read of blocks no record of which fits, before no more blocks are
+/// looked at. So files that claim to be large, and are not, do not keep a check busy.
+const MOST_IN_VAIN: u64 = 1 << 30;
+
+/// How many bytes a record counts for at least that was read so.
+const LEAST_RECORD: u64 = 1 << 14;
+
+/// What was found of the blocks that were looked at.
 #[derive(Drop)]
 struct Findings {
     blocks: u64,
     refused: u64,
     first: Option<Fault>,
+    /// How many of them have no record that fits, and how many bytes were read for that.
+    without: u64,
+    in_vain: u64,
 }
 
 impl Findings {
+    /// Those of no block.
+    fn new() -> Findings {
+        Findings {
+            blocks: 0,
+            refused: 0,
+            first: None,
+            without: 0,
+            in_vain: 0,
+        }
+    }
+
+    /// Notes that a block has no record that fits, where so many have a place for it in a file.
+    fn add_block_without_record(&mut self, records: u64, bytes: u64) {
+        self.without = self.without.saturating_add(1);
+        let read = records.saturating_mul(bytes.max(LEAST_RECORD));
+        self.in_vain = self.in_vain.saturating_add(read);
+    }
+
+    /// Whether so much was read in vain that no more blocks are looked at.
+    fn is_given_up(&self) -> bool {
+        self.in_vain >= MOST_IN_VAIN
+    }
+
     /// Notes that a block is refused. Where memory or room for an open file ran out nothing is
     /// found.
     fn add_refused_block(&mut self, fault: Fault) -> Result<(), Fault> {
@@ -42,8 +77,25 @@ pub struct Checked {
     pub fault: Option<Fault>,
 }
 
+/// In how many blocks shards are not used, those of all files added up.
+fn count_lost(files: &[ShardFile]) -> u64 {
+    let mut lost = 0u64;
+    for file in files {
+        lost = lost.saturating_add(file.lost);
+    }
+    lost
+}
+
+/// How many of the files are of the split.
+fn count_used(files: &[ShardFile]) -> u64 {
+    files.iter().filter(|file| file.is_used()).count() as u64
+}
+
 /// Looks at all shards of each block, notes what is wrong, and which blocks have too few that fit
 /// their fingerprints. Only where all are to be compared are the shards of a block joined too.
+///
+/// It gives up where it has read too much in vain; then the first block was looked at, and is one
+/// of those that cannot be restored.
 fn try_blocks(
     rt: &HostRuntime,
     split: &Header,
@@ -53,11 +105,8 @@ fn try_blocks(
     requires some { 1 ≤ split.now.min }
     requires block { 1 ≤ split.now.block }
 {
-    let mut findings = Findings {
-        blocks: 0,
-        refused: 0,
-        first: None,
-    };
+    let mut findings = Findings::new();
+    let used = count_used(files);
     let mut progress = Progress::new(rt, split.length);
     let mut room = RecordRoom::new(rt.alloc());
     let mut left = split.length;
@@ -66,10 +115,18 @@ fn try_blocks(
             number: findings.blocks,
             bytes: left.min(u64::from(split.block)) as u32,
         };
+        let lost = count_lost(files);
         if let Err(fault) = try_block(rt, split, files, block, compares_all, &mut room) {
             findings.add_refused_block(fault)?;
+            if count_lost(files).saturating_sub(lost) == used {
+                let cells = cells_for(block.bytes as usize, split.min);
+                findings.add_block_without_record(used, record_size(split, cells));
+            }
         }
         findings.blocks = findings.blocks.saturating_add(1);
+        if findings.is_given_up() {
+            break;
+        }
         left -= u64::from(block.bytes);
         progress.print_percentage(rt, left);
     }
@@ -121,9 +178,12 @@ pub fn check(rt: &HostRuntime, wanted: &Wanted, compares_all: bool) -> Result<Ch
     }
 }
 
-/// Whether the fault is one of the headers and lengths of the files.
+/// Whether the fault is one of the folder, or of the headers and lengths of the files.
 fn is_of_headers(fault: &Fault) -> bool {
-    matches!(fault, Fault::NoShard(_) | Fault::Tie(..) | Fault::Length(_))
+    matches!(
+        fault,
+        Fault::Folder(..) | Fault::NoShard(_) | Fault::Tie(..) | Fault::Length(_)
+    )
 }
 
 /// A line for each file with which something is wrong.
@@ -162,7 +222,8 @@ fn check_split(
     Ok(Checked { text, fault })
 }
 
-/// Two lines: what the split is, and what `join` does. And whether that restores the file.
+/// Two lines: what the split is, and what `join` does; between them one where not all blocks were
+/// looked at. And whether that restores the file.
 fn write_findings(
     rt: &HostRuntime,
     wanted: &Wanted,
@@ -170,13 +231,22 @@ fn write_findings(
     files: &[ShardFile],
     findings: &Findings,
     text: &mut String,
-) -> Result<bool, Fault> {
+) -> Result<bool, Fault>
+    requires { 1 ≤ split.now.block }
+{
     let (min, total, length) = (split.min, split.total, split.length);
-    let blocks = findings.blocks;
+    let blocks = block_count(split);
     writeln!(
         text,
         "any {min} of {total} give back {length} bytes in {blocks} blocks"
     )?;
+    if findings.blocks < blocks {
+        let (from, without) = (findings.blocks, findings.without);
+        writeln!(
+            text,
+            "given up at block {from}, since {without} blocks before it have no shard that fits"
+        )?;
+    }
     if let Err(fault) = check_count(rt, wanted, split, files) {
         writeln!(text, "cannot be restored: {}", reason_of(rt, &fault)?)?;
         return Ok(false);

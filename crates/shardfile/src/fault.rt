@@ -4,11 +4,34 @@ use std::alloc::{AllocError, AllocFailed};
 use std::io;
 use thiserror::Error;
 
+/// What is wrong with which word.
+#[derive(Debug, Drop, Error)]
+pub enum WrongWord {
+    #[error("no command is given")]
+    NoCommand,
+    #[error("{0}: no such command")]
+    Command(String),
+    #[error("{0}: no such option")]
+    Option(String),
+    #[error("{0}: no option of {1}")]
+    OptionOf(&'static str, &'static str),
+    #[error("--to: no folder is given after it")]
+    NoFolder,
+    #[error("a word is empty")]
+    Empty,
+    #[error("{1} words are given where {0} are wanted")]
+    Count(&'static str, usize),
+    #[error("{1}: {0} is a number from 1 to 65536")]
+    Number(&'static str, String),
+    #[error("MIN is {0}, and TOTAL is {1}: MIN is TOTAL at most")]
+    MinAboveTotal(u32, u32),
+}
+
 /// Why the work was not done. Texts name the file or the block that is meant.
 #[derive(Debug, Drop, Error)]
 pub enum Fault {
-    #[error("usage: shardfile split [--force] [--to FOLDER] MIN TOTAL FILE | join [--force] [--all] FILE OUT | join [--force] [--all] --shards OUT SHARD .. | check [--all] FILE | check [--all] --shards SHARD .. | --help | --version")]
-    Usage,
+    #[error("{0}\nusage: shardfile split [--force] [--to FOLDER] MIN TOTAL FILE | join [--force] [--all] FILE OUT | join [--force] [--all] --shards OUT SHARD .. | check [--all] FILE | check [--all] --shards SHARD .. | clean FOLDER | --help | --version")]
+    Usage(WrongWord),
     #[error("refused: a word is no UTF-8 text: give the file such a name, or a link to it (ln -s), and call it by this")]
     Words,
     #[error("refused: out of memory")]
@@ -17,12 +40,17 @@ pub enum Fault {
     Io(io::Error),
     #[error("refused: {0}: {1}")]
     File(String, io::Error),
+    /// The folder in which shard files are looked for.
+    #[error("refused: {0}: {1}")]
+    Folder(String, io::Error),
     #[error("refused: {0}: is there already, and only --force replaces it")]
     Exists(String),
     #[error("refused: {0}: is a file that is read here, a shard file, or has the name of one")]
     Input(String),
     #[error("refused: {0}: another run is splitting it")]
     Busy(String),
+    #[error("refused: {0}: the file system has no locks, by which files of runs that go on are told: {1}")]
+    NoLock(String, io::Error),
     #[error("refused: {0}: not a regular file")]
     NotRegular(String),
     #[error("refused: {0}: changed while it was read")]
@@ -51,7 +79,7 @@ impl Fault {
     /// The status that the program ends with: 2 for wrong words, 1 else.
     pub fn status(&self) -> u8 {
         match self {
-            Fault::Usage => 2,
+            Fault::Usage(_) => 2,
             _ => 1,
         }
     }

@@ -68,7 +68,7 @@ pub fn numbers_there(rt: &HostRuntime, file: &str) -> Result<Vec<u32>, Fault> {
     let mut numbers = Vec::new(rt.alloc());
     let entries = match read_dir(rt, folder.as_str()) {
         Ok(entries) => entries,
-        Err(error) => return Err(Fault::File(folder, error)),
+        Err(error) => return Err(Fault::Folder(folder, error)),
     };
     for entry in entries {
         match entry {
@@ -79,7 +79,7 @@ pub fn numbers_there(rt: &HostRuntime, file: &str) -> Result<Vec<u32>, Fault> {
             }
             // A name that is no text is not a shard's.
             Err(error) if error.kind() == ErrorKind::InvalidFilename => {}
-            Err(error) => return Err(Fault::File(folder, error)),
+            Err(error) => return Err(Fault::Folder(folder, error)),
         }
     }
     numbers.sort_unstable();

@@ -103,7 +103,33 @@ impl Manner {
     }
 }
 
+/// The parts of the name of a partial file that tell its run and its number.
+fn parts_of_name(name: &str) -> Option<(&str, &str)> {
+    let inner = name.strip_prefix("shardfile-")?.strip_suffix(".partial")?;
+    inner.split_once('-')
+}
+
+/// Whether the name is one that partial files have.
+pub fn is_partial_name(name: &str) -> bool {
+    let Some((token, number)) = parts_of_name(name) else {
+        return false;
+    };
+    token.len() == 16
+        && token.bytes().all(|byte| byte.is_ascii_hexdigit())
+        && !number.is_empty()
+        && number.bytes().all(|byte| byte.is_ascii_digit())
+}
+
+/// The name, in the folder, of the first partial file of the run that the one with this name is of.
+pub fn first_of_run(rt: &HostRuntime, folder: &str, name: &str) -> Result<String, Fault> {
+    let (token, _) = parts_of_name(name).unwrap_or(("", ""));
+    Ok(format!(in rt.alloc(); "{folder}/shardfile-{token}-0.partial")?)
+}
+
 /// A file that is written in the folder of its final name, under a name that no other run has.
+///
+/// It is locked, where the file system has locks, as long as it is kept open. The first file of a
+/// run is kept open to the end, and has its final name last: its lock says that the run goes on.
 #[derive(Drop)]
 pub struct Partial {
     /// The open file, where it is kept open.
@@ -126,16 +152,19 @@ impl Partial {
     ) -> Result<Partial, Fault> {
         let rights = how.rights & rights_at(rt, path.as_str(), how.force)?;
         let beside = how.name_beside(rt, path.as_str(), number)?;
-        match created(rt, beside.as_str(), rights | OWN_RIGHTS) {
-            Ok(file) => Ok(Partial {
-                file: Some(file),
-                path,
-                beside,
-                force: how.force,
-                rights,
-            }),
-            Err(error) => Err(Fault::File(path, error)),
-        }
+        let file = match created(rt, beside.as_str(), rights | OWN_RIGHTS) {
+            Ok(file) => file,
+            Err(error) => return Err(Fault::File(path, error)),
+        };
+        // Where the file system has no locks, there is none.
+        let _locked = file.try_lock();
+        Ok(Partial {
+            file: Some(file),
+            path,
+            beside,
+            force: how.force,
+            rights,
+        })
     }
 
     /// The fault that the system finds with it.
@@ -420,8 +449,8 @@ fn append_all(
     Ok(())
 }
 
-/// Gives the files, which lie in one folder, their final names, in order, once the system has
-/// written all of them to the device. No memory is taken once the first has it.
+/// Gives the files, which lie in one folder, their final names, the first one last, once the system
+/// has written all of them to the device. No memory is taken once one has it.
 fn all_named(rt: &HostRuntime, partials: &[Partial]) -> Result<(), Fault> {
     let Some(first) = partials.first() else {
         return Ok(());
@@ -430,7 +459,7 @@ fn all_named(rt: &HostRuntime, partials: &[Partial]) -> Result<(), Fault> {
         partial.settle(rt)?;
     }
     let (folder, _) = folder_and_name(rt, first.path.as_str())?;
-    for partial in partials {
+    for partial in partials.iter().rev() {
         partial.take_name(rt)?;
     }
     sync_folder(rt, folder)

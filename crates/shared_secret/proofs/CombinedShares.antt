@@ -13,7 +13,7 @@ use Rattle.math_theory.proofs.polynomials.ValuesRespect.{value_over-respects}
 use Rattle.math_base.specs.Members.{RingOf}
 use Rattle.math_base.proofs.PlaceByPlace.{AllZip-append}
 use Rattle.math_base.specs.Polynomials.{AreWeightsAt, value_in_ring}
-use Rattle.commonware_math.proofs.InterpolatorLaws.{interpolated-value}
+use Rattle.math_poly.proofs.InterpolatedValues.{interpolated-value}
 use Rattle.shared_secret.specs.declared.shares.Share.{Share}
 use Rattle.shared_secret.specs.Shares.{point, points, values, AreCombinable, IsCombined}
 

@@ -13,7 +13,7 @@ use Rattle.math_theory.proofs.polynomials.Horner.{value_over-at_zero}
 use Rattle.math_theory.proofs.polynomials.ScaledPoint.{value_over-scaled_point}
 use Rattle.math_base.specs.Members.{RingOf, SpaceOf, value}
 use Rattle.math_base.specs.Polynomials.{value_in_ring}
-use Rattle.commonware_math.proofs.InterpolatorLaws.{interpolated-value}
+use Rattle.math_poly.proofs.InterpolatedValues.{interpolated-value}
 use Rattle.shared_secret.specs.declared.shares.Share.{Share}
 use Rattle.shared_secret.specs.Shares.{point, points, values, AreSharesOf, HasZeroPoint, AreDealt, IsCombined}
 use Rattle.shared_secret.specs.ShareLaws.{AnySharesCombine, DealtAreVerified, VerifiedGiveCommitted}

@@ -1,9 +1,12 @@
 -- Shares at distinct points other than zero, fewer than t, are explained by each secret, and equally often by each.
-use Rattle.std.proofs.Common.{◌≡◌, ◌∙◌, ℕ, zero, suc, ◌+◌, ◌-◌, ◌<◌, List, [], ◌∷◌, length, map, drop, get_or, refl, sym, ap, subst, arith}
+use Rattle.std.proofs.Common.{◌≡◌, ◌∙◌, ℕ, zero, suc, ◌+◌, ◌-◌, ◌<◌, ◌≤◌, List, [], ◌∷◌, Option, length, map, take, drop, get_or, refl, sym, ap, subst, arith}
 use Rattle.std.specs.List.{All, AllZip, Contains}
-use Rattle.std.proofs.lemmas.List.{get_or-map, length-drop, length-map}
+use Rattle.std.proofs.lemmas.List.{get_or-map, get_or-take, length-drop, length-map, length-take, take-map}
 use Rattle.std.proofs.Math.Seq.{drop-length}
-use Rattle.std.proofs.lemmas.List.Elements.{All-map, length_all_zip}
+use Rattle.std.proofs.lemmas.List.Elements.{All-contains, All-contains_itself, All-map, All-take, length_all_zip}
+use Rattle.std.proofs.lemmas.List.FromFn.{length-range_with_len}
+use Rattle.std.proofs.lemmas.Option.{get_or_from_slice_get, slice_get_within}
+use Rattle.rand_core.specs.Stream.{Stream}
 use Rattle.math_theory.specs.Interpolation.{AreApart}
 use Rattle.math_theory.specs.Laws.{IsEquality, IsGroup, IsProduct, IsRing, IsField}
 use Rattle.math_theory.specs.ModuleLaws.{ring_is_module}
@@ -11,8 +14,8 @@ use Rattle.math_theory.proofs.polynomials.Horner.{value_over-at_zero}
 use Rattle.math_base.specs.Members.{RingOf}
 use Rattle.math_base.specs.Polynomials.{value_in_ring}
 use Rattle.shared_secret.specs.declared.shares.Share.{Share}
-use Rattle.shared_secret.specs.Shares.{point, points, values, AreSharesOf, AreAtDistinctPoints}
-use Rattle.shared_secret.specs.Explanations.{Explains, EachSecretExplainsOnce, EachSecretExplainsByLast, AreAllElements, AreAllExplanations, EachSecretExplainsEquallyOften}
+use Rattle.shared_secret.specs.Shares.{point, points, values, AreSharesOf, AreAtDistinctPoints, AreDealt, IsSampled}
+use Rattle.shared_secret.specs.Explanations.{DealsAreExplained, Explains, EachSecretExplainsOnce, EachSecretExplainsByLast, AreAllElements, AreAllExplanations, EachSecretExplainsEquallyOften}
 use Rattle.shared_secret.proofs.ExplainedValues.{explained, length-explained, last-explained, value-explained, agreed, zip-drop, zip-symmetric, zip-transitive, zip-reflexive}
 use Rattle.shared_secret.proofs.ListsOfElements.{lists, length-lists, each-length, apart-lists, lists-every, pairs-map, contains-map}
 
@@ -100,6 +103,51 @@ module _ {A : Type 0} (R : RingOf A) {inverse : A → A} (E : IsEquality R.same)
       let n = length shares + 1 in
       let all = by_last n shares secret [] h (omega arith) in
       (all.0, (all.1, λ q hq. all.3 q hq (subst (λ a. AllZip R.same a []) (sym (none-left n q hq.count)) tt)))
+
+  explains-some : (sample : Stream → Option A × Stream) (secret : A) (t n : ℕ) (before after : Stream) (p : List A) (dealt shares : List (Share A)) → IsSampled sample secret t before after p
+      → AreDealt R n p dealt → All (Contains dealt) shares → Explains R t secret shares p
+  explains-some sample secret t n before after p dealt shares S D h = record {
+    count = S.count;
+    constant = subst (λ c. R.same c secret) (sym (get_or_from_slice_get p 0 secret R.zero S.constant)) (E.reflexive secret);
+    values = λ k d l. All-contains (λ s. R.same s.value (value_in_ring R p (point R s.index))) dealt (get_or shares k d) D.values (h k d l);
+  }
+
+  -- what explains shares explains the first of them
+  explains-first : (m t : ℕ) (secret : A) (shares : List (Share A)) (p : List A) → Explains R t secret shares p → Explains R t secret (take m shares) p
+  explains-first m t secret shares p h =
+      record { count = h.count; constant = h.constant; values = All-take (λ s. R.same s.value (value_in_ring R p (point R s.index))) m shares h.values }
+
+  first-distinct : (m : ℕ) (shares : List (Share A)) → AreAtDistinctPoints R shares → AreAtDistinctPoints R (take m shares)
+  first-distinct m shares h =
+      let some : take m (points R shares) ≡ points R (take m shares) = take-map (λ s. point R s.index) m shares in (
+        λ z.
+            let within : z.0 < length shares = omega (arith, z.2, length-take m shares) in
+            let below : z.0 < m = omega (arith, z.2, length-take m shares) in
+            h.0 (z.0, z.1, within, subst (λ x. R.same x R.zero) (ap (λ xs. get_or xs z.0 z.1) (sym some) ∙ get_or-take m (points R shares) z.0 z.1 below) z.3),
+        λ i j x l b s.
+            let size : length (points R (take m shares)) ≡ length (take m shares) = length-map (take m shares) (λ s. point R s.index) in
+            let all : length (points R shares) ≡ length shares = length-map shares (λ s. point R s.index) in
+            let within : j < length (points R shares) = omega (arith, b, size, all, length-take m shares) in
+            let below : j < m = omega (arith, b, size, length-take m shares) in
+            let first : get_or (points R (take m shares)) i x ≡ get_or (points R shares) i x = ap (λ xs. get_or xs i x) (sym some) ∙ get_or-take m (points R shares) i x (omega (arith, l, below)) in
+            let second : get_or (points R (take m shares)) j x ≡ get_or (points R shares) j x = ap (λ xs. get_or xs j x) (sym some) ∙ get_or-take m (points R shares) j x below in
+            h.1 i j x l within (subst (λ v. R.same (get_or (points R shares) i x) v) second (subst (λ v. R.same v (get_or (points R (take m shares)) j x)) first s)),
+      )
+
+  pub deals : (sample : Stream → Option A × Stream) → DealsAreExplained R sample
+  deals sample secret t n before after p dealt S D = (
+    λ shares h. explains-some sample secret t n before after p dealt shares S D h,
+    λ enough distinct q hq.
+        let count : length dealt ≡ n = sym (length-map dealt (λ u. u.index)) ∙ ap length D.indices ∙ length-range_with_len 1 n in
+        let first = take (t - 1) dealt in
+        let mine : Explains R t secret first p = explains-first (t - 1) t secret dealt p (explains-some sample secret t n before after p dealt dealt S D (All-contains_itself dealt)) in
+        let other : Explains R t secret first q = explains-first (t - 1) t secret dealt q hq in
+        let some : 0 < t = omega (arith, slice_get_within p 0 secret S.constant, S.count) in
+        let size : length first + 1 ≡ t = omega (arith, enough, some, count, length-take (t - 1) dealt) in
+        let only = once first secret (first-distinct (t - 1) dealt distinct) in
+        let like : (r : List A) → Explains R t secret first r → AllZip R.same r only.0 = λ r h. only.1.1 r (subst (λ m. Explains R m secret first r) (sym size) h) in
+        zip-transitive E G P L F _ _ _ (like q other) (zip-symmetric E G P L F _ _ (like p mine)),
+  )
 
   pub equally : EachSecretExplainsEquallyOften R
   equally elements t shares secret es h l =

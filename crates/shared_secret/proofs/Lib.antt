@@ -1,5 +1,4 @@
 pub mod IndexPoints
-pub mod PairsByPlace
 pub mod DealtShares
 pub mod CombinedShares
 pub mod DealingSteps

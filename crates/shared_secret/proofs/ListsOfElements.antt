@@ -13,13 +13,13 @@ module _ {X : Type 0} (R : X → X → Type 0) where
   pairs-cons x xs h k (suc i) zero d l m = absurd (omega arith)
   pairs-cons x xs h k (suc i) (suc j) d l m = k i j d (omega arith) (omega arith)
 
-  pairs-head : (x : X) (xs : List X) → AllPairs R (x ∷ xs) → All (R x) xs
+  pub pairs-head : (x : X) (xs : List X) → AllPairs R (x ∷ xs) → All (R x) xs
   pairs-head x xs h k d l = h 0 (suc k) d (omega arith) (omega arith)
 
-  pairs-tail : (x : X) (xs : List X) → AllPairs R (x ∷ xs) → AllPairs R xs
+  pub pairs-tail : (x : X) (xs : List X) → AllPairs R (x ∷ xs) → AllPairs R xs
   pairs-tail x xs h i j d l m = h (suc i) (suc j) d (omega arith) (omega arith)
 
-  pairs-append : (xs ys : List X) → AllPairs R xs → AllPairs R ys → All (λ x. All (R x) ys) xs → AllPairs R (xs ++ ys)
+  pub pairs-append : (xs ys : List X) → AllPairs R xs → AllPairs R ys → All (λ x. All (R x) ys) xs → AllPairs R (xs ++ ys)
   pairs-append [] ys h k c = k
   pairs-append (x ∷ xs) ys h k c =
       pairs-cons x (xs ++ ys) (All-append (R x) xs ys (pairs-head x xs h) (All-head (λ y. All (R y) ys) x xs c))
@@ -36,10 +36,10 @@ contains-map f xs x h = (h.0, omega (arith, h.1, length-map xs f), get_or-map f 
 more : (m n : ℕ) → n + m * n ≡ suc m * n
 more m n = grind arith
 
-none : (n : ℕ) → 1 ≡ n ^ 0
+pub none : (n : ℕ) → 1 ≡ n ^ 0
 none n = simp unary_clauses refl
 
-once_more : (n k : ℕ) → n * n ^ k ≡ n ^ suc k
+pub once_more : (n k : ℕ) → n * n ^ k ≡ n ^ suc k
 once_more n k = simp unary_clauses (grind arith)
 
 module _ {A : Type 0} (same : A → A → Type 0) where

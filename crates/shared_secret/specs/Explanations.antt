@@ -1,11 +1,12 @@
 -- The polynomials that explain some shares by a secret, and how many there are.
 use Rattle.std.specs.List.{AllZip, Contains}
-use Rattle.std.specs.Prelude.{◌≡◌, ◌+◌, ◌-◌, ◌<◌, ◌^◌, ℕ, List, length, drop, All}
+use Rattle.std.specs.Prelude.{◌≡◌, ◌+◌, ◌-◌, ◌<◌, ◌≤◌, ◌^◌, ℕ, List, Option, length, drop, All}
+use Rattle.rand_core.specs.Stream.{Stream}
 use Rattle.math_theory.specs.Coefficients.{coefficient}
 use Rattle.math_theory.specs.Interpolation.{AreApart}
 use Rattle.math_base.specs.Members.{RingOf}
 use Rattle.shared_secret.specs.declared.shares.Share.{Share}
-use Rattle.shared_secret.specs.Shares.{AreSharesOf, AreAtDistinctPoints}
+use Rattle.shared_secret.specs.Shares.{AreSharesOf, AreAtDistinctPoints, AreDealt, IsSampled}
 
 -- a polynomial of t coefficients whose constant is same as the secret, and whose values are those of the shares
 pub record Explains {A : Type 0} (R : RingOf A) (t : ℕ) (secret : A) (shares : List (Share A)) (p : List A) : Type 0 where
@@ -43,3 +44,10 @@ pub record AreAllExplanations {A : Type 0} (R : RingOf A) (t : ℕ) (secret : A)
 abbrev pub EachSecretExplainsEquallyOften : {A : Type 0} → RingOf A → Type 0
 EachSecretExplainsEquallyOften {A} R = (elements : List A) (t : ℕ) (shares : List (Share A)) (secret : A) → AreAllElements R elements → AreAtDistinctPoints R shares
     → length shares < t → (ps : List (List A)) × AreAllExplanations R t secret shares ps × (length ps ≡ length elements ^ (t - 1 - length shares))
+
+-- the polynomial of a deal, which is the secret and then the samples that were drawn, explains any of its shares by the secret; and where there are t - 1 shares at least, at distinct points, no
+-- other one explains all of them
+abbrev pub DealsAreExplained : {A : Type 0} → RingOf A → (Stream → Option A × Stream) → Type 0
+DealsAreExplained {A} R sample = (secret : A) (t n : ℕ) (before after : Stream) (p : List A) (dealt : List (Share A)) → IsSampled sample secret t before after p → AreDealt R n p dealt
+    → ((shares : List (Share A)) → All (Contains dealt) shares → Explains R t secret shares p)
+    × (t ≤ n + 1 → AreAtDistinctPoints R dealt → (q : List A) → Explains R t secret dealt q → AllZip R.same q p)

@@ -1,8 +1,7 @@
 //! Combining of shares.
 
 ghost use Rattle.std.specs.Prelude.{◌≡◌, ◌↔◌, ◌<◌, ◌≤◌, List, length, All, IfOk, IfErr};
-ghost use Rattle.std.specs.List.{AllZip, enumerate_from};
-ghost use Rattle.std.specs.Map.{values_of};
+ghost use Rattle.std.specs.List.{AllZip};
 ghost use Rattle.math_theory.specs.Interpolation.{AreApart};
 ghost use Rattle.math_base.specs.Polynomials.{AreWeightsAt, value_in_ring};
 ghost use Rattle.shared_secret.specs.Shares.{AreCombinable, AreSharesOf, IsCombined, IsRepeatedFirst, IsZeroFirst, point};
@@ -10,9 +9,9 @@ ghost use Rattle.shared_secret.specs.declared.error.CombineError.TheVariants.{To
 
 use crate::error::CombineError;
 use crate::shares::{Share, point};
-use commonware_math::algebra::{Field, Mem, Object, Space};
-use commonware_math::poly::Interpolator;
-use math_transforms::weights::first_place;
+use math_base::algebra::{Field, Mem, Object, Space};
+use math_base::weights::first_place;
+use math_poly::weights::weights_at;
 use std::alloc::Global;
 
 /// Combines the shares, in any order, to the secret: the sum of their values, each times the weight
@@ -40,9 +39,9 @@ pub fn combine<F: Field>(alloc: Global, t: u32, shares: &[Share<F>]) -> Result<F
         return Err(CombineError::TooFewShares);
     }
     let points = distinct_points(alloc, shares)?;
-    let weights = weights_at_zero(alloc, points)?;
+    let weights = weights_at_zero(alloc, &points)?;
     let values = copied_values(alloc, shares)?;
-    let secret = F::msm(alloc, &values, weights.weights().values())?;
+    let secret = F::msm(alloc, &values, &weights)?;
     Ok(secret)
 }
 
@@ -75,26 +74,14 @@ pub(super) fn distinct_points<F: Field>(
     Ok(out)
 }
 
-/// The weights of the points for the value at zero, each with the place of its point.
-fn weights_at_zero<F: Field>(alloc: Global, points: Vec<F>) -> Mem<Interpolator<usize, F>>
-    ensures { IfOk result (λ weights. AreApart F.same points.items
-        → AreWeightsAt F.Ring F.zero points.items (values_of weights)) }
+/// The weights of the points for the value at zero.
+pub(super) fn weights_at_zero<F: Field>(alloc: Global, points: &[F]) -> Mem<Vec<F>>
+    ensures { IfOk result (λ weights. AreApart F.same points.now
+        → AreWeightsAt F.Ring F.zero points.now weights.items) }
 {
-    let pairs = by_place(alloc, points)?;
-    let out = Interpolator::new(alloc, pairs)?;
-    Ok(out)
-}
-
-/// The items, each with its place.
-fn by_place<T: Drop>(alloc: Global, items: Vec<T>) -> Mem<Vec<(usize, T)>>
-    ensures { IfOk result (λ pairs. pairs.items ≡ enumerate_from 0 items.items) }
-{
-    let mut out = Vec::with_capacity(alloc, items.len())?;
-    for item in items {
-        let place = out.len();
-        out.push((place, item))?;
-    }
-    Ok(out)
+    let zero = F::zero(alloc)?;
+    let weights = weights_at(alloc, points, &zero)?;
+    Ok(weights)
 }
 
 /// Copies of the values, in order.

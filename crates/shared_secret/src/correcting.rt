@@ -9,7 +9,7 @@ ghost use Rattle.shared_secret.specs.declared.error.CombineError.TheVariants.{To
 use crate::combining::{copied_values, distinct_points};
 use crate::error::CombineError;
 use crate::shares::Share;
-use commonware_math::algebra::{Field, Mem, Ring};
+use math_base::algebra::{Field, Mem, Ring};
 use math_decoding::decoding::{Decoded, decode};
 use std::alloc::Global;
 

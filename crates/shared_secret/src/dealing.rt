@@ -8,8 +8,8 @@ ghost use Rattle.shared_secret.specs.declared.error.DealError.TheVariants.{TooMa
 
 use crate::error::DealError;
 use crate::shares::Share;
-use commonware_math::algebra::{CryptoGroup, Field, Random, RandomError};
-use commonware_math::poly::Poly;
+use math_base::algebra::{CryptoGroup, Field, Random, RandomError};
+use math_poly::poly::Poly;
 use rand_core::{CryptoRng, Rng};
 use std::alloc::Global;
 

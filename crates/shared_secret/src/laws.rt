@@ -1,9 +1,10 @@
 //! Laws of shares, each the contract of a function that does nothing.
 
-ghost use Rattle.shared_secret.specs.Explanations.{EachSecretExplainsOnce, EachSecretExplainsByLast, EachSecretExplainsEquallyOften};
+ghost use Rattle.shared_secret.specs.Explanations.{DealsAreExplained, EachSecretExplainsOnce};
+ghost use Rattle.shared_secret.specs.Explanations.{EachSecretExplainsByLast, EachSecretExplainsEquallyOften};
 ghost use Rattle.shared_secret.specs.ShareLaws.{AnySharesCombine, DealtAreVerified, RefusalsExclude, VerifiedGiveCommitted};
 
-use commonware_math::algebra::{CryptoGroup, Field};
+use math_base::algebra::{CryptoGroup, Field, Random};
 
 /// Any t or more shares of a deal, no two of one index, are combined to its secret: `combine`
 /// refuses them for want of memory alone.
@@ -33,6 +34,13 @@ pub fn each_secret_explains<F: Field>()
     ensures once { EachSecretExplainsOnce F.Ring }
     ensures last { EachSecretExplainsByLast F.Ring }
     ensures equally { EachSecretExplainsEquallyOften F.Ring }
+{}
+
+/// A deal is one of the ways in which its secret explains what is seen of it: the polynomial of the
+/// deal, which is the secret and then the samples that were drawn, explains any of its shares. All
+/// of them, t - 1 at least and at distinct points, are explained by no other one.
+pub fn deals_are_explained<F: Field + Random>()
+    ensures { DealsAreExplained F.Ring F.sample }
 {}
 
 /// What `combine` and `combine_corrected` say of the points, where they give a secret and where

@@ -3,7 +3,7 @@
 ghost use Rattle.std.specs.Prelude.{IfOk, IsOk, IsTrue};
 ghost use Rattle.shared_secret.specs.Shares.{point};
 
-use commonware_math::algebra::{Mem, Ring};
+use math_base::algebra::{Mem, Ring};
 use std::alloc::Global;
 
 /// A share: an index from 1 on, and the value at its point. How many shares combine is not written

@@ -4,8 +4,8 @@ ghost use Rattle.std.specs.Prelude.{◌↔◌, IfOk, IsOk, IsTrue};
 ghost use Rattle.shared_secret.specs.Shares.{IsVerified};
 
 use crate::shares::{Share, point};
-use commonware_math::algebra::{CryptoGroup, Mem, Object, Space};
-use commonware_math::poly::Poly;
+use math_base::algebra::{CryptoGroup, Mem, Object, Space};
+use math_poly::poly::Poly;
 use std::alloc::Global;
 
 /// Whether the generator scaled by the share's value is same as the commitment's value at the point

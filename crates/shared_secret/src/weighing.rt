@@ -2,17 +2,18 @@
 
 ghost use Rattle.std.specs.Prelude.{◌≡◌, ◌↔◌, ◌<◌, ◌≤◌, ℕ, List, [], length, IfOk, IfErr, IfSome, IfNone};
 ghost use Rattle.math_theory.specs.Interpolation.{AreApart};
+ghost use Rattle.math_theory.specs.Sums.{weighted_sum};
 ghost use Rattle.shared_secret.specs.CorrectedShares.{IsCorrected};
 ghost use Rattle.shared_secret.specs.Shares.{IsRepeatedFirst, IsZeroFirst, values};
 ghost use Rattle.shared_secret.specs.Weights.{AreWeightsAtPoints, AreWeightsOf};
 ghost use Rattle.shared_secret.specs.declared.error.CombineError.TheVariants.{TooFewShares, ZeroIndex, RepeatedIndex};
 ghost use Rattle.shared_secret.specs.declared.shares.Share.{Share};
 
-use crate::combining::distinct_points;
+use crate::combining::{distinct_points, weights_at_zero};
 use crate::error::CombineError;
 use crate::shares::Share;
-use commonware_math::algebra::{Field, Mem, Object, Space};
-use commonware_math::poly::weights_at;
+use math_base::algebra::{Field, Mem, Object};
+use math_poly::weights::weights_at;
 use std::alloc::Global;
 
 /// Weights by which the values of the first t shares give the secret, and the value of each further
@@ -54,8 +55,7 @@ fn weights_at_points<F: Field>(alloc: Global, t: usize, points: &[F]) -> Mem<Wei
         → AreWeightsAtPoints F.Ring t points.now w) }
 {
     let (first, others) = points.split_at(t);
-    let zero = F::zero(alloc)?;
-    let secret = weights_at(alloc, first, &zero)?;
+    let secret = weights_at_zero(alloc, first)?;
     let mut further = Vec::with_capacity(alloc, others.len())?;
     for x in others {
         further.push(weights_at(alloc, first, x)?)?;
@@ -66,7 +66,17 @@ fn weights_at_points<F: Field>(alloc: Global, t: usize, points: &[F]) -> Mem<Wei
 /// The secret of shares with these weights and the values given, where none of them is wrong: the
 /// values are those of one polynomial of t coefficients, and the secret is its constant. It answers
 /// `None` exactly where there is no such polynomial.
-pub fn secret_of<F: Field>(alloc: Global, weights: &Weights<F>, given: &[F]) -> Mem<Option<F>>
+///
+/// The sum of products is handed in: `msm` serves every field, and one with a cheaper way takes that.
+pub fn secret_of<F: Field, S: Fn(&[F], &[F]) -> Mem<F>>(
+    alloc: Global,
+    weights: &Weights<F>,
+    given: &[F],
+    sum_of_products: S,
+) -> Mem<Option<F>>
+    requires callable { S.IsAlwaysCallable sum_of_products }
+    requires sums { (xs : _) (ys : _) (sum : _) → S.post sum_of_products xs ys sum
+        → IfOk sum (λ x. F.same x (weighted_sum F.zero F.sum F.product xs.now ys.now)) }
     ensures found { (t : ℕ) (shares : List (Share F)) → AreWeightsOf F.Ring t shares weights.now
         → given.now ≡ values shares
         → IfOk result (λ answer. IfSome answer
@@ -82,11 +92,11 @@ pub fn secret_of<F: Field>(alloc: Global, weights: &Weights<F>, given: &[F]) -> 
     }
     let (first, others) = given.split_at(t);
     for i in 0..others.len() {
-        let value = F::msm(alloc, first, &weights.further[i])?;
+        let value = sum_of_products(first, &weights.further[i])?;
         if !value.equals(alloc, &others[i])? {
             return Ok(None);
         }
     }
-    let secret = F::msm(alloc, first, &weights.secret)?;
+    let secret = sum_of_products(first, &weights.secret)?;
     Ok(Some(secret))
 }

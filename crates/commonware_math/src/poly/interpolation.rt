@@ -11,16 +11,16 @@ ghost use Rattle.math_base.specs.Polynomials.{AreWeightsAt};
 ghost use Rattle.commonware_math.specs.Interpolators.{InterpolatesAt, HaveEqualKeys};
 
 mod roots;
-mod weights;
 
 use math_base::algebra::{Field, Mem, Space};
 use math_codec::ordered::Map;
+use math_poly::weights::weights_at;
 use std::alloc::Global;
 use std::marker::Model;
-pub use weights::weights_at;
 
-/// Gives the value of a polynomial at one point from its values at others, by weights that are made
-/// once from the points.
+/// Gives the value of a polynomial at one point from its values at others.
+///
+/// It makes its weights once, from the points.
 #[derive(Debug, Drop)]
 pub struct Interpolator<I: Ord + Drop, F: Drop> {
     weights: Map<I, F>,
@@ -34,8 +34,8 @@ impl<I: Ord + Drop, F: Drop> Model for Interpolator<I, F> {
 }
 
 impl<I: Ord + Drop, F: Field> Interpolator<I, F> {
-    /// The interpolator for the value at zero, which is the constant coefficient, from the pairs of
-    /// a key and a point. It is that of `at`.
+    /// Makes the interpolator for the value at zero, which is the constant coefficient. It is that
+    /// of `at`.
     pub fn new<P: IntoIterator<Item = (I, F)> + Drop>(alloc: Global, pairs: P) -> Mem<Self>
     where
         P::IntoIter: Drop,
@@ -49,13 +49,13 @@ impl<I: Ord + Drop, F: Field> Interpolator<I, F> {
         Ok(out)
     }
 
-    /// The interpolator for the value at x, from the pairs of a key and a point, of which the first
-    /// of each key counts.
+    /// Makes the interpolator for the value at x. Each pair is a key and a point; the first of each
+    /// key counts.
     ///
-    /// Over points of which no two are same its weights are the only ones by which the values of
-    /// each polynomial of at most as many coefficients give its value at x. Where a point is same
-    /// as x, the first such key, in the order of the keys, has weight one and every other key zero.
-    /// Otherwise, where two points are same, all weights are zero. No pairs give no weights.
+    /// If no two points are the same, the weights are the only ones by which the values of each
+    /// polynomial of at most as many coefficients give its value at x. If a point is the same as x,
+    /// the first such key, in the order of the keys, has weight one and every other key zero.
+    /// Otherwise, if two points are the same, all weights are zero. No pairs give no weights.
     pub fn at<P: IntoIterator<Item = (I, F)> + Drop>(alloc: Global, pairs: P, x: &F) -> Mem<Self>
     where
         P::IntoIter: Drop,
@@ -70,18 +70,18 @@ impl<I: Ord + Drop, F: Field> Interpolator<I, F> {
         Ok(Interpolator { weights })
     }
 
-    /// The weight of each key.
+    /// Returns the weight of each key.
     pub fn weights(&self) -> &Map<I, F>
         ensures { result.now ≡ self.now }
     {
         &self.weights
     }
 
-    /// The sum of the values of `evals`, each scaled by the weight of its key; `None` exactly where
-    /// the keys of `evals` are not those of the weights. Of no values it is zero.
+    /// Returns the sum of the values, each scaled by the weight of its key. No values give zero.
     ///
-    /// Where the values are those of a polynomial of at most as many coefficients as points, the
-    /// sum is its value at the point that the weights are for.
+    /// It is `None` exactly if the keys of `evals` are not those of the weights. If the values are
+    /// those of a polynomial of at most as many coefficients as points, the sum is its value at the
+    /// point that the weights are for.
     pub fn interpolate<K: Space<F>>(&self, alloc: Global, evals: &Map<I, K>) -> Mem<Option<K>>
         ensures keys { IfOk result
             (λ answer. IsSome answer ↔ HaveEqualKeys I.cmp evals.now self.now) }

@@ -32,8 +32,9 @@ impl<F: Ring, G: Space<F>> Synthetic<F, G> {
         })
     }
 
-    /// `Ok` of the free generator of index 0, 1, and so on, each with weight one. It ends after
-    /// index `u32::MAX`, and after an `Err`.
+    /// Gives the free generators of index 0, 1, and so on, each in an `Ok` and with weight one.
+    ///
+    /// It ends after index `u32::MAX`, and after an `Err`.
     pub fn generators(alloc: Global) -> Generators<F, G>
         ensures { (items : _) (last : _) (rest : _)
             → YieldsThen ⟦<Generators<F, G> as Iterator>⟧.next_gives result items last rest
@@ -46,7 +47,7 @@ impl<F: Ring, G: Space<F>> Synthetic<F, G> {
         }
     }
 
-    /// The free generators of the indices below N, each with weight one. N is at most 2^32.
+    /// Makes the free generators of the indices below N, each with weight one. N is at most 2^32.
     pub fn generators_array<const N: usize>(alloc: Global) -> Mem<[Self; N]>
         requires { N ≤ 2 ^ 32 }
         ensures { IfOk result (λ cs.

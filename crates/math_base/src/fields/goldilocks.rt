@@ -4,7 +4,7 @@
 //! An element fits a word, and reduction is cheap: modulo P, 2^64 is 2^32 - 1 and 2^96 is -1. None
 //! of the operations takes memory.
 
-ghost use Rattle.std.specs.Prelude.{◌≡◌, ◌≢◌, ◌<◌, ◌≤◌, ◌+◌, ◌-◌, ◌*◌, ◌%◌, ◌↔◌, true, refl, Some, None, IsSome, IfOk, IfErr, IfSome};
+ghost use Rattle.std.specs.Prelude.{◌≡◌, ◌≢◌, ◌<◌, ◌≤◌, ◌+◌, ◌-◌, ◌*◌, ◌^◌, ◌%◌, ◌↔◌, true, refl, Some, None, IsSome, IfOk, IfErr, IfSome};
 ghost use Rattle.std.specs.Int.{to_be_bytes, to_le_bytes, w64};
 ghost use Rattle.math_numbers.specs.Goldilocks.{P};
 ghost use Rattle.math_numbers.specs.PowersModulo.{power_mod};
@@ -107,7 +107,7 @@ impl F {
         F::sum_of_words(F::difference_of_words(a, c), (b << 32) - b)
     }
 
-    /// a x + b y, reduced once.
+    /// Returns a x + b y, reduced once.
     pub fn sum_of_products(a: F, x: F, b: F, y: F) -> F
         ensures { number result ≡ (number a * number x + number b * number y) % P }
     {
@@ -158,10 +158,10 @@ impl F {
         out
     }
 
-    /// The multiplicative inverse; zero for zero.
+    /// Returns the multiplicative inverse, and zero for zero.
     ///
     /// By Fermat's little theorem the power P - 1 of an element other than zero is one, so its
-    /// power P - 2 is its inverse; and the power P - 2 of zero is zero.
+    /// power P - 2 is its inverse. The power P - 2 of zero is zero.
     pub fn inv(self) -> F
         ensures power { number result ≡ power_mod P (number self) (P - 2) }
         ensures inverts { number self ≢ 0 → number self * number result % P ≡ 1 }
@@ -170,9 +170,9 @@ impl F {
         self.power(MODULUS - 2)
     }
 
-    /// The half: the element whose double is this one.
+    /// Returns the half: the element whose double is this one.
     ///
-    /// An even number is halved; an odd one is halved after P, which is odd, is added.
+    /// It halves an even number. To an odd one it first adds P, which is odd.
     pub fn div_2(self) -> F
         ensures { (number result + number result) % P ≡ number self }
     {
@@ -188,8 +188,16 @@ impl F {
         }
     }
 
-    /// The root of unity of order exactly 2^lg: `ROOT_OF_UNITY` squared 32 - lg times. `None` for
-    /// lg above 32.
+    /// Returns the product with 2^48, which is the root of unity of order four: a shift by 48 bits.
+    pub fn times_two_to_the_48(self) -> F
+        ensures { number result ≡ number self * 2 ^ 48 % P }
+    {
+        F::reduce_128(u128::from(self.value) << 48)
+    }
+
+    /// Returns the root of unity of order exactly 2^lg, or `None` for lg above 32.
+    ///
+    /// It is `ROOT_OF_UNITY` squared 32 - lg times.
     pub fn root_of_unity(lg: u8) -> Option<F>
         ensures range { IsSome result ↔ (lg ≤ 32) }
         ensures value { IfSome result (λ r. number r ≡ root lg) }
@@ -210,7 +218,7 @@ impl F {
         F::ROOT_OF_UNITY
     }
 
-    /// The number as eight bytes, lowest first.
+    /// Returns the number as eight bytes, lowest first.
     pub fn to_le_bytes(&self) -> [u8; 8]
         ensures { result ≡ to_le_bytes w64 (number self.now) }
     {
@@ -472,6 +480,17 @@ impl FieldNTT for F {
         Ok(F::div_2(*self))
     }
 
+    /// The root of order four is 2^48, and its inverse the negative of that.
+    fn times_root_of_four(&mut self, _alloc: Global, rhs: &F) -> Mem<()> {
+        let shifted = self.times_two_to_the_48();
+        *self = if rhs.value == 1 << 48 {
+            shifted
+        } else {
+            -shifted
+        };
+        Ok(())
+    }
+
     ghost roots = { roots };
 }
 
@@ -480,8 +499,10 @@ impl Random for F {
 
     ghost sample = { sample_of };
 
-    /// The first of at most 64 words of the source that is below P; `TooManyWords` where none of 64
-    /// is. The source stands after the words that were looked at.
+    /// Returns the first of at most 64 words of the source that is below P, or `TooManyWords` if
+    /// none of 64 is.
+    ///
+    /// It takes from the source exactly the words that it looks at.
     fn random<G: Rng + CryptoRng>(_alloc: Global, rng: &mut G) -> Result<F, RandomError>
         ensures sampled { IfOk result
             (λ a. sample_of (G.stream rng.old) ≡ (Some a, G.stream rng.new)) }

@@ -24,8 +24,8 @@ fn decode_exactly<T: Read + Drop>(alloc: Global, bytes: &[u8], cfg: &T::Cfg) -> 
 
 /// Reads one value that takes all of the bytes.
 ///
-/// It refuses with the first fault from left to right, or with `Memory` where memory ran out
-/// before that; and with `ExtraData`, and the number of bytes left, where they go on after a value.
+/// It refuses with the first fault from left to right. If memory runs out before that, it refuses
+/// with `Memory`; if bytes are left after a value, with `ExtraData` and their number.
 pub fn decode<T: Read + Drop>(alloc: Global, bytes: &[u8], cfg: &T::Cfg) -> Result<T, Error>
     // The bytes are the spelling of the value that is read.
     ensures taken { IfOk result (λ v. T.admits cfg.now v × (bytes.now ≡ T.spelling v)) }

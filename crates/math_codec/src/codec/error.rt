@@ -6,7 +6,7 @@ ghost use Rattle.math_codec.specs.declared.codec.error.Error.TheVariants.{Memory
 use std::alloc::{AllocError, AllocFailed};
 use thiserror::Error;
 
-/// The first fault of some bytes from left to right, or that memory ran out before it.
+/// Why bytes were not read: their first fault from left to right, unless memory ran out before it.
 #[derive(Debug, Drop, Error)]
 pub enum Error {
     /// Memory ran out.

@@ -74,9 +74,9 @@ fn split_length(bytes: &[u8]) -> Result<(u32, &[u8]), Error>
 
 /// Reads a length from the front of `input`, and moves `input` to what follows it.
 ///
-/// It refuses at the first byte that is wrong, and then `input` stays where it was: `EndOfBuffer`
-/// where none remains, `InvalidVarint` where the fifth is above 15 or one after the first is zero.
-/// It never answers `Memory`.
+/// It refuses at the first byte that is wrong, and leaves `input` where it was. The fault is
+/// `EndOfBuffer` if no byte remains, and `InvalidVarint` if the fifth byte is above 15 or the last
+/// of several is zero. It never answers `Memory`.
 pub fn read_len(_alloc: Global, input: &mut &[u8]) -> Result<u32, Error>
     ensures taken { IfOk result (λ n. input.old.now ≡ length_spelling n ++ input.new.now) }
     ensures stays { OnErr result (input.new ≡ input.old) }
@@ -107,7 +107,7 @@ fn write_groups(n: u32, more: u32, out: &mut Vec<u8>) -> Mem<()>
 
 /// Writes the length `n` at the end of `out`.
 ///
-/// It refuses where memory runs out, and then the items of `out` stay what they were.
+/// If memory runs out, it refuses, and leaves the items of `out` as they were.
 pub fn write_len(alloc: Global, n: u32, out: &mut Vec<u8>) -> Mem<()>
     ensures ok { OnOk result (out.new.items ≡ out.old.items ++ length_spelling n) }
     ensures err { OnErr result (out.new.items ≡ out.old.items) }
@@ -129,8 +129,9 @@ fn count_groups(n: usize, more: u32) -> usize
     1 + count_groups(n / 128, more - 1)
 }
 
-/// The number of bytes that the length `n` is written in, from 1 to 5. A number of 2^32 or more,
-/// which is no length, is counted as 5.
+/// Returns the number of bytes that the length `n` is written in, from 1 to 5.
+///
+/// A number of 2^32 or more is no length, and counts as 5.
 pub fn len_size(n: usize) -> usize
     ensures count { result ≡ length (length_spelling n) }
     ensures few { result ≤ 5 }

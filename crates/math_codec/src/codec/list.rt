@@ -62,13 +62,14 @@ fn read_items<'a, T: Read + Drop>(
     Ok(rest)
 }
 
-/// Reads a list whose length is in `range` from the front of `input`, each item under `cfg`, and
-/// moves `input` to what follows it.
+/// Reads a list from the front of `input`, and moves `input` to what follows it.
 ///
-/// It refuses with the faults of the length, then `InvalidLength` where the length is out of the
-/// range, then the faults of the items in order, and then `input` stays where it was. Once an item
-/// is read, room is made for at most four items and twice as many as are read, so a large length
-/// alone takes no memory.
+/// Its length is in `range`, and each item is read under `cfg`. It refuses with the faults of the
+/// length, then with `InvalidLength` if the length is out of the range, then with the faults of the
+/// items in order. It then leaves `input` where it was.
+///
+/// Once it has read an item, it makes room for at most four items and twice as many as it has read.
+/// So a large length alone takes no memory.
 #[tactic(auto, unfolding(crate::specs::Lists::scan_list, crate::specs::Lengths::length_in_front))]
 pub fn read_list<T: Read + Drop>(
     alloc: Global,
@@ -146,7 +147,7 @@ fn write_items<T: Write>(alloc: Global, items: &[T], out: &mut Vec<u8>) -> Mem<(
 
 /// Writes a list of fewer than 2^32 items at the end of `out`.
 ///
-/// It refuses where memory runs out, and then the items of `out` stay what they were.
+/// If memory runs out, it refuses, and leaves the items of `out` as they were.
 pub fn write_list<T: Write>(alloc: Global, items: &[T], out: &mut Vec<u8>) -> Mem<()>
     requires number { length items.now < 2 ^ 32 }
     requires each { All T.fits items.now }
@@ -167,7 +168,7 @@ impl<T: Write> Write for Vec<T> {
     }
 }
 
-/// The number of bytes that a list is written in, which has to fit.
+/// Returns the number of bytes that a list is written in, which has to fit.
 pub fn list_size<T: EncodeSize>(items: &[T]) -> usize
     requires { length (list_spelling T.spelling items.now) < 2 ^ 64 }
     ensures { result ≡ length (list_spelling T.spelling items.now) }

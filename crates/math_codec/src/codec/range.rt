@@ -3,7 +3,7 @@
 ghost use Rattle.std.specs.Prelude.{◌≡◌};
 ghost use Rattle.math_codec.specs.Ranges.{in_range, nonzero};
 
-/// The lengths from `low` to `high`, both among them; none where `low` is above `high`.
+/// The lengths from `low` to `high`, including both. There are none if `low` is above `high`.
 #[derive(Clone, Copy, Debug)]
 pub struct LengthRange {
     /// The least length.
@@ -13,7 +13,7 @@ pub struct LengthRange {
 }
 
 impl LengthRange {
-    /// The lengths from `low` to `high`; none where `low` is above `high`.
+    /// Makes the range of the lengths from `low` to `high`. It has none if `low` is above `high`.
     pub fn new(low: u32, high: u32) -> LengthRange
         ensures low { result.low ≡ low }
         ensures high { result.high ≡ high }
@@ -21,7 +21,7 @@ impl LengthRange {
         LengthRange { low, high }
     }
 
-    /// The length `n` alone.
+    /// Makes the range of the length `n` alone.
     pub fn exact(n: u32) -> LengthRange
         ensures low { result.low ≡ n }
         ensures high { result.high ≡ n }
@@ -29,7 +29,7 @@ impl LengthRange {
         LengthRange { low: n, high: n }
     }
 
-    /// The lengths from 0 to `n`.
+    /// Makes the range of the lengths from 0 to `n`.
     pub fn at_most(n: u32) -> LengthRange
         ensures low { result.low ≡ 0 }
         ensures high { result.high ≡ n }
@@ -37,7 +37,7 @@ impl LengthRange {
         LengthRange { low: 0, high: n }
     }
 
-    /// The lengths of the range but 0.
+    /// Returns the lengths of the range without 0.
     pub fn nonzero(self) -> LengthRange
         ensures { result ≡ nonzero self }
     {
@@ -47,7 +47,7 @@ impl LengthRange {
         }
     }
 
-    /// Whether the length `n` is in the range.
+    /// Returns whether the length `n` is in the range.
     pub fn contains(&self, n: u32) -> bool
         ensures { result ≡ in_range self.now n }
     {

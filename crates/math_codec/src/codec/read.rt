@@ -32,8 +32,8 @@ pub trait Read: Encoding + Sized {
 
     /// Reads one value from the front of `input`, and moves `input` to what follows it.
     ///
-    /// It refuses with the first fault from left to right, or with `Memory` where memory ran out
-    /// before that; then `input` stays where it was.
+    /// It refuses with the first fault from left to right, or with `Memory` if memory runs out
+    /// before that. It then leaves `input` where it was.
     fn read_cfg(alloc: Global, input: &mut &[u8], cfg: &Self::Cfg) -> Result<Self, Error>
         ensures taken { IfOk result
             (λ v. admits cfg.now v × (input.old.now ≡ Self.spelling v ++ input.new.now)) }

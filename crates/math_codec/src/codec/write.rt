@@ -13,7 +13,7 @@ pub trait Write: Encoding {
 
     /// Writes the bytes of the value at the end of `out`.
     ///
-    /// It refuses where memory runs out, and then the items of `out` stay what they were.
+    /// If memory runs out, it refuses, and leaves the items of `out` as they were.
     fn write(&self, alloc: Global, out: &mut Vec<u8>) -> Mem<()>
         requires { fits self.now }
         ensures ok { OnOk result (out.new.items ≡ out.old.items ++ Self.spelling self.now) }
@@ -22,7 +22,7 @@ pub trait Write: Encoding {
 
 /// A type whose values know how many bytes they are written in.
 pub trait EncodeSize: Encoding {
-    /// The number of bytes that the value is written in, which has to fit.
+    /// Returns the number of bytes that the value is written in, which has to fit.
     fn encode_size(&self) -> usize
         requires { length (Self.spelling self.now) < 2 ^ 64 }
         ensures { result ≡ length (Self.spelling self.now) };
@@ -52,8 +52,8 @@ pub trait MaxEncodeSize: Encoding {
     ghost bounded: { (v : Self) → length (Self.spelling v) ≤ MAX_ENCODE_SIZE };
 }
 
-/// Hands on what writing answered that began at `start`; where it was refused, `out` is cut back
-/// to there.
+/// Returns `written`, the answer of a write that began at `start`. If it was refused, this cuts
+/// `out` back to there.
 pub fn roll_back(_alloc: Global, written: Mem<()>, start: usize, out: &mut Vec<u8>) -> Mem<()>
     ensures answer { result ≡ written }
     ensures ok { OnOk written (out.new.items ≡ out.old.items) }

@@ -6,7 +6,8 @@ ghost use Rattle.math_codec.specs.declared.ordered.error.Error.TheVariants.{Memo
 use std::alloc::{AllocError, AllocFailed};
 use thiserror::Error;
 
-/// What is wrong with the first pair that a map cannot take, or that memory ran out before it.
+/// Why a map was not made: what is wrong with the first pair that it cannot take, unless memory ran
+/// out before it.
 #[derive(Debug, Drop, Error)]
 pub enum Error {
     /// Memory ran out.

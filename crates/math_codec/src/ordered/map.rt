@@ -16,7 +16,7 @@ use std::alloc::Global;
 use std::collections::BTreeMap;
 use std::marker::Model;
 
-/// Pairs of a key and a value, in the order of the keys, which strictly rise.
+/// Pairs of a key and a value, in the strictly rising order of the keys.
 #[derive(Debug, Drop)]
 pub struct Map<I: Ord + Drop, V: Drop> {
     keys: Vec<I>,
@@ -65,9 +65,9 @@ impl<I: Ord + Drop, V: Drop> Map<I, V> {
         Ok(Map { keys, values })
     }
 
-    /// The map of the pairs: of each key the first.
+    /// Makes the map of the pairs, with the first pair of each key.
     ///
-    /// It refuses where memory runs out.
+    /// It refuses if memory runs out.
     pub fn from_iter_dedup<P: IntoIterator<Item = (I, V)>>(alloc: Global, pairs: P) -> Mem<Self>
     where
         P::IntoIter: Drop,
@@ -83,10 +83,10 @@ impl<I: Ord + Drop, V: Drop> Map<I, V> {
         Self::from_entries(alloc, entries)
     }
 
-    /// The map of the pairs, no two of which may have equal keys.
+    /// Makes the map of the pairs. No two of them may have equal keys.
     ///
     /// It refuses with `DuplicateKey` at the first pair whose key occurred before, and then asks
-    /// for no more pairs; with `Memory` where memory runs out.
+    /// for no more pairs. It refuses with `Memory` if memory runs out.
     pub fn try_from_iter<P: IntoIterator<Item = (I, V)>>(
         alloc: Global,
         pairs: P,
@@ -112,8 +112,8 @@ impl<I: Ord + Drop, V: Drop> Map<I, V> {
         Ok(Self::from_entries(alloc, entries)?)
     }
 
-    /// The map with the same keys, and in the order of the keys these values, of which there are as
-    /// many as keys.
+    /// Makes the map of the same keys with these values, in the order of the keys. There are as
+    /// many values as keys.
     pub fn with_values<W: Drop>(self, values: Vec<W>) -> Map<I, W>
         requires { length values.items ≡ length self }
         ensures { result ≡ zip (keys_of self) values.items }
@@ -124,7 +124,7 @@ impl<I: Ord + Drop, V: Drop> Map<I, V> {
         }
     }
 
-    /// The keys, which strictly rise.
+    /// Returns the keys, which strictly rise.
     pub fn keys(&self) -> &[I]
         ensures keys { result.now ≡ keys_of self.now }
         ensures rise { KeysRise I.cmp self.now }
@@ -132,14 +132,14 @@ impl<I: Ord + Drop, V: Drop> Map<I, V> {
         &self.keys
     }
 
-    /// The values, in the order of their keys.
+    /// Returns the values, in the order of their keys.
     pub fn values(&self) -> &[V]
         ensures { result.now ≡ values_of self.now }
     {
         &self.values
     }
 
-    /// The map of these keys, which strictly rise, and values, key by key.
+    /// Makes the map of these keys and values, key by key. The keys strictly rise.
     pub fn from_parts(keys: Vec<I>, values: Vec<V>) -> Self
         requires rise { IsStrictlySortedBy I.cmp keys.items }
         requires count { length values.items ≡ length keys.items }
@@ -148,7 +148,7 @@ impl<I: Ord + Drop, V: Drop> Map<I, V> {
         Map { keys, values }
     }
 
-    /// The keys, which strictly rise, and the values, in the order of their keys.
+    /// Returns the keys, which strictly rise, and the values, in the order of their keys.
     pub fn into_parts(self) -> (Vec<I>, Vec<V>)
         ensures keys { result.0.items ≡ keys_of self }
         ensures values { result.1.items ≡ values_of self }
@@ -157,14 +157,14 @@ impl<I: Ord + Drop, V: Drop> Map<I, V> {
         (self.keys, self.values)
     }
 
-    /// The values alone, in the order of their keys.
+    /// Returns the values alone, in the order of their keys.
     pub fn into_values(self) -> Vec<V>
         ensures { result.items ≡ values_of self }
     {
         self.values
     }
 
-    /// The value at a key, found by O(log n) comparisons.
+    /// Returns the value at a key, by O(log n) comparisons.
     pub fn get(&self, key: &I) -> Option<&V>
         ensures { option_copied result ≡ value_at I.cmp key.now self.now }
     {
@@ -174,14 +174,14 @@ impl<I: Ord + Drop, V: Drop> Map<I, V> {
         }
     }
 
-    /// The number of pairs.
+    /// Returns the number of pairs.
     pub fn len(&self) -> usize
         ensures { result ≡ length self.now }
     {
         self.keys.len()
     }
 
-    /// Whether the map has no pair.
+    /// Returns whether the map has no pair.
     pub fn is_empty(&self) -> bool
         ensures { IsTrue result ↔ (length self.now ≡ 0) }
     {

@@ -16,8 +16,7 @@ use std::cmp::Ordering;
 use std::collections::{BTreeMap, BTreeSet};
 use std::marker::Model;
 
-/// Pairs of a key and a value, in the order of the keys, which strictly rise, where no two values
-/// are equal.
+/// Pairs of a key and a value, in the strictly rising order of the keys. No two values are equal.
 #[derive(Debug, Drop)]
 pub struct BiMap<I: Ord + Drop, V: Ord + Drop> {
     pairs: Map<I, V>,
@@ -71,11 +70,11 @@ fn places_by_value<V: Ord + Drop>(alloc: Global, values: &[V]) -> Mem<Vec<usize>
 }
 
 impl<I: Ord + Drop, V: Ord + Drop> BiMap<I, V> {
-    /// The two-way map of the pairs, no two of which may have equal keys or equal values.
+    /// Makes the two-way map of the pairs. No two of them may have equal keys or equal values.
     ///
-    /// All pairs are taken, and then looked at in the order in which they came. It refuses at the
-    /// first pair whose key or value occurred before, with `DuplicateKey` for the key and else with
-    /// `DuplicateValue`; with `Memory` where memory runs out.
+    /// It takes all pairs, and then looks at them in the order in which they came. It refuses at
+    /// the first pair whose key or value occurred before: with `DuplicateKey` for the key,
+    /// otherwise with `DuplicateValue`. It refuses with `Memory` if memory runs out.
     pub fn try_from_iter<P: IntoIterator<Item = (I, V)>>(
         alloc: Global,
         pairs: P,
@@ -104,7 +103,7 @@ impl<I: Ord + Drop, V: Ord + Drop> BiMap<I, V> {
         Ok(BiMap { pairs, by_value })
     }
 
-    /// The key whose value is `value`, found by O(log n) comparisons.
+    /// Returns the key whose value is `value`, by O(log n) comparisons.
     pub fn get_key(&self, value: &V) -> Option<&I>
         ensures { option_copied result ≡ key_with V.cmp value.now self.now }
     {
@@ -124,14 +123,14 @@ impl<I: Ord + Drop, V: Ord + Drop> BiMap<I, V> {
         }
     }
 
-    /// The value at a key, found by O(log n) comparisons.
+    /// Returns the value at a key, by O(log n) comparisons.
     pub fn get(&self, key: &I) -> Option<&V>
         ensures { option_copied result ≡ value_at I.cmp key.now self.now }
     {
         self.pairs.get(key)
     }
 
-    /// The keys, which strictly rise.
+    /// Returns the keys, which strictly rise.
     pub fn keys(&self) -> &[I]
         ensures keys { result.now ≡ keys_of self.now }
         ensures rise { KeysRise I.cmp self.now }
@@ -139,7 +138,7 @@ impl<I: Ord + Drop, V: Ord + Drop> BiMap<I, V> {
         self.pairs.keys()
     }
 
-    /// The values, in the order of their keys, no two of which are equal.
+    /// Returns the values, in the order of their keys. No two are equal.
     pub fn values(&self) -> &[V]
         ensures values { result.now ≡ values_of self.now }
         ensures differ { ValuesDiffer V.cmp self.now }
@@ -147,21 +146,21 @@ impl<I: Ord + Drop, V: Ord + Drop> BiMap<I, V> {
         self.pairs.values()
     }
 
-    /// The number of pairs.
+    /// Returns the number of pairs.
     pub fn len(&self) -> usize
         ensures { result ≡ length self.now }
     {
         self.pairs.len()
     }
 
-    /// Whether the map has no pair.
+    /// Returns whether the map has no pair.
     pub fn is_empty(&self) -> bool
         ensures { IsTrue result ↔ (length self.now ≡ 0) }
     {
         self.pairs.is_empty()
     }
 
-    /// The pairs as a sorted map.
+    /// Returns the pairs as a sorted map.
     pub fn into_map(self) -> Map<I, V>
         ensures pairs { result ≡ self }
         ensures differ { ValuesDiffer V.cmp self }

@@ -6,9 +6,9 @@
 //! On the domain the values of f V are the cells times the values of V, whatever the missing cells
 //! hold, since V is zero there. So f V is had by interpolation. On the domain it can't be divided
 //! by V, but on the coset of the domain by the shift V has no zero: there f V and V are evaluated,
-//! the quotients are values of f, and these are interpolated. Multiplying coefficient i by power i
-//! of the shift moves a polynomial to the coset, and by power i of its inverse back. `move_rows`
-//! does this step and the transforms before and after it.
+//! the quotients are values of f, and these are interpolated. The points of the coset are a tree
+//! with another start, so nothing but the tree changes from the one to the other. Rows are put in the
+//! order of the trees once, at the beginning.
 //!
 //! One inversion serves all divisions. With no row filled the answer is zero, and with all it is
 //! what has the cells as its values: then there is no polynomial that vanishes, and each is one
@@ -19,14 +19,10 @@ ghost use Rattle.std.specs.List.{All};
 ghost use Rattle.math_theory.specs.Recovery.{count_true};
 ghost use Rattle.math_transforms.specs.CosetValues.{AreMovedValues};
 ghost use Rattle.math_transforms.specs.CountedWork.{AddsAtMost, AddsWithin};
-ghost use Rattle.math_transforms.specs.DomainValues.{
-  matrix_of,
-  AreValuesAtPowers,
-  ArePowersByLevel,
-  HasDomain,
-};
+ghost use Rattle.math_transforms.specs.DomainValues.{matrix_of, AreValuesAtPowers, HasDomain};
 ghost use Rattle.math_transforms.specs.Matrices.{IsOfSize};
 ghost use Rattle.math_transforms.specs.MissingPoints.{count_false};
+ghost use Rattle.math_transforms.specs.RootTrees.{IsTreeOf};
 ghost use Rattle.math_ntt.specs.RecoveredRows.{
   AreDivided,
   AreQuotientsOfValues,
@@ -39,15 +35,17 @@ use super::evaluations::EvaluationVector;
 use super::matrix::Matrix;
 use super::polynomials::PolynomialVector;
 use math_base::algebra::{Additive, FieldNTT, Mem};
-use math_transforms::row_products::{dilate_rows, multiply_rows};
-use math_transforms::transform::coset::{coset_factors, move_rows};
+use math_base::weights::quotients;
+use math_transforms::below::{evaluate_below, interpolate_below};
+use math_transforms::row_products::multiply_rows;
+use math_transforms::transform::coset::move_rows;
+use math_transforms::transform::order::reverse_rows;
 use math_transforms::transform::{
-    evaluate_rows, evaluation_table, interpolate_multiples, interpolate_rows, interpolation_table,
-    lg_of, size_inverse, size_of,
+    evaluation_table, interpolate_rows, interpolation_table, lg_of, size_inverse, size_of,
 };
+use math_transforms::trees::start_at;
 use math_transforms::vanishing::vanishing_coefficients;
 use math_transforms::vanishing_points::VanishingPoints;
-use math_transforms::weights::quotients;
 use math_transforms::work::Work;
 use std::alloc::Global;
 
@@ -182,80 +180,64 @@ fn interpolated<F: FieldNTT>(
     Ok(())
 }
 
-/// The values of the polynomials, and those of V, on the coset: both were values on the domain.
+/// 2^lg times the values of the polynomials, and those of V, on the coset: both were values on the
+/// domain. All are in bit-reversed order.
 fn moved_to_coset<F: FieldNTT>(
     alloc: Global,
     cells: &mut [F],
     vanishing: &mut [F],
     cols: usize,
     lg: u8,
-    evaluation: &[F],
     interpolation: &[F],
+    coset: &[F],
     work: &mut Work,
 ) -> Mem<()>
     requires domain { lg ≤ F.MAX_LG_ROOT_ORDER }
     requires small { lg < 64 }
+    requires some { 0 < lg }
     requires size { length cells.old ≡ 2 ^ lg * cols }
     requires vanishing_size { length vanishing.old ≡ 2 ^ lg }
-    requires evaluation { ArePowersByLevel F.Ring F.root lg evaluation.now }
-    requires interpolation { ArePowersByLevel F.Ring
-        (λ l. F.inverse (F.root l)) lg interpolation.now }
+    requires interpolation { IsTreeOf F.Ring
+        (λ l. F.inverse (F.root l)) F.one lg interpolation.now }
+    requires coset { IsTreeOf F.Ring F.root F.shift lg coset.now }
     requires room { 2 * work.old.butterflies + (cols + cols + 2) * 2 ^ lg * lg < 2 ^ 129 }
     ensures size { length cells.new ≡ length cells.old }
     ensures vanishing_size { length vanishing.new ≡ length vanishing.old }
     ensures cells { OnOk result
-        (AreMovedValues F.Ring (F.root lg) F.shift (2 ^ lg) cols cells.old cells.new) }
-    ensures vanishing { OnOk result (AreMovedValues F.Ring (F.root lg) F.shift (2 ^ lg) 1
-        vanishing.old vanishing.new) }
+        (AreMovedValues F.Ring (F.root lg) F.shift lg cols cells.old cells.new) }
+    ensures vanishing { OnOk result
+        (AreMovedValues F.Ring (F.root lg) F.shift lg 1 vanishing.old vanishing.new) }
     ensures counted { OnOk result (2 * work.new.butterflies
         ≡ 2 * work.old.butterflies + (cols + cols + 2) * 2 ^ lg * lg) }
     ensures bounded { AddsAtMost ((cols + cols + 2) * 2 ^ lg * lg) work.old work.new }
 {
-    let factors = coset_factors::<F>(alloc, lg)?;
-    move_rows(
-        alloc,
-        vanishing,
-        1,
-        lg,
-        &factors,
-        evaluation,
-        interpolation,
-        work,
-    )?;
-    move_rows(
-        alloc,
-        cells,
-        cols,
-        lg,
-        &factors,
-        evaluation,
-        interpolation,
-        work,
-    )?;
+    move_rows(alloc, vanishing, 1, lg, interpolation, coset, work)?;
+    move_rows(alloc, cells, cols, lg, interpolation, coset, work)?;
     Ok(())
 }
 
-/// The coefficients of the quotients in each column, from the values of the dividends and of the
-/// divisor on the coset. The values of the quotients are also divided by 2^lg, since the way back
-/// multiplies by it.
+/// The coefficients of the quotients in each column, from 2^lg times the values of the dividends and
+/// of the divisor on the coset, in bit-reversed order. The values of the quotients are also divided
+/// by 2^lg, since the way back multiplies by it.
 fn quotients_from_coset<F: FieldNTT>(
     alloc: Global,
     cells: &mut [F],
     divisors: &[F],
     cols: usize,
     lg: u8,
-    interpolation: &[F],
+    back: &[F],
     work: &mut Work,
 ) -> Mem<()>
     requires domain { lg ≤ F.MAX_LG_ROOT_ORDER }
     requires small { lg < 64 }
+    requires some { 0 < lg }
     requires size { length cells.old ≡ 2 ^ lg * cols }
     requires divisors { length divisors.now ≡ 2 ^ lg }
-    requires interpolation { ArePowersByLevel F.Ring
-        (λ l. F.inverse (F.root l)) lg interpolation.now }
+    requires back { IsTreeOf F.Ring
+        (λ l. F.inverse (F.root l)) (F.inverse F.shift) lg back.now }
     requires room { 2 * work.old.butterflies + cols * 2 ^ lg * lg < 2 ^ 129 }
     ensures size { length cells.new ≡ length cells.old }
-    ensures quotients { OnOk result (AreQuotientsOfValues F.Ring (F.root lg) F.shift (2 ^ lg) cols
+    ensures quotients { OnOk result (AreQuotientsOfValues F.Ring (F.root lg) F.shift lg cols
         cells.old divisors.now cells.new) }
     ensures counted { OnOk result
         (2 * work.new.butterflies ≡ 2 * work.old.butterflies + cols * 2 ^ lg * lg) }
@@ -264,31 +246,31 @@ fn quotients_from_coset<F: FieldNTT>(
     let numerator = size_inverse(alloc, lg)?;
     let inverses = quotients(alloc, numerator, divisors)?;
     multiply_rows(alloc, cells, cols, &inverses)?;
-    interpolate_multiples(alloc, cells, cols, lg, interpolation, work)?;
-    let back = F::coset_shift_inv(alloc)?;
-    dilate_rows(alloc, cells, cols, divisors.len(), &back)?;
+    interpolate_below(alloc, cells, cols, lg, 1, false, back, work)?;
     Ok(())
 }
 
 /// The coefficients in each column of f V divided by V: the values of f V on the domain are the
-/// cells times those of V, both are moved to the coset, and there divided.
+/// cells times those of V, both are moved to the coset, and there divided. The trees of the domain
+/// become those of the coset.
 fn divided<F: FieldNTT>(
     alloc: Global,
     cells: &mut [F],
     vanishing: &mut [F],
     cols: usize,
     lg: u8,
-    evaluation: &[F],
-    interpolation: &[F],
+    evaluation: &mut [F],
+    interpolation: &mut [F],
     work: &mut Work,
 ) -> Mem<()>
     requires domain { lg ≤ F.MAX_LG_ROOT_ORDER }
     requires small { lg < 64 }
+    requires some { 0 < lg }
     requires size { length cells.old ≡ 2 ^ lg * cols }
     requires vanishing_size { length vanishing.old ≡ 2 ^ lg }
-    requires evaluation { ArePowersByLevel F.Ring F.root lg evaluation.now }
-    requires interpolation { ArePowersByLevel F.Ring
-        (λ l. F.inverse (F.root l)) lg interpolation.now }
+    requires evaluation { IsTreeOf F.Ring F.root F.one lg evaluation.old }
+    requires interpolation { IsTreeOf F.Ring
+        (λ l. F.inverse (F.root l)) F.one lg interpolation.old }
     requires room { 2 * work.old.butterflies + (3 * cols + 3) * 2 ^ lg * lg < 2 ^ 129 }
     ensures size { length cells.new ≡ length cells.old }
     ensures divided { OnOk result (AreDivided F.Ring (F.root lg) F.shift (2 ^ lg) cols
@@ -297,18 +279,23 @@ fn divided<F: FieldNTT>(
         ≡ 2 * work.old.butterflies + (3 * cols + 3) * 2 ^ lg * lg) }
     ensures bounded { AddsAtMost ((3 * cols + 3) * 2 ^ lg * lg) work.old work.new }
 {
-    evaluate_rows(alloc, vanishing, 1, lg, evaluation, work)?;
+    reverse_rows(cells, cols, lg);
+    evaluate_below(alloc, vanishing, 1, lg, 1, true, evaluation, work)?;
     multiply_rows(alloc, cells, cols, vanishing)?;
+    let shift = F::coset_shift(alloc)?;
+    start_at(alloc, evaluation, &shift, lg)?;
     moved_to_coset(
         alloc,
         cells,
         vanishing,
         cols,
         lg,
-        evaluation,
         interpolation,
+        evaluation,
         work,
     )?;
+    let back = F::coset_shift_inv(alloc)?;
+    start_at(alloc, interpolation, &back, lg)?;
     quotients_from_coset(alloc, cells, vanishing, cols, lg, interpolation, work)?;
     Ok(())
 }
@@ -326,6 +313,7 @@ fn recovered<F: FieldNTT>(
     requires small { lg < 64 }
     requires size { length cells.old ≡ 2 ^ lg * cols }
     requires points { length points.now ≡ 2 ^ lg }
+    requires many { 0 < lg }
     requires some { 0 < count_true points.now }
     requires room { work.old.butterflies ≤ 2 ^ 127 }
     requires product_room { work.old.root_products ≤ 2 ^ 127 }
@@ -341,8 +329,8 @@ fn recovered<F: FieldNTT>(
     ensures root_products { OnOk result (lg ≤ 8 → 2 * work.new.root_products
         ≡ 2 * work.old.root_products + count_false points.now * (count_false points.now + 1)) }
 {
-    let evaluation = evaluation_table(alloc, lg)?;
-    let interpolation = interpolation_table(alloc, lg)?;
+    let mut evaluation = evaluation_table(alloc, lg)?;
+    let mut interpolation = interpolation_table(alloc, lg)?;
     let mut vanishing = vanishing_coefficients(
         alloc,
         points,
@@ -357,8 +345,8 @@ fn recovered<F: FieldNTT>(
         &mut vanishing,
         cols,
         lg,
-        &evaluation,
-        &interpolation,
+        &mut evaluation,
+        &mut interpolation,
         work,
     )?;
     Ok(())

@@ -14,7 +14,7 @@ use math_base::algebra::{Additive, Mem, Object, Ring, Space};
 use std::alloc::Global;
 
 impl<K: Drop> Poly<K> {
-    /// The polynomial of f's answers at the coefficients, each in its place.
+    /// Makes the polynomial of f's answers at the coefficients, each in its place.
     pub fn translate<L: Drop, F: Fn(&K) -> Mem<L>>(&self, alloc: Global, f: F) -> Mem<Poly<L>>
         requires { F.IsAlwaysCallable f }
         ensures count { IfOk result (λ p. length p ≡ length self.now) }
@@ -40,8 +40,10 @@ fn answers<T: Drop, L: Drop, F: Fn(&T) -> Mem<L>>(alloc: Global, items: &[T], f:
 }
 
 impl<K: Additive> Poly<K> {
-    /// The greatest index of a coefficient that is not the same as zero, else 0. Where calls on
-    /// coefficients are never refused, neither is this one.
+    /// Returns the greatest index of a coefficient that is not the same as zero, or 0 if there is
+    /// none.
+    ///
+    /// If calls on coefficients are never refused, neither is this one.
     pub fn degree_exact(&self, alloc: Global) -> Mem<u32>
         ensures ok { IfOk result (λ n. HasDegree K.same K.zero self.now n) }
         ensures never { IsTrue K.NEVER_REFUSES → IsOk result }

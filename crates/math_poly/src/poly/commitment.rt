@@ -10,8 +10,10 @@ use math_base::algebra::{CryptoGroup, Mem};
 use std::alloc::Global;
 
 impl<G: CryptoGroup> Poly<G> {
-    /// The generator scaled by each coefficient, in order. The value of the commitment at a scalar
-    /// is the generator scaled by the value of the polynomial there.
+    /// Scales the generator by each coefficient, in order.
+    ///
+    /// The value of the commitment at a scalar is the generator scaled by the value of the
+    /// polynomial there.
     pub fn commit(alloc: Global, p: Poly<G::Scalar>) -> Mem<Self>
         ensures count { IfOk result (λ q. length q ≡ length p) }
         ensures each { IfOk result

@@ -11,7 +11,7 @@ use math_base::algebra::{Mem, Ring, Space, powers};
 use std::alloc::Global;
 
 impl<K: Drop> Poly<K> {
-    /// The value at r: the sum of coefficient i scaled by r to the power i.
+    /// Returns the value at r: the sum of coefficient i scaled by r to the power i.
     pub fn eval<R: Ring>(&self, alloc: Global, r: &R) -> Mem<K>
     where
         K: Space<R>,
@@ -30,8 +30,8 @@ impl<K: Drop> Poly<K> {
         Ok(out)
     }
 
-    /// The value at r, as `eval` gives it, by one call of `msm`: the sum of coefficient i weighted
-    /// by r to the power i.
+    /// Returns the value at r, as `eval` does, by one call of `msm`: the sum of coefficient i
+    /// weighted by r to the power i.
     ///
     /// It takes memory for as many powers as there are coefficients.
     pub fn eval_msm<R: Ring>(&self, alloc: Global, r: &R) -> Mem<K>
@@ -45,12 +45,11 @@ impl<K: Drop> Poly<K> {
         Ok(out)
     }
 
-    /// The sum over the pairs (weight, point) of the value at the point scaled by the weight; zero
-    /// for none.
+    /// Returns a weighted sum of values. Each pair is a weight and a point, and no pairs give zero.
     ///
     /// The sum over the pairs (w, b) of the value at b scaled by w is the sum of coefficient i
-    /// weighted by the sum of w b^i. So the weights of all points are summed first, one sum for
-    /// each coefficient, and one call of `msm` follows.
+    /// weighted by the sum of w b^i. So it first sums the weights of all points, one sum for each
+    /// coefficient, and then calls `msm` once.
     pub fn lin_comb_eval<R: Ring>(&self, alloc: Global, pairs: &[(R, R)]) -> Mem<K>
     where
         K: Space<R>,

@@ -10,10 +10,10 @@ use rand_core::{CryptoRng, Rng};
 use std::alloc::Global;
 
 impl<K: Random + Drop> Poly<K> {
-    /// A polynomial of `degree + 1` coefficients, which are the next samples of the source, from
-    /// the constant upwards; `degree` is at most 2^32 - 2.
+    /// Samples a polynomial of `degree + 1` coefficients, from the constant upwards. `degree` is at
+    /// most 2^32 - 2.
     ///
-    /// It refuses with `TooManyWords` where one of these samples is refused, or with `Memory`.
+    /// It refuses with `TooManyWords` if one of these samples is refused, or with `Memory`.
     pub fn new<G: Rng + CryptoRng>(
         alloc: Global,
         rng: &mut G,
@@ -31,10 +31,10 @@ impl<K: Random + Drop> Poly<K> {
         Ok(p)
     }
 
-    /// A polynomial of `degree + 1` coefficients: the given constant, and then the next samples of
-    /// the source upwards; `degree` is at most 2^32 - 2.
+    /// Samples a polynomial of `degree + 1` coefficients with the given constant; the others are
+    /// samples, upwards. `degree` is at most 2^32 - 2.
     ///
-    /// It refuses with `TooManyWords` where one of these samples is refused, or with `Memory`.
+    /// It refuses with `TooManyWords` if one of these samples is refused, or with `Memory`.
     pub fn new_with_constant<G: Rng + CryptoRng>(
         alloc: Global,
         rng: &mut G,

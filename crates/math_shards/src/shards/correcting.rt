@@ -6,22 +6,26 @@
 //! list of data at most, since two would agree at `min` indices or more. The shards that are left
 //! out are those that differ from the values of the data's polynomials at their index.
 
-ghost use Rattle.std.specs.Prelude.{◌≡◌, ◌<◌, ◌≤◌, ◌^◌, ℕ, List, All, length, IfOk, IfErr};
-ghost use Rattle.std.specs.Prelude.{MatchResult};
+ghost use Rattle.std.specs.Prelude.{◌≡◌, ◌*◌, ◌<◌, ◌≤◌, ◌^◌, ℕ, List, All, length, take};
+ghost use Rattle.std.specs.Prelude.{IfOk, IfErr, IfSome, IsSome, MatchResult};
 ghost use Rattle.std.specs.Int.{IsNextPowerOfTwo};
-ghost use Rattle.math_transforms.specs.Matrices.{IsOfSize};
+ghost use Rattle.math_theory.specs.Coefficients.{coefficient};
+ghost use Rattle.math_base.specs.Elements.{residue, same};
+ghost use Rattle.math_transforms.specs.Matrices.{IsOfSize, column_of};
 ghost use Rattle.math_shards.specs.Correcting.{AreCorrected, ArePositionsWithout, CorrectTo};
-ghost use Rattle.math_shards.specs.Correcting.{IsDueCorrecting, RefusesCorrecting, is_settled};
+ghost use Rattle.math_shards.specs.Correcting.{IsDueCorrecting, RefusesCorrecting, is_settled, settled_indices};
 ghost use Rattle.math_shards.specs.Correcting.{IsRowOf, settled};
-ghost use Rattle.math_shards.specs.Joining.{HoldsShards, IsMemory, IsSound};
+ghost use Rattle.math_shards.specs.Joining.{ArePolynomialsOf, HoldsShards, IsDueBeside};
+ghost use Rattle.math_shards.specs.Joining.{IsMemory, IsSound};
 ghost use Rattle.math_shards.specs.declared.shards.Error.TheVariants.{TooFew, Mismatch, Index};
 ghost use Rattle.math_shards.specs.declared.shards.Error.TheVariants.{Conflict, Inconsistent};
 
-use super::joining::{are_equal, check_numbers, data_of, no_rows};
+use super::joining::{are_equal, check_numbers, data_words, fitted_elements, no_rows};
+use super::unpacking::data_count;
 use super::{Error, Shard};
 use math_base::algebra::Mem;
 use math_base::fields::goldilocks::F;
-use math_ntt::ntt::EvaluationVector;
+use math_ntt::ntt::{EvaluationVector, PolynomialVector};
 use std::alloc::Global;
 
 /// Data, and the shards that were left out.
@@ -45,8 +49,10 @@ pub struct Joined {
 /// first shard that has other numbers with `Mismatch`, or an index out of range with `Index`; m
 /// below `min` with `TooFew`; and shards for which there are no such data with `Inconsistent`.
 ///
-/// Takes memory as `join` does, and for a copy of its rows. The cells of two shards are compared
-/// where these have one index, for which each shard's index is read for each shard.
+/// Shards that `join` takes are joined, and none is left out. Where others are handed in, memory is
+/// taken for several times N rows of as many cells as a shard has, where N is `total` rounded up to
+/// a power of two. The cells of two shards are then compared where these have one index, for which
+/// each shard's index is read for each shard.
 pub fn join_corrected(alloc: Global, shards: &[Shard]) -> Result<Joined, Error>
     ensures ok { IfOk result (λ j. AreCorrected j.words.items j.left_out.items shards.now) }
     ensures found { (words : List ℕ) → CorrectTo words shards.now
@@ -69,6 +75,31 @@ fn corrected_data(alloc: Global, shards: &[Shard]) -> Result<Joined, Error>
         return Err(Error::TooFew);
     };
     check_numbers(shards, first)?;
+    let width = first.cells.len();
+    if let Some((elements, count)) = fitted_elements(
+        alloc,
+        shards,
+        first.min,
+        first.total,
+        width,
+    )? {
+        let words = data_words(alloc, &elements, count)?;
+        let left_out = Vec::new(alloc);
+        return Ok(Joined { words, left_out });
+    }
+    let joined = corrected_rows(alloc, shards, first)?;
+    Ok(joined)
+}
+
+/// The data of sound shards and the positions of those that are left out, from the rows of the
+/// settled indices; or what is wrong.
+fn corrected_rows(alloc: Global, shards: &[Shard], first: &Shard) -> Result<Joined, Error>
+    requires some { 0 < length shards.now }
+    requires sound { All (IsSound first.now) shards.now }
+    ensures ok { IfOk result (λ j. AreCorrected j.words.items j.left_out.items shards.now) }
+    ensures err { IfErr result (IsDueBeside ⊥ (settled_indices first.now.total shards.now)
+        (λ words. CorrectTo words shards.now) first.now shards.now) }
+{
     let values = settled_rows(alloc, shards, first)?;
     if values.filled_rows() < first.min as usize {
         return Err(Error::TooFew);
@@ -77,11 +108,51 @@ fn corrected_data(alloc: Global, shards: &[Shard]) -> Result<Joined, Error>
         return Err(Error::Inconsistent);
     };
     let polynomials = corrected.polynomials;
-    let Some(words) = data_of(alloc, &polynomials, first)? else {
+    let Some(words) = data_of(alloc, &polynomials, first.min, first.cells.len())? else {
         return Err(Error::Inconsistent);
     };
     let left_out = unlike_rows(alloc, shards, &polynomials.evaluate(alloc)?)?;
     Ok(Joined { words, left_out })
+}
+
+/// The first `min` rows of coefficients, one after the other.
+fn first_rows(alloc: Global, polynomials: &PolynomialVector<F>, min: u32) -> Mem<Vec<F>>
+    requires { min ≤ polynomials.now.rows }
+    ensures { IfOk result (λ elements.
+        elements.items ≡ take (min * polynomials.now.cols) polynomials.now.cells) }
+{
+    let mut elements = Vec::new(alloc);
+    for row in polynomials.coefficients_up_to(min as usize) {
+        elements.extend_from_slice(row)?;
+    }
+    Ok(elements)
+}
+
+/// The data whose polynomials these are, where there are such data.
+fn data_of(
+    alloc: Global,
+    polynomials: &PolynomialVector<F>,
+    min: u32,
+    width: usize,
+) -> Mem<Option<Vec<u64>>>
+    requires some { 1 ≤ min }
+    requires rows { min ≤ polynomials.now.rows }
+    requires size { IsOfSize polynomials.now polynomials.now.rows width }
+    requires short { (k i : ℕ) → k < polynomials.now.cols → min ≤ i
+        → same (coefficient (residue 0) (column_of (residue 0) polynomials.now k) i) (residue 0) }
+    ensures each_word { IfOk result
+        (λ answer. IfSome answer (λ found. All (λ word. word < 2 ^ 64) found.items)) }
+    ensures some { IfOk result (λ answer. IfSome answer
+        (λ found. ArePolynomialsOf found.items min polynomials.now)) }
+    ensures none { (words : List ℕ) → All (λ word. word < 2 ^ 64) words → length words < 2 ^ 64
+        → ArePolynomialsOf words min polynomials.now → IfOk result (λ answer. IsSome answer) }
+{
+    let elements = first_rows(alloc, polynomials, min)?;
+    let Some(count) = data_count(&elements, min, width) else {
+        return Ok(None);
+    };
+    let words = data_words(alloc, &elements, count)?;
+    Ok(Some(words))
 }
 
 /// Whether each shard that has the index of this one has its cells.

@@ -7,23 +7,19 @@
 //! for each coefficient and a transform of m rows, and where `min` is far below N that is far less
 //! than a transform of N rows. The columns are taken strip by strip, so that a coset stays in a
 //! cache near the processor.
-//!
-//! Three coefficients have four points in a coset (`turns`): where just one row of each is there,
-//! its cells are compared as its values are made.
 
-ghost use Rattle.std.specs.Prelude.{◌≡◌, ◌+◌, ◌-◌, ◌*◌, ◌/◌, ◌%◌, ◌<◌, ◌≤◌, ◌^◌, All, length};
-ghost use Rattle.std.specs.Prelude.{IfOk, IfSome, IsTrue};
+ghost use Rattle.std.specs.Prelude.{◌≡◌, ◌↔◌, ◌+◌, ◌-◌, ◌*◌, ◌/◌, ◌%◌, ◌<◌, ◌≤◌, ◌^◌, All, length};
+ghost use Rattle.std.specs.Prelude.{IfOk, IsTrue};
 ghost use Rattle.math_transforms.specs.DomainValues.{matrix_of};
 ghost use Rattle.math_theory.specs.Powers.{power};
 ghost use Rattle.math_base.specs.Elements.{product, residue, root_of, same};
-ghost use Rattle.math_shards.specs.Cosets.{AreCosetValues, AreMultiples, AreOnlyRows};
-ghost use Rattle.math_shards.specs.Cosets.{HasCosetCells, HasValuesFrom, HaveRowsOfFour};
+ghost use Rattle.math_shards.specs.Cosets.{AreCosetValues, AreMultiples};
+ghost use Rattle.math_shards.specs.Cosets.{HasCosetCells, HasValuesFrom};
 ghost use Rattle.math_shards.specs.Fitting.{HasValuesOf};
 ghost use Rattle.math_shards.specs.Strips.{IsTableOf};
 
 use super::rows::Row;
 use super::strips::{Layout, strip_room};
-use super::turns::write_four;
 use math_base::algebra::Mem;
 use math_base::fields::goldilocks::F;
 use math_transforms::transform::{evaluate_rows, evaluation_table, lg_of, size_of};
@@ -96,10 +92,6 @@ fn write_coset(
     ensures { AreCosetValues (matrix_of layout.min layout.width elements.now)
         from cols ratio lg cells.new }
 {
-    if lg == 2 && layout.min == 3 {
-        write_four(elements, layout, from, cols, ratio, table[3], cells);
-        return;
-    }
     cells[..cols].copy_from_slice(&elements[from..from + cols]);
     let mut factor = ratio;
     for row in 1..layout.min {
@@ -142,7 +134,7 @@ fn has_coset<R: Row>(
     requires row { (R.index row.now / 2 ^ stride + 1) * cols ≤ length cells.now }
     requires within { from + cols ≤ length (R.cells row.now) }
     ensures { IsTrue result
-        → HasCosetCells cells.now cols from start stride (R.index row.now) (R.cells row.now) }
+        ↔ HasCosetCells cells.now cols from start stride (R.index row.now) (R.cells row.now) }
 {
     let (coset, place) = place_of(row.index() as usize, stride);
     if coset != start {
@@ -166,7 +158,7 @@ fn have_coset<R: Row>(
     requires rows { All (λ row. (R.index row / 2 ^ stride + 1) * cols ≤ length cells.now)
         rows.now }
     requires within { All (λ row. from + cols ≤ length (R.cells row)) rows.now }
-    ensures { IsTrue result → All (λ row. HasCosetCells cells.now cols from start stride
+    ensures { IsTrue result ↔ All (λ row. HasCosetCells cells.now cols from start stride
         (R.index row) (R.cells row)) rows.now }
 {
     for row in rows {
@@ -175,72 +167,6 @@ fn have_coset<R: Row>(
         }
     }
     true
-}
-
-/// The places among the rows of those of a coset of four points, where just one row of each point
-/// is there: the points are those whose index is `start` and a multiple of 2^stride.
-fn rows_of_four<R: Row>(rows: &[R], start: usize, stride: u8) -> Option<[usize; 4]>
-    requires small { stride ≤ 32 }
-    requires four { All (λ row. R.index row / 2 ^ stride < 4) rows.now }
-    ensures there { IfSome result (λ places. All (λ place. place < length rows.now) places) }
-    ensures count { IfSome result (λ places. length places ≡ 4) }
-    ensures only { IfSome result (λ places. AreOnlyRows R.index rows.now start stride
-        (length rows.now) places) }
-{
-    let count = rows.len();
-    let mut places = [count; 4];
-    for i in 0..count {
-        let (coset, place) = place_of(rows[i].index() as usize, stride);
-        if coset == start {
-            if places[place] < count {
-                return None;
-            }
-            places[place] = i;
-        }
-    }
-    for place in places {
-        if place == count {
-            return None;
-        }
-    }
-    Some(places)
-}
-
-/// Whether the rows at four places have the values of `cols` columns of three rows, from column
-/// `from` on: the row at place t those at `ratio` times power t of `turn`, the root of order four.
-fn have_four<R: Row>(
-    rows: &[R],
-    places: [usize; 4],
-    elements: &[F],
-    layout: Layout,
-    from: usize,
-    cols: usize,
-    ratio: F,
-    turn: F,
-) -> bool
-    requires rows { layout.min ≡ 3 }
-    requires turn { same turn (root_of 2) }
-    requires elements { length elements.now ≡ layout.min * layout.width }
-    requires within { from + cols ≤ layout.width }
-    requires four { length places ≡ 4 }
-    requires there { All (λ place. place < length rows.now) places }
-    requires count { All (λ row. length (R.cells row) ≡ layout.width) rows.now }
-    ensures { IsTrue result → HaveRowsOfFour R.cells rows.now places
-        (matrix_of layout.min layout.width elements.now) from cols ratio }
-{
-    let linear = layout.width + from;
-    let square = 2 * layout.width + from;
-    rows[places[0]].have_turns(
-        &rows[places[1]],
-        &rows[places[2]],
-        &rows[places[3]],
-        from,
-        &elements[from..from + cols],
-        &elements[linear..linear + cols],
-        &elements[square..square + cols],
-        ratio,
-        turn,
-    )
 }
 
 /// Whether each row whose index is `start` and a multiple of 2^stride has the values of `cols`
@@ -270,16 +196,11 @@ fn have_coset_values<R: Row>(
     requires table { IsTableOf lg table.now }
     requires below { All (λ row. R.index row < 2 ^ layout.lg) rows.now }
     requires count { All (λ row. length (R.cells row) ≡ layout.width) rows.now }
-    ensures { IsTrue result → All (λ row. R.index row % 2 ^ (layout.lg - lg) ≡ start
+    ensures { IsTrue result ↔ All (λ row. R.index row % 2 ^ (layout.lg - lg) ≡ start
         → HasValuesFrom layout.lg (matrix_of layout.min layout.width elements.now) from cols
         (R.index row) (R.cells row)) rows.now }
 {
     let stride = layout.lg - lg;
-    if lg == 2 && layout.min == 3 {
-        if let Some(places) = rows_of_four(rows, start, stride) {
-            return have_four(rows, places, elements, layout, from, cols, ratio, table[3]);
-        }
-    }
     write_coset(alloc, elements, layout, from, cols, ratio, lg, table, cells);
     have_coset(rows, cells, cols, from, start, stride)
 }
@@ -306,7 +227,7 @@ fn have_columns<R: Row>(
     requires table { IsTableOf lg table.now }
     requires below { All (λ row. R.index row < 2 ^ layout.lg) rows.now }
     requires count { All (λ row. length (R.cells row) ≡ layout.width) rows.now }
-    ensures { IsTrue result → All (λ row. HasValuesFrom layout.lg
+    ensures { IsTrue result ↔ All (λ row. HasValuesFrom layout.lg
         (matrix_of layout.min layout.width elements.now) from cols
         (R.index row) (R.cells row)) rows.now }
 {
@@ -348,7 +269,7 @@ fn have_strips<R: Row>(
     requires table { IsTableOf lg table.now }
     requires below { All (λ row. R.index row < 2 ^ layout.lg) rows.now }
     requires count { All (λ row. length (R.cells row) ≡ layout.width) rows.now }
-    ensures { IsTrue result → All (λ row. HasValuesOf layout.lg
+    ensures { IsTrue result ↔ All (λ row. HasValuesOf layout.lg
         (matrix_of layout.min layout.width elements.now) (R.index row) (R.cells row))
         rows.now }
 {
@@ -381,7 +302,7 @@ pub(super) fn have_values<R: Row>(
     requires size { length elements.now ≡ layout.min * layout.width }
     requires below { All (λ row. R.index row < 2 ^ layout.lg) rows.now }
     requires count { All (λ row. length (R.cells row) ≡ layout.width) rows.now }
-    ensures { IfOk result (λ answer. IsTrue answer → All (λ row. HasValuesOf layout.lg
+    ensures { IfOk result (λ answer. IsTrue answer ↔ All (λ row. HasValuesOf layout.lg
         (matrix_of layout.min layout.width elements.now) (R.index row) (R.cells row))
         rows.now) }
 {

@@ -1,32 +1,28 @@
 //! Shards to data.
 
-ghost use Rattle.std.specs.Prelude.{◌≡◌, ◌↔◌, ◌+◌, ◌*◌, ◌<◌, ◌≤◌, ◌^◌, ◌++◌, ℕ, List, All, length};
-ghost use Rattle.std.specs.Prelude.{take, IsTrue, IsSome, IfOk, IfErr, IfSome, OnOk, MatchResult};
-ghost use Rattle.std.specs.Prelude.{◌⊎◌, false, replicate};
+ghost use Rattle.std.specs.Prelude.{◌≡◌, ◌↔◌, ◌+◌, ◌*◌, ◌<◌, ◌≤◌, ◌^◌, ◌⊎◌, ℕ, List, All, length};
+ghost use Rattle.std.specs.Prelude.{IsTrue, IsFalse, IfOk, IfErr, IfSome, IfNone, MatchResult};
+ghost use Rattle.std.specs.Prelude.{count_by, false, nat_lt, replicate};
 ghost use Rattle.std.specs.Int.{IsNextPowerOfTwo};
 ghost use Rattle.std.specs.List.{AllZip};
 ghost use Rattle.math_base.specs.Elements.{same};
-ghost use Rattle.math_base.specs.Packing.{words_of};
-ghost use Rattle.math_ntt.specs.Evaluations.{IsFilledAt};
 ghost use Rattle.math_transforms.specs.Matrices.{IsOfSize};
 ghost use Rattle.math_shards.specs.Fitting.{AreDataOf, DoRowsFit};
-ghost use Rattle.math_shards.specs.Shards.{counted, JoinTo};
-ghost use Rattle.math_shards.specs.Joining.{ArePolynomialsOf, HoldsIfFilled, HoldsOthers};
-ghost use Rattle.math_shards.specs.Joining.{HaveConflict, HoldsShards, IsDue, IsDueBeside};
+ghost use Rattle.math_shards.specs.Shards.{JoinTo};
+ghost use Rattle.math_shards.specs.Joining.{ArePlacesByIndex, HaveUnequalCells, IsDue, IsDueOfRows};
 ghost use Rattle.math_shards.specs.Joining.{IsMemory, IsSound, IsUnsound, Matches, RefusesExactly};
 ghost use Rattle.math_shards.specs.declared.shards.Error.TheVariants.{TooFew, Mismatch, Index};
 ghost use Rattle.math_shards.specs.declared.shards.Error.TheVariants.{Conflict, Inconsistent};
 
 use super::fitting::have_values;
-use super::layout::{laid_out, polynomials};
 use super::restoring::coefficients;
 use super::rows::Row;
 use super::strips::Layout;
-use super::unpacking::{data_count, leading_data, write_data};
+use super::unpacking::{data_count, write_data};
 use super::{Error, Shard};
 use math_base::algebra::Mem;
 use math_base::fields::goldilocks::F;
-use math_ntt::ntt::{EvaluationVector, PolynomialVector};
+use math_ntt::ntt::EvaluationVector;
 use math_transforms::transform::lg_of;
 use std::alloc::{AllocError, Global};
 
@@ -37,8 +33,8 @@ use std::alloc::{AllocError, Global};
 /// in, whose `min`, `total` or number of cells is not that of the first one, or not 1 <= `min` <=
 /// `total`, with `Mismatch`, and the first whose index is `total` or more with `Index`; unequal
 /// cells of one index with `Conflict`; fewer distinct indices than `min` with `TooFew`; and shards
-/// that are those of no data with `Inconsistent`. Where more than `min` shards are there, damage to
-/// one is so found, and where just `min` are there it is not.
+/// that are those of no data with `Inconsistent`. Where shards of more than `min` distinct indices
+/// are there, damage to cells of one is so found, and where just `min` are there it may not be.
 ///
 /// The first `min` shards of distinct indices are joined: beside the data that takes memory for as
 /// many elements as these shards have cells. Where `min` is small, and no more than a shard has
@@ -46,10 +42,10 @@ use std::alloc::{AllocError, Global};
 /// `total` rounded up to a power of two; and else by transforms of strips of columns, in memory for
 /// a few times N elements and for one strip of N rows. All shards are then compared with the data
 /// where there are further ones, in memory for a table and a strip of a coset of as many points as
-/// `min`, or more. Where one of them does not fit, all are joined again by transforms of all
-/// columns, with memory for a few times N rows of as many cells as a shard has. Who takes shards
-/// from strangers bounds `total` first. Nothing is allocated by a number that a shard claims of its
-/// data before the cells are seen to be so many.
+/// `min`, or more. Where they fit no data, memory for `total` numbers and for the cells of a shard
+/// is taken to tell which refusal is due. Who takes shards from strangers bounds `total` first.
+/// Nothing is allocated by a number that a shard claims of its data before the cells are seen to be
+/// so many.
 pub fn join(alloc: Global, shards: &[Shard]) -> Result<Vec<u64>, Error>
     ensures ok { IfOk result (λ words. JoinTo words.items shards.now) }
     ensures found { (words : List ℕ) → JoinTo words shards.now
@@ -60,11 +56,11 @@ pub fn join(alloc: Global, shards: &[Shard]) -> Result<Vec<u64>, Error>
     ensures conflict { RefusesExactly result shards.now Conflict }
     ensures inconsistent { RefusesExactly result shards.now Inconsistent }
 {
-    recovered_data(alloc, shards)
+    joined_data(alloc, shards)
 }
 
 /// The data of the shards, or what is wrong with them.
-fn recovered_data(alloc: Global, shards: &[Shard]) -> Result<Vec<u64>, Error>
+fn joined_data(alloc: Global, shards: &[Shard]) -> Result<Vec<u64>, Error>
     ensures ok { IfOk result (λ words. JoinTo words.items shards.now) }
     ensures err { IfErr result (IsDue shards.now) }
 {
@@ -72,18 +68,40 @@ fn recovered_data(alloc: Global, shards: &[Shard]) -> Result<Vec<u64>, Error>
         return Err(Error::TooFew);
     };
     check_numbers(shards, first)?;
-    if let Some(words) = fitted_data(alloc, shards, first)? {
-        return Ok(words);
+    let (elements, count) = joined_elements(
+        alloc,
+        shards,
+        first.min,
+        first.total,
+        first.cells.len(),
+    )?;
+    let words = data_words(alloc, &elements, count)?;
+    Ok(words)
+}
+
+/// The elements of the data that the rows fit, and how many words these data are; or which refusal
+/// is due.
+pub(super) fn joined_elements<R: Row>(
+    alloc: Global,
+    rows: &[R],
+    min: u32,
+    total: u32,
+    width: usize,
+) -> Result<(Vec<F>, usize), Error>
+    requires some { 1 ≤ min }
+    requires within { min ≤ total }
+    requires below { All (λ row. R.index row < total) rows.now }
+    requires count { All (λ row. length (R.cells row) ≡ width) rows.now }
+    ensures ok { IfOk result (λ found. (words : List ℕ)
+        × (length words ≡ found.1) × AreDataOf words min found.0.items
+        × DoRowsFit R.index R.cells words min total rows.now) }
+    ensures err { IfErr result (λ e. IsMemory e ⊎ IsDueOfRows R.index R.cells min total rows.now e) }
+{
+    if let Some(found) = fitted_elements(alloc, rows, min, total, width)? {
+        return Ok(found);
     }
-    let values = gathered(alloc, shards, first)?;
-    if values.filled_rows() < first.min as usize {
-        return Err(Error::TooFew);
-    }
-    let recovered = values.recover(alloc)?;
-    match data_of(alloc, &recovered, first)? {
-        Some(data) => Ok(data),
-        None => Err(Error::Inconsistent),
-    }
+    let error = refusal(alloc, rows, min, total, width)?;
+    Err(error)
 }
 
 /// The elements of the data that the rows fit, and how many words these data are; `None` where
@@ -102,9 +120,11 @@ pub(super) fn fitted_elements<R: Row>(
     requires within { min ≤ total }
     requires below { All (λ row. R.index row < total) rows.now }
     requires count { All (λ row. length (R.cells row) ≡ width) rows.now }
-    ensures { IfOk result (λ answer. IfSome answer (λ found. (words : List ℕ)
+    ensures some { IfOk result (λ answer. IfSome answer (λ found. (words : List ℕ)
         × (length words ≡ found.1) × AreDataOf words min found.0.items
         × DoRowsFit R.index R.cells words min total rows.now)) }
+    ensures none { IfOk result (λ answer. IfNone answer ((words : List ℕ)
+        → ¬ (DoRowsFit R.index R.cells words min total rows.now))) }
 {
     if rows.len() < min as usize {
         return Ok(None);
@@ -129,22 +149,106 @@ pub(super) fn fitted_elements<R: Row>(
     Ok(Some((elements, count)))
 }
 
-/// The data that the shards fit; `None` where fewer than `min` have distinct indices, or some shard
-/// does not fit.
-fn fitted_data(alloc: Global, shards: &[Shard], first: &Shard) -> Mem<Option<Vec<u64>>>
-    requires some { 0 < length shards.now }
-    requires sound { All (IsSound first.now) shards.now }
-    ensures { IfOk result (λ answer. IfSome answer (λ words. JoinTo words.items shards.now)) }
+/// Whether the rows, of this width, have the same cells.
+fn have_same_cells<R: Row>(alloc: Global, row: &R, other: &R, width: usize) -> Mem<bool>
+    requires first { length (R.cells row.now) ≡ width }
+    requires second { length (R.cells other.now) ≡ width }
+    ensures { IfOk result
+        (λ answer. IsTrue answer ↔ AllZip same (R.cells row.now) (R.cells other.now)) }
 {
-    let width = first.cells.len();
-    let Some((elements, count)) = fitted_elements(alloc, shards, first.min, first.total, width)?
-    else {
-        return Ok(None);
-    };
+    let mut cells = Vec::with_capacity(alloc, width)?;
+    row.append_to(&mut cells)?;
+    Ok(other.has_values(0, &cells))
+}
+
+/// Puts the place of row i into the list by index, where no row before it has its index. Whether it
+/// has the cells of the row whose place is there else.
+fn put_place<R: Row>(
+    alloc: Global,
+    rows: &[R],
+    i: usize,
+    width: usize,
+    places: &mut [usize],
+) -> Mem<bool>
+    requires row { i < length rows.now }
+    requires below { All (λ row. R.index row < length places.old) rows.now }
+    requires count { All (λ row. length (R.cells row) ≡ width) rows.now }
+    requires places { ArePlacesByIndex R.index R.cells (length places.old) rows.now i places.old }
+    ensures equal { IfOk result (λ answer. IsTrue answer
+        → ArePlacesByIndex R.index R.cells (length places.old) rows.now (i + 1) places.new) }
+    ensures unequal { IfOk result
+        (λ answer. IsFalse answer → HaveUnequalCells R.index R.cells rows.now) }
+{
+    let index = rows[i].index() as usize;
+    let place = places[index];
+    if place >= rows.len() {
+        places[index] = i;
+        return Ok(true);
+    }
+    let answer = have_same_cells(alloc, &rows[place], &rows[i], width)?;
+    Ok(answer)
+}
+
+/// Writes over the list for each index the place of the first row that has it, and the number of
+/// rows where none does. Whether no two rows of one index have unequal cells.
+fn put_places<R: Row>(alloc: Global, rows: &[R], width: usize, places: &mut [usize]) -> Mem<bool>
+    requires below { All (λ row. R.index row < length places.old) rows.now }
+    requires count { All (λ row. length (R.cells row) ≡ width) rows.now }
+    ensures equal { IfOk result (λ answer. IsTrue answer → ArePlacesByIndex R.index R.cells
+        (length places.old) rows.now (length rows.now) places.new) }
+    ensures unequal { IfOk result
+        (λ answer. IsFalse answer → HaveUnequalCells R.index R.cells rows.now) }
+{
+    places.fill(rows.len());
+    for i in 0..rows.len() {
+        if !put_place(alloc, rows, i, width, places)? {
+            return Ok(false);
+        }
+    }
+    Ok(true)
+}
+
+/// How many of the numbers are below the bound.
+fn count_below(numbers: &[usize], bound: usize) -> usize
+    ensures { result ≡ count_by (λ n. nat_lt n bound) numbers.now }
+{
+    let mut count = 0;
+    for number in numbers {
+        if *number < bound {
+            count += 1;
+        }
+    }
+    count
+}
+
+/// Which refusal is due to rows that fit no data: unequal cells of one index, too few distinct
+/// indices, or neither.
+fn refusal<R: Row>(alloc: Global, rows: &[R], min: u32, total: u32, width: usize) -> Mem<Error>
+    requires below { All (λ row. R.index row < total) rows.now }
+    requires count { All (λ row. length (R.cells row) ≡ width) rows.now }
+    requires none { (words : List ℕ) → ¬ (DoRowsFit R.index R.cells words min total rows.now) }
+    ensures { IfOk result (IsDueOfRows R.index R.cells min total rows.now) }
+{
+    let mut places = Vec::with_capacity(alloc, total as usize)?;
+    places.resize(total as usize, 0)?;
+    if !put_places(alloc, rows, width, &mut places)? {
+        return Ok(Error::Conflict);
+    }
+    if count_below(&places, rows.len()) < min as usize {
+        return Ok(Error::TooFew);
+    }
+    Ok(Error::Inconsistent)
+}
+
+/// The data whose elements these are, of so many words.
+pub(super) fn data_words(alloc: Global, elements: &[F], count: usize) -> Mem<Vec<u64>>
+    ensures { (words : List ℕ) (min : ℕ) → length words ≡ count
+        → AreDataOf words min elements.now → IfOk result (λ out. out.items ≡ words) }
+{
     let mut words = Vec::with_capacity(alloc, count)?;
     words.resize(count, 0)?;
-    write_data(&elements, &mut words);
-    Ok(Some(words))
+    write_data(elements, &mut words);
+    Ok(words)
 }
 
 /// Whether the numbers and the number of cells are those of the first shard, and such as shards
@@ -202,112 +306,4 @@ pub(super) fn no_rows(alloc: Global, first: &Shard) -> Mem<EvaluationVector<F>>
     }
     let values = EvaluationVector::empty(alloc, lg_of(points) as usize, cols)?;
     Ok(values)
-}
-
-/// The vector of values in which the row of each shard's index is filled with its cells.
-fn gathered(alloc: Global, shards: &[Shard], first: &Shard) -> Result<EvaluationVector<F>, Error>
-    requires { All (IsSound first.now) shards.now }
-    ensures ok { IfOk result (λ e. (lg : ℕ) × IsNextPowerOfTwo first.now.total (2 ^ lg)
-        × HoldsShards lg (length first.now.cells.items) shards.now e) }
-    ensures total { IfOk result (λ _. first.now.total < 2 ^ 32) }
-    ensures err { IfErr result
-        (λ e. IsMemory e ⊎ ((e ≡ Conflict) × HaveConflict shards.now)) }
-{
-    let mut values = no_rows(alloc, first)?;
-    for shard in shards {
-        fill_row_of(alloc, &mut values, shard)?;
-    }
-    Ok(values)
-}
-
-/// Fills the row of the shard's index with its cells, unless it is filled with other ones.
-fn fill_row_of(alloc: Global, values: &mut EvaluationVector<F>, shard: &Shard) -> Result<(), Error>
-    requires row { shard.now.index < values.old.matrix.rows }
-    requires cells { length shard.now.cells.items ≡ values.old.matrix.cols }
-    ensures ok { OnOk result
-        (IsFilledAt same values.old shard.now.index shard.now.cells.items values.new) }
-    ensures equal { OnOk result (HoldsIfFilled values.old shard.now) }
-    ensures err { IfErr result
-        (λ e. IsMemory e ⊎ ((e ≡ Conflict) × HoldsOthers values.old shard.now)) }
-{
-    let row = shard.index as usize;
-    if values.is_filled(row) && !are_equal(values.row(row), &shard.cells) {
-        return Err(Error::Conflict);
-    }
-    values.fill_row(alloc, row, &shard.cells)?;
-    Ok(())
-}
-
-/// The words that the first `min` rows of coefficients unpack to.
-fn words_in(alloc: Global, recovered: &PolynomialVector<F>, min: u32) -> Mem<Vec<u64>>
-    requires { min ≤ recovered.now.rows }
-    ensures { IfOk result
-        (λ words. words.items ≡ words_of (take (min * recovered.now.cols) recovered.now.cells)) }
-{
-    let mut elements = Vec::new(alloc);
-    for row in recovered.coefficients_up_to(min as usize) {
-        elements.extend_from_slice(row)?;
-    }
-    let mut words = Vec::with_capacity(alloc, elements.len() - elements.len() / 64)?;
-    words.extend(F::stream_to_u64s(elements.into_iter()))?;
-    Ok(words)
-}
-
-/// The data that the first `min` rows of coefficients begin with, where so many words follow as the
-/// first one says.
-fn data_in(alloc: Global, recovered: &PolynomialVector<F>, min: u32) -> Mem<Option<Vec<u64>>>
-    requires { min ≤ recovered.now.rows }
-    ensures each_word { IfOk result
-        (λ answer. IfSome answer (λ found. All (λ word. word < 2 ^ 64) found.items)) }
-    ensures data { (words rest : List ℕ)
-        → words_of (take (min * recovered.now.cols) recovered.now.cells) ≡ counted words ++ rest
-        → IfOk result (λ answer. IsSome answer × IfSome answer (λ found. found.items ≡ words)) }
-{
-    let words = words_in(alloc, recovered, min)?;
-    Ok(leading_data(words))
-}
-
-/// Whether these polynomials are those of the data.
-fn are_of(alloc: Global, recovered: &PolynomialVector<F>, data: &[u64], first: &Shard) -> Mem<bool>
-    requires some { 1 ≤ first.now.min }
-    requires within { first.now.min ≤ first.now.total }
-    requires size { IsOfSize recovered.now recovered.now.rows (length first.now.cells.items) }
-    requires rows { IsNextPowerOfTwo first.now.total recovered.now.rows }
-    ensures { IfOk result
-        (λ answer. IsTrue answer ↔ ArePolynomialsOf «data».now first.now.min recovered.now) }
-{
-    let rows = laid_out(alloc, data, first.min)?;
-    if rows.cols() != first.cells.len() {
-        return Ok(false);
-    }
-    let polynomials = polynomials(alloc, &rows, first.total)?;
-    let answer = recovered.equals(alloc, &polynomials)?;
-    Ok(answer)
-}
-
-/// The data whose polynomials these are, where there are such data.
-pub(super) fn data_of(
-    alloc: Global,
-    recovered: &PolynomialVector<F>,
-    first: &Shard,
-) -> Mem<Option<Vec<u64>>>
-    requires some { 1 ≤ first.now.min }
-    requires within { first.now.min ≤ first.now.total }
-    requires size { IsOfSize recovered.now recovered.now.rows (length first.now.cells.items) }
-    requires rows { IsNextPowerOfTwo first.now.total recovered.now.rows }
-    ensures each_word { IfOk result
-        (λ answer. IfSome answer (λ found. All (λ word. word < 2 ^ 64) found.items)) }
-    ensures some { IfOk result (λ answer. IfSome answer
-        (λ found. ArePolynomialsOf found.items first.now.min recovered.now)) }
-    ensures none { (words : List ℕ) → All (λ word. word < 2 ^ 64) words → length words < 2 ^ 64
-        → ArePolynomialsOf words first.now.min recovered.now
-        → IfOk result (λ answer. IsSome answer) }
-{
-    let Some(data) = data_in(alloc, recovered, first.min)? else {
-        return Ok(None);
-    };
-    if !are_of(alloc, recovered, &data, first)? {
-        return Ok(None);
-    }
-    Ok(Some(data))
 }

@@ -1,7 +1,7 @@
 //! Shards that are rows of words to data.
 //!
-//! Where all rows fit, no shards are made of the words: beside one list of elements the data are
-//! written where they are wanted.
+//! No shards are made of the words: beside one list of elements the data are written where they are
+//! wanted.
 
 ghost use Rattle.std.specs.Prelude.{◌≡◌, ◌↔◌, ◌+◌, ◌*◌, ◌<◌, ◌≤◌, ◌⊎◌, ℕ, List, All, length, map};
 ghost use Rattle.std.specs.Prelude.{take, drop, slice_index};
@@ -13,7 +13,7 @@ ghost use Rattle.math_shards.specs.Fitting.{AreDataOf, DoRowsFit};
 ghost use Rattle.math_shards.specs.Joining.{IsMemory};
 ghost use Rattle.math_shards.specs.ShardRows.{AreRefused, AreWordShards, DoJoinTo, StandInFront};
 
-use super::joining::{fitted_elements, join};
+use super::joining::joined_elements;
 use super::rows::{Row, WordRow};
 use super::unpacking::write_data;
 use super::{Error, Shard};
@@ -82,6 +82,13 @@ fn word_rows<'a>(
     Ok(rows)
 }
 
+/// Whether shards can have these numbers.
+fn are_numbers(min: u32, total: u32) -> bool
+    ensures { IsTrue result ↔ (1 ≤ min) × (min ≤ total) }
+{
+    1 <= min && min <= total
+}
+
 /// Whether each number is below the bound.
 fn are_below(numbers: &[u32], bound: u32) -> bool
     ensures { IsTrue result ↔ All (λ n. n < bound) numbers.now }
@@ -89,52 +96,13 @@ fn are_below(numbers: &[u32], bound: u32) -> bool
     numbers.iter().all(|n| *n < bound)
 }
 
-/// Writes the data of the rows over the first words of `out`, and gives their number, or `None`
-/// within, where there is no room for them. `None` where the rows do not fit.
-fn write_fitted(
-    alloc: Global,
-    indices: &[u32],
-    min: u32,
-    total: u32,
-    cells: &[u64],
-    cols: usize,
-    out: &mut [u64],
-) -> Mem<Option<Option<usize>>>
-    requires count { length cells.now ≡ length indices.now * cols }
-    requires below { AreElements cells.now }
-    ensures some { IfOk result (λ answer. IfSome answer (λ given. IfSome given (λ n.
-        (words : List ℕ) × DoJoinTo words min total indices.now cells.now × (n ≡ length words)
-        × StandInFront words out.old out.new))) }
-    ensures none { IfOk result (λ answer. IfSome answer (λ given. IfNone given
-        ((words : List ℕ) × DoJoinTo words min total indices.now cells.now
-        × (length out.old < length words)))) }
-    ensures kept { IfOk result (λ answer. IfSome answer (λ given. IfNone given
-        (out.new ≡ out.old))) }
-    ensures other { IfOk result (λ answer. IfNone answer (out.new ≡ out.old)) }
-    ensures err { OnErr result (out.new ≡ out.old) }
-{
-    if indices.is_empty() || min == 0 || total < min || !are_below(indices, total) {
-        return Ok(None);
-    }
-    let rows = word_rows(alloc, indices, cells, cols)?;
-    let Some((elements, count)) = fitted_elements(alloc, &rows, min, total, cols)? else {
-        return Ok(None);
-    };
-    if count > out.len() {
-        return Ok(Some(None));
-    }
-    write_data(&elements, &mut out[..count]);
-    Ok(Some(Some(count)))
-}
-
 /// Writes the data of the shards whose cells the words are over the first words of `out`, and gives
 /// the number of these; `None` where there is no room for them.
 ///
 /// Row i holds the cells of the shard with index `indices[i]`, each as the number of an element,
 /// below P; a row has `cols` words. It refuses as `join` does, and then, and where there is no
-/// room, nothing is written. Where all rows fit, it takes memory for as many elements as `min` rows
-/// have words, for the weights or the transforms of a strip, and beside further rows for a strip of
-/// a coset; else as `join` does, and for as many elements as there are words.
+/// room, nothing is written. It takes memory for as many elements as `min` rows have words, for the
+/// weights or the transforms of a strip, and beside further rows for a strip of a coset.
 pub fn join_rows(
     alloc: Global,
     indices: &[u32],
@@ -155,15 +123,20 @@ pub fn join_rows(
     ensures err { OnErr result (out.new ≡ out.old) }
     ensures due { IfErr result (λ e. IsMemory e ⊎ AreRefused e min total indices.now cells.now) }
 {
-    if let Some(answer) = write_fitted(alloc, indices, min, total, cells, cols, out)? {
-        return Ok(answer);
+    let rows = word_rows(alloc, indices, cells, cols)?;
+    if indices.is_empty() {
+        return Err(Error::TooFew);
     }
-    let shards = shards_of_rows(alloc, indices, min, total, cells, cols)?;
-    let words = join(alloc, &shards)?;
-    let n = words.len();
-    if n > out.len() {
+    if !are_numbers(min, total) {
+        return Err(Error::Mismatch);
+    }
+    if !are_below(indices, total) {
+        return Err(Error::Index);
+    }
+    let (elements, count) = joined_elements(alloc, &rows, min, total, cols)?;
+    if count > out.len() {
         return Ok(None);
     }
-    out[..n].copy_from_slice(&words);
-    Ok(Some(n))
+    write_data(&elements, &mut out[..count]);
+    Ok(Some(count))
 }

@@ -7,9 +7,12 @@
 //! domain, so that is the faster way where k is large.
 
 ghost use Rattle.std.specs.Prelude.{◌≡◌, ◌*◌, ◌<◌, ◌≤◌, ◌^◌, ℕ, All, length, map};
-ghost use Rattle.std.specs.Prelude.{IfOk, IfSome};
+ghost use Rattle.std.specs.Prelude.{IfOk, IfSome, IfNone, OnOk};
 ghost use Rattle.std.specs.Int.{IsNextPowerOfTwo};
+ghost use Rattle.math_base.specs.declared.fields.goldilocks.F.{F};
 ghost use Rattle.math_transforms.specs.DomainValues.{matrix_of};
+ghost use Rattle.math_transforms.specs.Matrices.{IsOfSize, MatrixOf};
+ghost use Rattle.math_cosets.specs.Restored.{AreDistinct, HaveCellsAsValues};
 ghost use Rattle.math_shards.specs.Fitting.{HasValuesOf, distinct_among};
 
 use super::rows::Row;
@@ -31,6 +34,35 @@ fn are_weights_cheaper(min: usize, lg: u8, part: u8) -> bool
     min.saturating_mul(min) <= whole.saturating_add(coset).saturating_mul(4)
 }
 
+/// Writes the coefficients of all columns over their cells: row t of the cells has the values at
+/// the power of the root that is index t.
+fn put_coefficients(
+    alloc: Global,
+    indices: &[u32],
+    cells: &mut [F],
+    min: u32,
+    total: u32,
+    width: usize,
+) -> Mem<()>
+    requires some { 1 ≤ min }
+    requires within { min ≤ total }
+    requires below { All (λ i. i < total) indices.now }
+    requires distinct { AreDistinct indices.now }
+    requires many { length indices.now ≡ min }
+    requires size { length cells.old ≡ length indices.now * width }
+    ensures { OnOk result ((lg : ℕ) → IsNextPowerOfTwo total (2 ^ lg)
+        → HaveCellsAsValues lg indices.now width cells.old cells.new) }
+{
+    let lg = lg_of((total as usize).next_power_of_two());
+    let part = lg_of((min as usize).next_power_of_two());
+    if min as usize <= width && are_weights_cheaper(min as usize, lg, part) {
+        put_weighed(alloc, indices, cells, min, total, width)?;
+    } else {
+        put_restored(alloc, indices, cells, width, lg, part)?;
+    }
+    Ok(())
+}
+
 /// The coefficients, row by row, of the polynomials of `min` coefficients that have the cells of
 /// the first `min` rows of distinct indices as their values; `None` where there are fewer.
 pub(super) fn coefficients<R: Row>(
@@ -47,21 +79,22 @@ pub(super) fn coefficients<R: Row>(
     ensures size { IfOk result (λ answer. IfSome answer (λ v. length v.items ≡ min * width)) }
     ensures enough { IfOk result
         (λ answer. IfSome answer (λ _. min ≤ distinct_among total (map R.index rows.now))) }
+    ensures few { IfOk result
+        (λ answer. IfNone answer (distinct_among total (map R.index rows.now) < min)) }
     ensures values { IfOk result (λ answer. IfSome answer (λ v. length rows.now ≡ min
         → (lg : ℕ) → IsNextPowerOfTwo total (2 ^ lg)
         → All (λ row. HasValuesOf lg (matrix_of min width v.items) (R.index row) (R.cells row))
         rows.now)) }
+    ensures only { IfOk result (λ answer. IfSome answer (λ v. (lg : ℕ) (m : MatrixOf F)
+        → IsNextPowerOfTwo total (2 ^ lg) → IsOfSize m min width
+        → All (λ row. HasValuesOf lg m (R.index row) (R.cells row)) rows.now
+        → v.items ≡ m.cells)) }
 {
     let lg = lg_of((total as usize).next_power_of_two());
     let (indices, mut cells) = chosen(alloc, rows, min as usize, width, lg)?;
     if indices.len() < min as usize {
         return Ok(None);
     }
-    let part = lg_of((min as usize).next_power_of_two());
-    if min as usize <= width && are_weights_cheaper(min as usize, lg, part) {
-        put_weighed(alloc, &indices, &mut cells, min, total, width)?;
-    } else {
-        put_restored(alloc, &indices, &mut cells, width, lg, part)?;
-    }
+    put_coefficients(alloc, &indices, &mut cells, min, total, width)?;
     Ok(Some(cells))
 }

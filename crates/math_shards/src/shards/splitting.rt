@@ -17,13 +17,16 @@ ghost use Rattle.std.specs.Prelude.{
   OnOk,
   length,
 };
+ghost use Rattle.math_shards.specs.DataWords.{words_in};
 ghost use Rattle.math_shards.specs.Shards.{AreShardsOf, width_for};
-ghost use Rattle.math_shards.specs.ShardRows.{AreColumnsWritten, AreNumbers};
+ghost use Rattle.math_shards.specs.ShardRows.{AreColumnsWritten};
 ghost use Rattle.math_shards.specs.ShardRows.{AreRowsOfShards, HaveColumns};
 ghost use Rattle.math_shards.specs.Strips.{AreBegun, AreExtended, IsExtendedBy, IsLayoutOf};
 ghost use Rattle.math_shards.specs.Strips.{IsTableOf};
 
 use super::Shard;
+use super::rooms::Room;
+use super::sources::{Source, Word, source_of};
 use super::strips::{Layout, layout_of, most_cols, strip_room, write_values};
 use math_base::algebra::Mem;
 use math_base::fields::goldilocks::F;
@@ -43,12 +46,28 @@ pub fn split(alloc: Global, data: &[u64], min: u32, total: u32) -> Mem<Vec<Shard
     requires within { min ≤ total }
     ensures { IfOk result (λ shards. AreShardsOf «data».now min total shards.items) }
 {
-    let layout = layout_of(data, min, total);
+    split_source(alloc, &source_of(data), min, total)
+}
+
+/// The shards of data that lie in any form, as `split` has them of words.
+pub fn split_source<W: Word>(
+    alloc: Global,
+    source: &Source<'_, W>,
+    min: u32,
+    total: u32,
+) -> Mem<Vec<Shard>>
+    requires some { 1 ≤ min }
+    requires within { min ≤ total }
+    requires few { length (words_in W.word source.now) < 2 ^ 61 }
+    ensures { IfOk result
+        (λ shards. AreShardsOf (words_in W.word source.now) min total shards.items) }
+{
+    let layout = layout_of(source, min, total);
     let table = evaluation_table::<F>(alloc, layout.lg)?;
     let mut shards = empty_shards(alloc, min, total, layout.width)?;
     let most = most_cols(layout);
     let mut room = strip_room(alloc, layout, most)?;
-    append_strips(alloc, data, layout, &table, most, &mut room, &mut shards)?;
+    append_strips(alloc, source, layout, &table, most, &mut room, &mut shards)?;
     Ok(shards)
 }
 
@@ -67,13 +86,33 @@ pub fn split_rows(alloc: Global, data: &[u64], min: u32, total: u32, cells: &mut
     ensures ok { OnOk result (AreRowsOfShards «data».now min total cells.new) }
     ensures err { OnErr result (cells.new ≡ cells.old) }
 {
-    let layout = layout_of(data, min, total);
+    split_source_rows(alloc, &source_of(data), min, total, cells)
+}
+
+/// Writes the shards of data that lie in any form over words, or over bytes, as `split_rows` does.
+pub fn split_source_rows<W: Word, R: Room>(
+    alloc: Global,
+    source: &Source<'_, W>,
+    min: u32,
+    total: u32,
+    cells: &mut [R],
+) -> Mem<()>
+    requires some { 1 ≤ min }
+    requires within { min ≤ total }
+    requires few { length (words_in W.word source.now) < 2 ^ 61 }
+    requires size { length (R.words cells.old) ≡ total * width_for min (words_in W.word source.now) }
+    requires fits { length (R.words cells.old) < 2 ^ 64 }
+    ensures ok { OnOk result
+        (AreRowsOfShards (words_in W.word source.now) min total (R.words cells.new)) }
+    ensures err { OnErr result (cells.new ≡ cells.old) }
+{
+    let layout = layout_of(source, min, total);
     let table = evaluation_table::<F>(alloc, layout.lg)?;
     let most = most_cols(layout);
     let mut room = strip_room(alloc, layout, most)?;
     write_rows(
         alloc,
-        data,
+        source,
         layout,
         total as usize,
         &table,
@@ -86,30 +125,32 @@ pub fn split_rows(alloc: Global, data: &[u64], min: u32, total: u32, cells: &mut
 
 /// Writes the values of all columns into the rows of their shards, strip by strip of at most so
 /// many columns, each in the same room.
-fn write_rows(
+fn write_rows<W: Word, R: Room>(
     alloc: Global,
-    data: &[u64],
+    source: &Source<'_, W>,
     layout: Layout,
     total: usize,
     table: &[F],
     most: usize,
     room: &mut [F],
-    cells: &mut [u64],
+    cells: &mut [R],
 )
-    requires layout { IsLayoutOf «data».now layout }
+    requires layout { IsLayoutOf (words_in W.word source.now) layout }
     requires points { total ≤ 2 ^ layout.lg }
     requires table { IsTableOf layout.lg table.now }
     requires some { 1 ≤ most }
     requires room { length room.old ≡ 2 ^ layout.lg * most }
-    requires size { length cells.old ≡ total * layout.width }
-    ensures { HaveColumns «data».now layout.min layout.lg layout.width
-        total layout.width cells.new }
+    requires size { length (R.words cells.old) ≡ total * layout.width }
+    requires fits { length (R.words cells.old) < 2 ^ 64 }
+    ensures columns { HaveColumns (words_in W.word source.now) layout.min layout.lg layout.width
+        total layout.width (R.words cells.new) }
+    ensures size { length (R.words cells.new) ≡ length (R.words cells.old) }
 {
     let mut from = 0;
     while from < layout.width {
         let cols = most.min(layout.width - from);
         let strip = &mut room[..size_of(layout.lg) * cols];
-        write_values(alloc, data, layout, from, cols, table, strip);
+        write_values(alloc, source, layout, from, cols, table, strip);
         write_columns(strip, cols, total, layout.width, from, cells);
         from += cols;
     }
@@ -117,33 +158,24 @@ fn write_rows(
 
 /// Writes row i of the strip into row i of the cells, from column `from` on, for each i below
 /// `total`.
-fn write_columns(
+fn write_columns<R: Room>(
     strip: &[F],
     cols: usize,
     total: usize,
     width: usize,
     from: usize,
-    cells: &mut [u64],
+    cells: &mut [R],
 )
     requires strip { total * cols ≤ length strip.now }
     requires within { from + cols ≤ width }
-    requires size { length cells.old ≡ total * width }
-    ensures { AreColumnsWritten width from cols total strip.now cells.old cells.new }
+    requires size { length (R.words cells.old) ≡ total * width }
+    requires fits { length (R.words cells.old) < 2 ^ 64 }
+    ensures columns { AreColumnsWritten width from cols total strip.now
+        (R.words cells.old) (R.words cells.new) }
+    ensures size { length (R.words cells.new) ≡ length (R.words cells.old) }
 {
     for i in 0..total {
-        let at = i * width + from;
-        write_numbers(&mut cells[at..at + cols], &strip[i * cols..(i + 1) * cols]);
-    }
-}
-
-/// Writes the numbers of the elements over the words, of which there are as many.
-fn write_numbers(words: &mut [u64], items: &[F])
-    requires { length words.old ≡ length items.now }
-    ensures { AreNumbers items.now words.new }
-{
-    let source = &items[..words.len()];
-    for k in 0..words.len() {
-        words[k] = u64::from_le_bytes(source[k].to_le_bytes());
+        R::write(cells, i * width + from, &strip[i * cols..(i + 1) * cols]);
     }
 }
 
@@ -168,29 +200,30 @@ fn empty_shards(alloc: Global, min: u32, total: u32, width: usize) -> Mem<Vec<Sh
 
 /// Adds the values of all columns to the shards, strip by strip of at most so many columns, each in
 /// the same room.
-fn append_strips(
+fn append_strips<W: Word>(
     alloc: Global,
-    data: &[u64],
+    source: &Source<'_, W>,
     layout: Layout,
     table: &[F],
     most: usize,
     room: &mut [F],
     shards: &mut [Shard],
 ) -> Mem<()>
-    requires layout { IsLayoutOf «data».now layout }
+    requires layout { IsLayoutOf (words_in W.word source.now) layout }
     requires points { length shards.old ≤ 2 ^ layout.lg }
     requires table { IsTableOf layout.lg table.now }
     requires some { 1 ≤ most }
     requires room { length room.old ≡ 2 ^ layout.lg * most }
     ensures { OnOk result ((total : ℕ)
-        → AreBegun «data».now layout.min total layout.lg 0 shards.old
-        → AreBegun «data».now layout.min total layout.lg layout.width shards.new) }
+        → AreBegun (words_in W.word source.now) layout.min total layout.lg 0 shards.old
+        → AreBegun (words_in W.word source.now) layout.min total layout.lg layout.width
+        shards.new) }
 {
     let mut from = 0;
     while from < layout.width {
         let cols = most.min(layout.width - from);
         let strip = &mut room[..size_of(layout.lg) * cols];
-        write_values(alloc, data, layout, from, cols, table, strip);
+        write_values(alloc, source, layout, from, cols, table, strip);
         append_rows(strip, cols, shards)?;
         from += cols;
     }

@@ -17,17 +17,22 @@ ghost use Rattle.std.specs.Prelude.{
   ◌<◌,
   ◌≤◌,
   ◌^◌,
+  ℕ,
   IfOk,
+  List,
   length,
+  map,
   slice_index,
 };
 ghost use Rattle.std.specs.Int.{IsNextPowerOfTwo};
 ghost use Rattle.math_base.specs.Elements.{same};
-ghost use Rattle.math_shards.specs.Shards.{counted};
+ghost use Rattle.math_shards.specs.DataWords.{words_in};
+ghost use Rattle.math_shards.specs.Shards.{counted, width_for};
 ghost use Rattle.math_shards.specs.Strips.{ArePacked, ArePieces, HasStripValues, IsLayoutOf};
 ghost use Rattle.math_shards.specs.Strips.{IsStripOf};
 ghost use Rattle.math_shards.specs.Strips.{IsTableOf, packed_at, piece_of};
 
+use super::sources::{Source, Word, before_slice, count_of, word_in};
 use math_base::algebra::Mem;
 use math_base::fields::goldilocks::F;
 use math_transforms::transform::{evaluate_rows, lg_of, size_of};
@@ -52,23 +57,32 @@ pub(super) struct Layout {
     pub(super) lg: u8,
 }
 
+/// How many cells each shard has of so many words of data, of which `min` give these back.
+///
+/// `min` is at least 1, and there are fewer than 2^63 words.
+pub fn shard_width(words: usize, min: u32) -> usize
+    requires some { 1 ≤ min }
+    requires few { words < 2 ^ 63 }
+    ensures { (given : List ℕ) → length given ≡ words → width_for min given ≡ result }
+{
+    let count = words + 1;
+    (count + count.div_ceil(63)).div_ceil(min as usize)
+}
+
 /// The layout of the data for `min` rows and for the least domain of `total` points.
-pub(super) fn layout_of(data: &[u64], min: u32, total: u32) -> Layout
+pub(super) fn layout_of<W: Word>(source: &Source<'_, W>, min: u32, total: u32) -> Layout
     requires some { 1 ≤ min }
     requires within { min ≤ total }
-    ensures layout { IsLayoutOf «data».now result }
+    requires few { length (words_in W.word source.now) < 2 ^ 61 }
+    ensures layout { IsLayoutOf (words_in W.word source.now) result }
     ensures min { result.min ≡ min }
     ensures points { IsNextPowerOfTwo total (2 ^ result.lg) }
 {
-    let words = data.len() + 1;
-    let more = words.div_ceil(63);
-    let width = (words + more).div_ceil(min as usize);
     let points = (total as usize).next_power_of_two();
-    let lg = lg_of(points);
     Layout {
         min: min as usize,
-        width,
-        lg,
+        width: shard_width(count_of(source), min),
+        lg: lg_of(points),
     }
 }
 
@@ -85,16 +99,14 @@ pub(super) fn most_cols(layout: Layout) -> usize
 
 /// The word in this place of those that are packed, which are the number of the data and then the
 /// data. Past the last one it is zero.
-fn word_at(data: &[u64], place: usize) -> u64
-    ensures { result ≡ slice_index (counted «data».now) place }
+fn word_at<W: Word>(source: &Source<'_, W>, place: usize) -> u64
+    requires { length (words_in W.word source.now) < 2 ^ 61 }
+    ensures { result ≡ slice_index (counted (words_in W.word source.now)) place }
 {
     if place == 0 {
-        return data.len() as u64;
+        return count_of(source) as u64;
     }
-    if place > data.len() {
-        return 0;
-    }
-    data[place - 1]
+    word_in(source, place - 1)
 }
 
 /// The element of 63 bits whose first ones are the `taken` highest bits of a word, and the others
@@ -109,96 +121,108 @@ fn piece(before: u64, word: u64, taken: u32) -> F
 }
 
 /// The element in this place of those that the data pack to. Past the last one it is zero.
-fn packed_at(data: &[u64], place: usize) -> F
-    ensures { same result (packed_at «data».now place) }
+fn packed_at<W: Word>(source: &Source<'_, W>, place: usize) -> F
+    requires { length (words_in W.word source.now) < 2 ^ 61 }
+    ensures { same result (packed_at (words_in W.word source.now) place) }
 {
     let next = place - place / 64;
-    let before = word_at(data, next.saturating_sub(1));
-    let word = word_at(data, next);
+    let before = word_at(source, next.saturating_sub(1));
+    let word = word_at(source, next);
     piece(before, word, (place % 64) as u32)
 }
 
 /// Writes over the cells the elements whose first bits are the highest ones of a word, and the
 /// others the lowest of the next word: of the first element the `taken` highest bits, and of each
 /// further one a bit more.
-fn write_pieces(words: &[u64], taken: u32, cells: &mut [F])
+fn write_pieces<W: Word>(words: &[W], taken: u32, cells: &mut [F])
     requires words { length words.now ≡ length cells.old + 1 }
     requires taken { taken + length cells.old ≤ 64 }
-    ensures { ArePieces words.now taken cells.new }
+    ensures { ArePieces (map W.word words.now) taken cells.new }
 {
     let next = &words[1..];
     let before = &words[..next.len()];
     let cells = &mut cells[..next.len()];
     for k in 0..next.len() {
-        cells[k] = piece(before[k], next[k], taken + k as u32);
+        cells[k] = piece(before[k].word(), next[k].word(), taken + k as u32);
     }
 }
 
 /// Writes over the cells the elements that the data pack to, from place `first` on, where these
 /// are in one run of 64.
-fn write_run(data: &[u64], first: usize, cells: &mut [F])
+fn write_run<W: Word>(source: &Source<'_, W>, first: usize, cells: &mut [F])
+    requires few { length (words_in W.word source.now) < 2 ^ 61 }
     requires fits { first + length cells.old < 2 ^ 64 }
     requires run { first % 64 + length cells.old ≤ 64 }
-    ensures { ArePacked «data».now first cells.new }
+    ensures { ArePacked (words_in W.word source.now) first cells.new }
 {
     let next = first - first / 64;
-    let last = next + cells.len();
-    if next >= 2 && last - 1 <= data.len() {
-        write_pieces(&data[next - 2..last - 1], (first % 64) as u32, cells);
+    let before = before_slice(source) + 2;
+    if next >= before && next - before + cells.len() < source.words.len() {
+        let from = next - before;
+        let words = &source.words[from..from + cells.len() + 1];
+        write_pieces(words, (first % 64) as u32, cells);
     } else {
         for k in 0..cells.len() {
-            cells[k] = packed_at(data, first + k);
+            cells[k] = packed_at(source, first + k);
         }
     }
 }
 
 /// Writes over the cells the elements that the data pack to, from place `first` on.
-fn write_packed(data: &[u64], first: usize, cells: &mut [F])
-    requires { first + length cells.old < 2 ^ 64 }
-    ensures { ArePacked «data».now first cells.new }
+fn write_packed<W: Word>(source: &Source<'_, W>, first: usize, cells: &mut [F])
+    requires few { length (words_in W.word source.now) < 2 ^ 61 }
+    requires fits { first + length cells.old < 2 ^ 64 }
+    ensures { ArePacked (words_in W.word source.now) first cells.new }
 {
     let mut done = 0;
     while done < cells.len() {
         let at = first + done;
         let count = (64 - at % 64).min(cells.len() - done);
-        write_run(data, at, &mut cells[done..done + count]);
+        write_run(source, at, &mut cells[done..done + count]);
         done += count;
     }
 }
 
 /// Writes over the cells the strip of `cols` columns from column `from` on, with a row for each
 /// point: the rows that the data fill, and then rows of zeros.
-fn write_strip(data: &[u64], layout: Layout, from: usize, cols: usize, cells: &mut [F])
-    requires layout { IsLayoutOf «data».now layout }
+fn write_strip<W: Word>(
+    source: &Source<'_, W>,
+    layout: Layout,
+    from: usize,
+    cols: usize,
+    cells: &mut [F],
+)
+    requires layout { IsLayoutOf (words_in W.word source.now) layout }
     requires within { from + cols ≤ layout.width }
     requires size { length cells.old ≡ 2 ^ layout.lg * cols }
-    ensures { IsStripOf «data».now layout.min (2 ^ layout.lg) from cols cells.new }
+    ensures { IsStripOf (words_in W.word source.now) layout.min (2 ^ layout.lg) from cols cells.new }
 {
     for row in 0..layout.min {
         let at = row * cols;
-        write_packed(data, row * layout.width + from, &mut cells[at..at + cols]);
+        write_packed(source, row * layout.width + from, &mut cells[at..at + cols]);
     }
     cells[layout.min * cols..].fill(F::from(0));
 }
 
 /// Writes over the cells the values of `cols` columns from column `from` on, at all points: in row
 /// i those at power i of the root. The table is that of `evaluation_table`. Takes no memory.
-pub(super) fn write_values(
+pub(super) fn write_values<W: Word>(
     alloc: Global,
-    data: &[u64],
+    source: &Source<'_, W>,
     layout: Layout,
     from: usize,
     cols: usize,
     table: &[F],
     cells: &mut [F],
 )
-    requires layout { IsLayoutOf «data».now layout }
+    requires layout { IsLayoutOf (words_in W.word source.now) layout }
     requires within { from + cols ≤ layout.width }
     requires size { length cells.old ≡ 2 ^ layout.lg * cols }
     requires table { IsTableOf layout.lg table.now }
-    ensures { HasStripValues «data».now layout.min layout.lg from cols cells.new }
+    ensures { HasStripValues (words_in W.word source.now) layout.min layout.lg
+        from cols cells.new }
 {
-    write_strip(data, layout, from, cols, cells);
+    write_strip(source, layout, from, cols, cells);
     let Ok(()) = evaluate_rows(alloc, cells, cols, layout.lg, table, &mut Work::new()) else {
         unreachable!()
     };

@@ -8,34 +8,15 @@
 //! word.
 
 ghost use Rattle.std.specs.Prelude.{◌≡◌, ◌↔◌, ◌+◌, ◌*◌, ◌%◌, ◌<◌};
-ghost use Rattle.std.specs.Prelude.{◌≤◌, ◌^◌, ◌++◌, ℕ, List, All, length};
-ghost use Rattle.std.specs.Prelude.{IsSome, IsTrue, IfOk, IfSome, slice_index, slice_index_or};
+ghost use Rattle.std.specs.Prelude.{◌≤◌, ◌^◌, ℕ, List, All, length};
+ghost use Rattle.std.specs.Prelude.{IsTrue, IfSome, IfNone, slice_index, slice_index_or};
 ghost use Rattle.std.specs.Int.{div_ceil};
 ghost use Rattle.math_base.specs.Elements.{number, residue, same};
 ghost use Rattle.math_base.specs.Packing.{words_of};
 ghost use Rattle.math_shards.specs.Fitting.{AreDataOf};
-ghost use Rattle.math_shards.specs.Shards.{counted};
 ghost use Rattle.math_shards.specs.Unpacking.{AreBetween, AreRepacked, AreUnpacked, word_between};
 
 use math_base::fields::goldilocks::F;
-
-/// The data that words begin with, where so many words follow as the first one says.
-pub(super) fn leading_data(words: Vec<u64>) -> Option<Vec<u64>>
-    ensures each_word { IfSome result (λ found. All (λ word. word < 2 ^ 64) found.items) }
-    ensures data { (front rest : List ℕ) → words.items ≡ counted front ++ rest
-        → IsSome result × IfSome result (λ found. found.items ≡ front) }
-{
-    let mut found = words;
-    if found.is_empty() {
-        return None;
-    }
-    let count = found.remove(0);
-    if count > found.len() as u64 {
-        return None;
-    }
-    found.truncate(count as usize);
-    Some(found)
-}
 
 /// Whether all elements are zero.
 fn are_zero(elements: &[F]) -> bool
@@ -87,7 +68,7 @@ fn word_of(first: F, next: F, taken: u32) -> u64
 
 /// Whether the number of each element is below the bound.
 fn are_below(elements: &[F], bound: u64) -> bool
-    ensures { IsTrue result → All (λ element. number element < bound) elements.now }
+    ensures { IsTrue result ↔ All (λ element. number element < bound) elements.now }
 {
     elements.iter().all(|element| u64::from_le_bytes(element.to_le_bytes()) < bound)
 }
@@ -99,7 +80,7 @@ fn are_repacked(elements: &[F], count: usize, filled: usize) -> bool
     requires few { count < 2 ^ 60 }
     requires filled { filled ≡ count + 1 + div_ceil (count + 1) 63 }
     requires within { filled ≤ length elements.now }
-    ensures { IsTrue result → AreRepacked elements.now count filled }
+    ensures { IsTrue result ↔ AreRepacked elements.now count filled }
 {
     let last = filled - 1;
     let left = (count % 63) as u32 + 1;
@@ -111,8 +92,9 @@ fn are_repacked(elements: &[F], count: usize, filled: usize) -> bool
 pub(super) fn data_count(elements: &[F], min: u32, width: usize) -> Option<usize>
     requires some { 1 ≤ min }
     requires size { length elements.now ≡ min * width }
-    ensures { IfSome result (λ n. (words : List ℕ) × (length words ≡ n)
+    ensures some { IfSome result (λ n. (words : List ℕ) × (length words ≡ n)
         × AreDataOf words min elements.now) }
+    ensures none { IfNone result ((words : List ℕ) → ¬ (AreDataOf words min elements.now)) }
 {
     let count = word_at(elements, 0);
     if count >= elements.len() as u64 {

@@ -10,7 +10,7 @@
 //! coefficient then takes k products and one reduction, and the coefficients of a column are
 //! written over its cells.
 
-ghost use Rattle.std.specs.Prelude.{◌≡◌, ◌+◌, ◌*◌, ◌<◌, ◌≤◌, ◌^◌, ◌==◌, ℕ, All, length, map};
+ghost use Rattle.std.specs.Prelude.{◌≡◌, ◌+◌, ◌*◌, ◌<◌, ◌≤◌, ◌^◌, ◌==◌, ℕ, All, Contains, length, map};
 ghost use Rattle.std.specs.Prelude.{IfOk, OnOk, slice_index_or};
 ghost use Rattle.std.specs.Int.{IsNextPowerOfTwo};
 ghost use Rattle.math_theory.specs.Recovery.{count_true};
@@ -28,9 +28,9 @@ use super::joining::no_rows;
 use super::rows::Row;
 use math_base::algebra::Mem;
 use math_base::fields::goldilocks::F;
+use math_base::weights::one_at;
 use math_ntt::ntt::{EvaluationVector, Matrix};
 use math_transforms::vanishing_points::VanishingPoints;
-use math_transforms::weights::one_at;
 use math_values::sums::sum_of_products;
 use std::alloc::{AllocError, Global};
 
@@ -49,7 +49,9 @@ pub(super) fn chosen<R: Row>(
     requires count { All (λ row. length (R.cells row) ≡ width) rows.now }
     ensures few { IfOk result (λ answer. length answer.0.items ≤ min) }
     ensures rows { IfOk result
-        (λ answer. AreChosen R.index R.cells width rows.now answer.0.items answer.1.items) }
+        (λ answer. AreChosen R.index R.cells rows.now answer.0.items answer.1.items) }
+    ensures all { IfOk result (λ answer. length answer.0.items < min
+        → All (λ row. Contains answer.0.items (R.index row)) rows.now) }
 {
     let Some(count) = min.checked_mul(width) else {
         return Err(AllocError);

@@ -7,10 +7,25 @@ ghost use Rattle.math_transforms.specs.DomainValues.{one_column, HasDomain, AreV
 
 use crate::columns::EvaluationColumn;
 use crate::row_products::{multiply_row, multiply_rows};
-use crate::transform::coset::geometric;
 use crate::transform::size_of;
-use math_base::algebra::{Additive, FieldNTT, Mem, Ring};
+use math_base::algebra::{Additive, FieldNTT, Mem, Multiplicative, Object, Ring};
 use std::alloc::Global;
+
+/// n factors: factor i is `start` times power i of the ratio.
+fn geometric<F: Ring>(alloc: Global, start: F, ratio: &F, n: usize) -> Mem<Vec<F>>
+    ensures count { IfOk result (λ v. length v.items ≡ n) }
+    ensures factors { IfOk result (λ v. (i : ℕ) → i < n → F.same (slice_index_or v.items i F.zero)
+        (F.product start (power F.one F.product ratio.now i))) }
+{
+    let mut out = Vec::with_capacity(alloc, n)?;
+    let mut factor = start;
+    for _done in 0..n {
+        let next = factor.clone(alloc)?;
+        out.push(next)?;
+        factor.mul_assign(alloc, ratio)?;
+    }
+    Ok(out)
+}
 
 /// The 2^lg points of the domain: the powers of the root of order 2^lg, from the power 0 on.
 ///

@@ -1,65 +1,22 @@
 //! Values on a domain of 2^lg points, moved to the coset of the domain by the shift.
 //!
-//! The way back gives 2^lg times the coefficients, in bit-reversed order, and the way forth takes
-//! them in that order. Between the two, coefficient i is multiplied by power i of the shift and by
-//! 1 / 2^lg at once: so no row changes its place, and no further pass over the cells divides them.
+//! The way back from the tree of the domain gives 2^lg times the coefficients, and the tree of the
+//! coset leads from these to the values on it. The rows of values are in bit-reversed order in both,
+//! so that no row changes its place.
 
-ghost use Rattle.std.specs.Prelude.{
-  ◌≡◌,
-  ◌+◌,
-  ◌*◌,
-  ◌<◌,
-  ◌≤◌,
-  ◌^◌,
-  ℕ,
-  IfOk,
-  OnOk,
-  length,
-  slice_index_or,
-};
-ghost use Rattle.math_theory.specs.Powers.{power};
-ghost use Rattle.math_transforms.specs.CosetValues.{AreCosetFactors, AreMovedValues};
+ghost use Rattle.std.specs.Prelude.{◌≡◌, ◌+◌, ◌*◌, ◌<◌, ◌≤◌, ◌^◌, OnOk, length};
+ghost use Rattle.math_transforms.specs.CosetValues.{AreMovedValues};
 ghost use Rattle.math_transforms.specs.CountedWork.{AddsAtMost};
-ghost use Rattle.math_transforms.specs.DomainValues.{ArePowersByLevel};
+ghost use Rattle.math_transforms.specs.RootTrees.{IsTreeOf};
 
-use super::order::reverse_rows;
-use super::{size_inverse, size_of, transform_halves, untransform_halves};
-use crate::row_products::multiply_rows;
+use crate::below::{evaluate_below, interpolate_below};
 use crate::work::Work;
-use math_base::algebra::{FieldNTT, Mem, Object, Ring};
+use math_base::algebra::{FieldNTT, Mem};
 use std::alloc::Global;
 
-/// n factors: factor i is `start` times power i of the ratio.
-pub fn geometric<F: Ring>(alloc: Global, start: F, ratio: &F, n: usize) -> Mem<Vec<F>>
-    ensures count { IfOk result (λ v. length v.items ≡ n) }
-    ensures factors { IfOk result (λ v. (i : ℕ) → i < n → F.same (slice_index_or v.items i F.zero)
-        (F.product start (power F.one F.product ratio.now i))) }
-{
-    let mut out = Vec::with_capacity(alloc, n)?;
-    let mut factor = start;
-    for _done in 0..n {
-        let next = factor.clone(alloc)?;
-        out.push(next)?;
-        factor.mul_assign(alloc, ratio)?;
-    }
-    Ok(out)
-}
-
-/// The factors for `move_rows` at 2^lg rows: those of coefficient i are power i of the shift and
-/// 1 / 2^lg. They are in bit-reversed order.
-pub fn coset_factors<F: FieldNTT>(alloc: Global, lg: u8) -> Mem<Vec<F>>
-    requires { lg < 64 }
-    ensures { IfOk result (λ v. AreCosetFactors F.Ring F.shift lg v.items) }
-{
-    let start = size_inverse::<F>(alloc, lg)?;
-    let shift = F::coset_shift(alloc)?;
-    let mut out = geometric(alloc, start, &shift, size_of(lg))?;
-    reverse_rows(&mut out, 1, lg);
-    Ok(out)
-}
-
-/// Turns 2^lg rows of values at the powers of the root of order 2^lg into rows of the values that
-/// the same polynomials have at the shift times these powers. Both are in natural order.
+/// Turns 2^lg rows of values at the powers of the root of order 2^lg into rows of 2^lg times the
+/// values that the same polynomials have at the shift times these powers. Both are in bit-reversed
+/// order.
 ///
 /// Adds cols 2^lg lg butterflies. Where it is refused, the cells have some values.
 pub fn move_rows<F: FieldNTT>(
@@ -67,28 +24,26 @@ pub fn move_rows<F: FieldNTT>(
     cells: &mut [F],
     cols: usize,
     lg: u8,
-    factors: &[F],
-    evaluation: &[F],
     interpolation: &[F],
+    coset: &[F],
     work: &mut Work,
 ) -> Mem<()>
     requires domain { lg ≤ F.MAX_LG_ROOT_ORDER }
     requires small { lg < 64 }
+    requires some { 0 < lg }
     requires size { length cells.old ≡ 2 ^ lg * cols }
-    requires factors { AreCosetFactors F.Ring F.shift lg factors.now }
-    requires evaluation { ArePowersByLevel F.Ring F.root lg evaluation.now }
-    requires interpolation { ArePowersByLevel F.Ring
-        (λ l. F.inverse (F.root l)) lg interpolation.now }
+    requires interpolation { IsTreeOf F.Ring
+        (λ l. F.inverse (F.root l)) F.one lg interpolation.now }
+    requires coset { IsTreeOf F.Ring F.root F.shift lg coset.now }
     requires room { 2 * work.old.butterflies + (cols + cols) * 2 ^ lg * lg < 2 ^ 129 }
     ensures size { length cells.new ≡ length cells.old }
     ensures moved { OnOk result
-        (AreMovedValues F.Ring (F.root lg) F.shift (2 ^ lg) cols cells.old cells.new) }
+        (AreMovedValues F.Ring (F.root lg) F.shift lg cols cells.old cells.new) }
     ensures counted { OnOk result (2 * work.new.butterflies
         ≡ 2 * work.old.butterflies + (cols + cols) * 2 ^ lg * lg) }
     ensures bounded { AddsAtMost ((cols + cols) * 2 ^ lg * lg) work.old work.new }
 {
-    untransform_halves(alloc, cells, cols, lg, interpolation, work)?;
-    multiply_rows(alloc, cells, cols, factors)?;
-    transform_halves(alloc, cells, cols, lg, evaluation, work)?;
+    interpolate_below(alloc, cells, cols, lg, 1, true, interpolation, work)?;
+    evaluate_below(alloc, cells, cols, lg, 1, false, coset, work)?;
     Ok(())
 }

@@ -124,7 +124,7 @@ fn reverse_by_sixteens<F: Additive>(cells: &mut [F], cols: usize, lg: u8)
 }
 
 /// Puts 2^lg rows in bit-reversed order.
-pub(super) fn reverse_rows<F: Additive>(cells: &mut [F], cols: usize, lg: u8)
+pub fn reverse_rows<F: Additive>(cells: &mut [F], cols: usize, lg: u8)
     requires small { lg < 64 }
     requires size { length cells.old ≡ 2 ^ lg * cols }
     ensures { AreRowsReversed F.zero lg (matrix_of (2 ^ lg) cols cells.old)

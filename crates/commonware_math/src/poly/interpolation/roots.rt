@@ -15,8 +15,8 @@ use std::alloc::Global;
 use std::num::NonZeroU32;
 
 impl<I: Ord + Drop, F: FieldNTT> Interpolator<I, F> {
-    /// The interpolator for the value at zero, from the pairs of a key and the index of its point.
-    /// It is that of `roots_of_unity_at`.
+    /// Makes the interpolator for the value at zero over roots of unity. It is that of
+    /// `roots_of_unity_at`.
     pub fn roots_of_unity(alloc: Global, total: NonZeroU32, points: BiMap<I, u32>) -> Mem<Self>
         requires { HasDomainOf F.MAX_LG_ROOT_ORDER total.value }
         ensures keys { IfOk result (λ m. keys_of m ≡ keys_of (pairs_below total.value points)) }
@@ -29,12 +29,13 @@ impl<I: Ord + Drop, F: FieldNTT> Interpolator<I, F> {
         Ok(out)
     }
 
-    /// The interpolator for the value at x, from the pairs of a key and the index of its point:
-    /// point i is power i of the root of order N, which is `total` rounded up to a power of two.
-    /// Keys whose index is `total` or more are dropped; the points of the others differ, so their
-    /// weights are the only ones for the value at x. It takes time in O(N log N).
+    /// Makes the interpolator for the value at x over roots of unity. Each pair is a key and the
+    /// index of its point.
     ///
-    /// lg N is at most `F::MAX_LG_ROOT_ORDER`.
+    /// Point i is power i of the root of order N, which is `total` rounded up to a power of two; lg
+    /// N is at most `F::MAX_LG_ROOT_ORDER`. Keys whose index is `total` or more are dropped. The
+    /// points of the others differ, so their weights are the only ones for the value at x. It takes
+    /// time in O(N log N).
     pub fn roots_of_unity_at(
         alloc: Global,
         total: NonZeroU32,

@@ -57,8 +57,8 @@ impl WaitingBits {
     }
 }
 
-/// The elements that the words of an iterator pack to, in order, as `F::stream_from_u64s` makes it.
-/// After the last element each call answers `None`.
+/// The elements that `F::stream_from_u64s` packs words to, in order. After the last element each
+/// call answers `None`.
 #[derive(Drop)]
 pub struct WordsToElements<I> {
     waiting: WaitingBits,
@@ -97,8 +97,8 @@ impl<I: Iterator<Item = u64> + Drop> Iterator for WordsToElements<I> {
     }
 }
 
-/// The words that the elements of an iterator unpack to, in order, as `F::stream_to_u64s` makes it.
-/// After the last word each call answers `None`.
+/// The words that `F::stream_to_u64s` unpacks elements to, in order. After the last word each call
+/// answers `None`.
 #[derive(Drop)]
 pub struct ElementsToWords<I> {
     waiting: WaitingBits,
@@ -178,12 +178,12 @@ impl F {
         self.value & 0x7fff_ffff_ffff_ffff
     }
 
-    /// Packs words into elements.
+    /// Packs words into elements, without memory.
     ///
-    /// The bits of the words, in order and the lowest of each first, are cut into pieces of 63, the
-    /// last filled with zeros, and each piece is the number of an element. n words give 64 n / 63
-    /// elements, rounded up. After its first `None`, `inner` is not asked again. No memory is
-    /// taken.
+    /// It writes the bits of the words in a row, in order and the lowest of each first, and cuts
+    /// the row into pieces of 63, the last filled with zeros. Each piece is the number of an
+    /// element. So n words give 64 n / 63 elements, rounded up. After its first `None` it does not
+    /// ask `inner` again.
     pub fn stream_from_u64s<I: Iterator<Item = u64> + Drop>(inner: I) -> WordsToElements<I>
         ensures all { GivesAll (words_to_elements_steps I.next_gives) result
             I.next_gives inner elements_of }
@@ -201,13 +201,13 @@ impl F {
         }
     }
 
-    /// Unpacks elements to words.
+    /// Unpacks elements to words, without memory.
     ///
-    /// The 63 lowest bits of each element, in order and the lowest first, are cut into pieces of
-    /// 64, the last filled with zeros, and each piece is a word. Bit 63 of an element is ignored. n
-    /// elements give 63 n / 64 words, rounded up. Packed words come back, and one zero word after
-    /// them where 63 does not divide their number. After its first `None`, `inner` is not asked
-    /// again. No memory is taken.
+    /// It writes the 63 lowest bits of each element in a row, in order and the lowest first, and
+    /// cuts the row into pieces of 64, the last filled with zeros. Each piece is a word. It ignores
+    /// bit 63 of an element. So n elements give 63 n / 64 words, rounded up. Packed words come
+    /// back, with one zero word after them if 63 does not divide their number. After its first
+    /// `None` it does not ask `inner` again.
     pub fn stream_to_u64s<I: Iterator<Item = F> + Drop>(inner: I) -> ElementsToWords<I>
         ensures all { GivesAll (elements_to_words_steps I.next_gives) result
             I.next_gives inner words_of }

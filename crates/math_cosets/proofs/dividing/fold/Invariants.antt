@@ -1,10 +1,9 @@
 use Rattle.std.proofs.Common.{◌-◌, ◌*◌, ◌≤◌, ◌<◌, ◌^◌, ℕ}
 use Rattle.math_base.specs.declared.fields.goldilocks.F.{F}
-use Rattle.math_base.specs.Elements.{residue, same}
+use Rattle.math_base.specs.Elements.{residue, same, goldilocks}
 use Rattle.math_base.specs.Polynomials.{value_in_ring}
 use Rattle.math_transforms.specs.DomainValues.{matrix_of}
 use Rattle.math_transforms.specs.Matrices.{column_of}
-use Rattle.math_values.specs.Values.{goldilocks}
 use Rattle.math_cosets.specs.CosetDivisions.{raised}
 use Rattle.math_cosets.specs.RootTrees.{column_value}
 use Rattle.math_cosets.proofs.dividing.fold.Given as goal

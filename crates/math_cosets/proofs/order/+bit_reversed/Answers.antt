@@ -2,7 +2,7 @@ use Rattle.std.proofs.Common.{◌≡◌, ◌+◌, ◌*◌, ◌%◌, arith}
 use Rattle.math_transforms.proofs.PowersOfTwo.{power_of_two-word}
 use Rattle.math_theory.specs.BitReversal.{bit_reversed}
 use Rattle.math_theory.proofs.transforms.BitOrder.{bit_reversed-below}
-use Rattle.math_cosets.proofs.ReversedBits.{reversed-none, reversed-more}
+use Rattle.math_transforms.proofs.ReversedBits.{reversed-none, reversed-more}
 use Rattle.math_cosets.proofs.order.+bit_reversed.Goals as goal
 
 pub returns-then-lg-eq0 : goal.returns-then-lg-eq0

@@ -1,8 +1,33 @@
-use Rattle.std.proofs.Common.{◌∙◌, ◌≡◌, ◌*◌, ◌^◌, length}
+use Rattle.std.proofs.Common.{arith}
 use Rattle.math_theory.proofs.domains.MergedPieces.{root-inverse}
-use Rattle.math_transforms.proofs.Members.{ring_members}
-use Rattle.math_transforms.proofs.DomainTransforms.{values-back_multiplied}
+use Rattle.math_base.proofs.Members.{ring_members}
+use Rattle.math_transforms.proofs.RootInverses.{inverse-tree_squares}
+use Rattle.math_transforms.proofs.TreeEntries.{root-tree, tree-ones}
+use Rattle.math_transforms.proofs.TreeValues.{multiples-natural, multiples-none}
 use Rattle.math_transforms.proofs.transform.interpolate_multiples.Goals as goal
+
+pub interpolate_below-requires-clause-tree : goal.interpolate_below-requires-clause-tree
+interpolate_below-requires-clause-tree g c =
+    let R = ring_members g.F.Multiplicative.product g.F.Debug.debug_output g.F.Object.same g.F.Object.NEVER_REFUSES g.F.Additive.zero g.F.Additive.sum g.F.Additive.negative g.F.Ring.one in
+    let F = g.met.F in
+    root-tree R F.Object.equality F.Additive.group F.Multiplicative.commutes F.Ring.ring (λ l. g.F.Field.inverse (g.F.FieldNTT.root l)) g.F.Ring.one c.args.lg c.args.table.now
+    (inverse-tree_squares F.Object.equality F.Additive.group F.Multiplicative.commutes F.Ring.ring F.Field.field F.FieldNTT.roots c.args.lg c.requires.domain) c.requires.table
+
+pub interpolate_below-requires-clause-one : goal.interpolate_below-requires-clause-one
+interpolate_below-requires-clause-one g c =
+    let R = ring_members g.F.Multiplicative.product g.F.Debug.debug_output g.F.Object.same g.F.Object.NEVER_REFUSES g.F.Additive.zero g.F.Additive.sum g.F.Additive.negative g.F.Ring.one in
+    let F = g.met.F in
+    λ one. tree-ones R F.Object.equality F.Additive.group F.Multiplicative.commutes F.Ring.ring (λ l. g.F.Field.inverse (g.F.FieldNTT.root l)) c.args.lg c.args.table.now c.requires.table
+
+pub interpolate_below-requires-clause-within : goal.interpolate_below-requires-clause-within
+interpolate_below-requires-clause-within g c = omega (arith, c.requires.table.count)
+
+pub returns-then-lg-eq0-clause-values : goal.returns-then-lg-eq0-clause-values
+returns-then-lg-eq0-clause-values g c =
+    let R = ring_members g.F.Multiplicative.product g.F.Debug.debug_output g.F.Object.same g.F.Object.NEVER_REFUSES g.F.Additive.zero g.F.Additive.sum g.F.Additive.negative g.F.Ring.one in
+    let F = g.met.F in
+    multiples-none R F.Object.equality F.Additive.group F.Multiplicative.commutes F.Ring.ring F.Field.field g.F.FieldNTT.root c.args.lg c.args.cols
+    (F.FieldNTT.roots.order c.args.lg c.requires.domain) c.args.cells.now c.if-lg-eq0.true
 
 pub returns-clause-values : goal.returns-clause-values
 returns-clause-values g c =
@@ -10,7 +35,6 @@ returns-clause-values g c =
     let F = g.met.F in
     let order = F.FieldNTT.roots.order c.args.lg c.requires.domain in
     let unit = root-inverse F.Object.equality F.Additive.group F.Multiplicative.commutes F.Ring.ring F.Field.field _ _ order in
-    let mid : length c.untransform_halves.new.cells ≡ 2 ^ c.args.lg * c.args.cols = c.untransform_halves.auto.cells ∙ c.requires.size in
-    values-back_multiplied R F.Object.equality F.Additive.group F.Multiplicative.commutes F.Ring.ring g.F.Field.inverse F.Field.field c.args.lg c.args.cols (g.F.FieldNTT.root c.args.lg)
-    order (g.F.Field.inverse (g.F.FieldNTT.root c.args.lg)) c.args.cells.now c.untransform_halves.new.cells c.reverse_rows.new.cells unit
-    c.requires.size mid (c.reverse_rows.auto.cells ∙ mid) c.in_ok-untransform_halves.ensures.values c.reverse_rows.ensures
+    multiples-natural R F.Object.equality F.Additive.group F.Multiplicative.commutes F.Ring.ring F.Field.field g.F.FieldNTT.root c.args.lg c.args.cols order
+    (λ l. g.F.Field.inverse (g.F.FieldNTT.root l)) c.args.table.now c.args.cells.now c.reverse_rows.new.cells c.interpolate_below.new.cells (omega arith) unit c.requires.table
+    c.reverse_rows.ensures c.in_ok-interpolate_below.ensures.values

@@ -2,8 +2,9 @@ use Rattle.std.proofs.Common.{rules, ◌≡◌, ◌≢◌, ◌∙◌, ◌++◌, 
 use Rattle.math_theory.proofs.polynomials.BuiltPolynomials.{value-zeros_after}
 use Rattle.math_theory.proofs.recovery.RecoveredColumns.{domain_product}
 use Rattle.math_base.proofs.WholeWrites.{take-written}
-use Rattle.math_transforms.proofs.Levels.{powers-below, adds-part}
-use Rattle.math_transforms.proofs.Members.{ring_members}
+use Rattle.math_transforms.proofs.Levels.{adds-part}
+use Rattle.math_base.proofs.Members.{ring_members}
+use Rattle.math_transforms.proofs.TreeEntries.{tree-below}
 use Rattle.math_transforms.proofs.TreeCounts.{fewer-transforms}
 use Rattle.math_transforms.proofs.vanishing.+multiplied.Goals as goal
 
@@ -24,10 +25,10 @@ multiplied-requires g t c κs within =
             (
               omega arith,
               (
-                powers-below ring g.F.FieldNTT.root lg c.size_of-half.result c.args.evaluation.now positive c.size_of-half.ensures c.requires.evaluation c.split_at.result.0.now
+                tree-below ring g.met.F.Object.equality g.met.F.Additive.group g.met.F.Multiplicative.commutes g.met.F.Ring.ring g.F.FieldNTT.root lg c.size_of-half.result c.args.evaluation.now positive c.size_of-half.ensures c.requires.evaluation c.split_at.result.0.now
                     c.split_at.ensures.front,
                 (
-                  powers-below ring inverse_root lg c.size_of-half.result c.args.interpolation.now positive c.size_of-half.ensures c.requires.interpolation
+                  tree-below ring g.met.F.Object.equality g.met.F.Additive.group g.met.F.Multiplicative.commutes g.met.F.Ring.ring inverse_root lg c.size_of-half.result c.args.interpolation.now positive c.size_of-half.ensures c.requires.interpolation
                       c.split_at-then-len-size_of.result.0.now c.split_at-then-len-size_of.ensures.front,
                   omega (arith, fewer),
                 ),

@@ -3,11 +3,11 @@ use Rattle.math_theory.specs.Domains.{HasExactOrder}
 use Rattle.math_theory.specs.Recovery.{count_true}
 use Rattle.math_theory.proofs.domains.BuiltVanishing.{VanishesAt-halves}
 use Rattle.math_theory.proofs.domains.MergedPieces.{root-inverse}
-use Rattle.math_transforms.proofs.Members.{ring_members}
+use Rattle.math_base.proofs.Members.{ring_members}
 use Rattle.math_transforms.specs.MissingPoints.{every}
-use Rattle.math_transforms.proofs.Levels.{powers-below}
 use Rattle.math_transforms.proofs.MissingPlaces.{length-every, even_items-every, odd_items-every, count_true-halves}
 use Rattle.math_transforms.proofs.PowersOfTwo.{power_of_two-double}
+use Rattle.math_transforms.proofs.TreeEntries.{tree-below}
 use Rattle.math_transforms.proofs.TreeCounts.{within-part, within-then, within-transforms, merges, points-of_halves, half-covers, stride-within}
 use Rattle.math_transforms.proofs.vanishing.+tree.Goals as goal
 
@@ -38,10 +38,10 @@ tree-requires g t c κs within =
                     (
                       omega arith,
                       (
-                        powers-below ring g.F.FieldNTT.root lg c.size_of-half.result c.args.evaluation.now positive c.size_of-half.ensures c.requires.evaluation c.split_at.result.0.now
+                        tree-below ring g.met.F.Object.equality g.met.F.Additive.group g.met.F.Multiplicative.commutes g.met.F.Ring.ring g.F.FieldNTT.root lg c.size_of-half.result c.args.evaluation.now positive c.size_of-half.ensures c.requires.evaluation c.split_at.result.0.now
                             c.split_at.ensures.front,
                         (
-                          powers-below ring inverse_root lg c.size_of-half.result c.args.interpolation.now positive c.size_of-half.ensures c.requires.interpolation
+                          tree-below ring g.met.F.Object.equality g.met.F.Additive.group g.met.F.Multiplicative.commutes g.met.F.Ring.ring inverse_root lg c.size_of-half.result c.args.interpolation.now positive c.size_of-half.ensures c.requires.interpolation
                               c.split_at-2.result.0.now c.split_at-2.ensures.front,
                           (omega (arith, count, points), omega (arith, points)),
                         ),
@@ -84,10 +84,10 @@ tree-requires-2 g t c κs within =
                     (
                       omega arith,
                       (
-                        powers-below ring g.F.FieldNTT.root lg c.size_of-half.result c.args.evaluation.now positive c.size_of-half.ensures c.requires.evaluation c.split_at.result.0.now
+                        tree-below ring g.met.F.Object.equality g.met.F.Additive.group g.met.F.Multiplicative.commutes g.met.F.Ring.ring g.F.FieldNTT.root lg c.size_of-half.result c.args.evaluation.now positive c.size_of-half.ensures c.requires.evaluation c.split_at.result.0.now
                             c.split_at.ensures.front,
                         (
-                          powers-below ring inverse_root lg c.size_of-half.result c.args.interpolation.now positive c.size_of-half.ensures c.requires.interpolation
+                          tree-below ring g.met.F.Object.equality g.met.F.Additive.group g.met.F.Multiplicative.commutes g.met.F.Ring.ring inverse_root lg c.size_of-half.result c.args.interpolation.now positive c.size_of-half.ensures c.requires.interpolation
                               c.split_at-2.result.0.now c.split_at-2.ensures.front,
                           (omega (arith, count, points, left.no_more), omega (arith, points, left.no_more_products)),
                         ),

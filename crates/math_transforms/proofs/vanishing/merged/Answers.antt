@@ -1,11 +1,7 @@
-use Rattle.std.proofs.Common.{◌≡◌, ◌≢◌, ◌∙◌, ◌++◌, ℕ, suc, ◌-◌, ◌^◌, length, take, drop, ap, vec_len, arith}
+use Rattle.std.proofs.Common.{◌≡◌, ◌∙◌, suc, ◌-◌, ◌^◌, vec_len, arith}
 use Rattle.math_theory.specs.Domains.{HasExactOrder}
 use Rattle.math_theory.proofs.polynomials.BuiltPolynomials.{value-zeros_after}
 use Rattle.math_theory.proofs.domains.MergedPieces.{minus_one_nonzero, with_multiple-same, plus_case, minus_case, all_case, times_one-right, times_one-left, times_one-both, power-double-same, moved-power}
-use Rattle.math_base.proofs.WholeWrites.{take-written}
-use Rattle.math_transforms.proofs.Members.{ring_members}
-use Rattle.math_transforms.proofs.DomainSteps.{value-moved}
-use Rattle.math_transforms.proofs.Levels.{powers-level, length-level}
 use Rattle.math_transforms.proofs.PowersOfTwo.{power_of_two-double}
 use Rattle.math_transforms.proofs.vanishing.merged.Goals as goal
 
@@ -117,28 +113,13 @@ returns-in-Nowhere-left-3-clause-merged g c =
     let P = F.Multiplicative.commutes in
     let R = F.Ring.ring in
     let f = F.Field.field in
-    let ring = ring_members g.F.Multiplicative.product g.F.Debug.debug_output g.F.Object.same g.F.Object.NEVER_REFUSES g.F.Additive.zero g.F.Additive.sum g.F.Additive.negative g.F.Ring.one in
     let lg = c.args.lg in
-    let half = c.size_of-half.result in
-    let table = c.args.interpolation.now in
-    let inverse_root : ℕ → _ = λ l. g.F.Field.inverse (g.F.FieldNTT.root l) in
-    let q = c.in-Somewhere.q in
-    let new = c.multiply_rows.new.cells in
-    let back = c.split_at.result.1.now in
-    let right_few = rw c.in-Somewhere.is at c.requires.right in
-    let positive : lg ≢ 0 = omega arith in
-    let up : suc (lg - 1) ≡ lg = omega arith in
-    let kept : length new ≡ length q.items = c.multiply_rows.auto.cells ∙ ap length c.deref_mut.ensures.value in
-    let written : take q.len (new ++ drop (length new) q.items) ≡ new = take-written q.len q.items new q.ok.0 kept in
-    let level = rw up at (powers-level ring inverse_root lg half table positive c.size_of-half.ensures c.requires.interpolation back c.split_at.ensures.back) in
-    let count = length-level ring inverse_root lg half table positive c.size_of-half.ensures c.requires.interpolation back c.split_at.ensures.back_len in
-    let moved = value-moved ring E G P R (inverse_root lg) (2 ^ (lg - 1)) c.len.result q.items new back c.split_at-in-Somewhere.result.0.now (omega (arith, right_few, q.ok.0)) kept
-    count level (omega (arith, c.len.ensures, q.ok.0)) c.split_at-in-Somewhere.ensures.front
-    (rw c.deref_mut.ensures.value at c.in_ok-multiply_rows-in-Somewhere.ensures) in
+    let moved = c.in_ok-moved-in-Somewhere.ensures.values in
+    let new = c.in_ok-moved-in-Somewhere.moved.items in
     rw (c.in-Somewhere.is, c.in-Nowhere-left-3.is) (record {
       factor = g.F.Ring.one;
       factor_is_not_zero = f.distinct;
-      gives = λ r. times_one-left E G P R f _ _ (rw written (moved r));
+      gives = λ r. times_one-left E G P R f _ _ (moved r);
     })
 
 pub returns-in_ok-all-in-Everywhere-left-3-clause-merged : goal.returns-in_ok-all-in-Everywhere-left-3-clause-merged
@@ -149,24 +130,9 @@ returns-in_ok-all-in-Everywhere-left-3-clause-merged g c =
     let P = F.Multiplicative.commutes in
     let R = F.Ring.ring in
     let f = F.Field.field in
-    let ring = ring_members g.F.Multiplicative.product g.F.Debug.debug_output g.F.Object.same g.F.Object.NEVER_REFUSES g.F.Additive.zero g.F.Additive.sum g.F.Additive.negative g.F.Ring.one in
     let lg = c.args.lg in
-    let half = c.size_of-half.result in
-    let table = c.args.interpolation.now in
-    let inverse_root : ℕ → _ = λ l. g.F.Field.inverse (g.F.FieldNTT.root l) in
-    let q = c.in-Somewhere.q in
-    let new = c.multiply_rows.new.cells in
-    let back = c.split_at.result.1.now in
-    let right_few = rw c.in-Somewhere.is at c.requires.right in
-    let positive : lg ≢ 0 = omega arith in
-    let up : suc (lg - 1) ≡ lg = omega arith in
-    let kept : length new ≡ length q.items = c.multiply_rows.auto.cells ∙ ap length c.deref_mut.ensures.value in
-    let written : take q.len (new ++ drop (length new) q.items) ≡ new = take-written q.len q.items new q.ok.0 kept in
-    let level = rw up at (powers-level ring inverse_root lg half table positive c.size_of-half.ensures c.requires.interpolation back c.split_at.ensures.back) in
-    let count = length-level ring inverse_root lg half table positive c.size_of-half.ensures c.requires.interpolation back c.split_at.ensures.back_len in
-    let moved = value-moved ring E G P R (inverse_root lg) (2 ^ (lg - 1)) c.len.result q.items new back c.split_at-in-Somewhere.result.0.now (omega (arith, right_few, q.ok.0)) kept
-    count level (omega (arith, c.len.ensures, q.ok.0)) c.split_at-in-Somewhere.ensures.front
-    (rw c.deref_mut.ensures.value at c.in_ok-multiply_rows-in-Somewhere.ensures) in
+    let moved = c.in_ok-moved-in-Somewhere.ensures.values in
+    let new = c.in_ok-moved-in-Somewhere.moved.items in
     let low = c.in_ok-low-in-Everywhere-left-3 in
     let filled = low.ensures.cells in
     let long : vec_len low.low ≡ 2 ^ (lg - 1) = omega (arith, low.ensures.count, low.low.ok.0, c.size_of-half.ensures) in
@@ -176,7 +142,7 @@ returns-in_ok-all-in-Everywhere-left-3-clause-merged g c =
       factor_is_not_zero = minus_one_nonzero E G P R f;
       gives = λ r. minus_case E G P R f _ _ _
           (with_multiple-same E G P R f _ _ _ _ _ _ (rw long at (c.in_ok-all-in-Everywhere-left-3.ensures.values r)) minus
-          (rw (filled.1, written) (E.transitive _ _ _ (value-zeros_after E G P R r new filled.0 filled.2) (moved r))));
+          (rw filled.1 (E.transitive _ _ _ (value-zeros_after E G P R r new filled.0 filled.2) (moved r))));
     })
 
 pub returns-in_ok-all-in-Somewhere-left-3-clause-merged : goal.returns-in_ok-all-in-Somewhere-left-3-clause-merged
@@ -187,26 +153,11 @@ returns-in_ok-all-in-Somewhere-left-3-clause-merged g c =
     let P = F.Multiplicative.commutes in
     let R = F.Ring.ring in
     let f = F.Field.field in
-    let ring = ring_members g.F.Multiplicative.product g.F.Debug.debug_output g.F.Object.same g.F.Object.NEVER_REFUSES g.F.Additive.zero g.F.Additive.sum g.F.Additive.negative g.F.Ring.one in
     let lg = c.args.lg in
-    let half = c.size_of-half.result in
-    let table = c.args.interpolation.now in
-    let inverse_root : ℕ → _ = λ l. g.F.Field.inverse (g.F.FieldNTT.root l) in
-    let q = c.in-Somewhere.q in
-    let new = c.multiply_rows.new.cells in
-    let back = c.split_at.result.1.now in
-    let right_few = rw c.in-Somewhere.is at c.requires.right in
-    let positive : lg ≢ 0 = omega arith in
-    let up : suc (lg - 1) ≡ lg = omega arith in
-    let kept : length new ≡ length q.items = c.multiply_rows.auto.cells ∙ ap length c.deref_mut.ensures.value in
-    let written : take q.len (new ++ drop (length new) q.items) ≡ new = take-written q.len q.items new q.ok.0 kept in
-    let level = rw up at (powers-level ring inverse_root lg half table positive c.size_of-half.ensures c.requires.interpolation back c.split_at.ensures.back) in
-    let count = length-level ring inverse_root lg half table positive c.size_of-half.ensures c.requires.interpolation back c.split_at.ensures.back_len in
-    let moved = value-moved ring E G P R (inverse_root lg) (2 ^ (lg - 1)) c.len.result q.items new back c.split_at-in-Somewhere.result.0.now (omega (arith, right_few, q.ok.0)) kept
-    count level (omega (arith, c.len.ensures, q.ok.0)) c.split_at-in-Somewhere.ensures.front
-    (rw c.deref_mut.ensures.value at c.in_ok-multiply_rows-in-Somewhere.ensures) in
+    let moved = c.in_ok-moved-in-Somewhere.ensures.values in
+    let new = c.in_ok-moved-in-Somewhere.moved.items in
     rw (c.in-Somewhere.is, c.in-Somewhere-left-3.is) (record {
       factor = g.F.Ring.one;
       factor_is_not_zero = f.distinct;
-      gives = λ r. times_one-both E G P R f _ _ _ (E.transitive _ _ _ (c.in_ok-all-in-Somewhere-left-3.ensures.values r) (P.respects _ _ _ _ (E.reflexive _) (rw written (moved r))));
+      gives = λ r. times_one-both E G P R f _ _ _ (E.transitive _ _ _ (c.in_ok-all-in-Somewhere-left-3.ensures.values r) (P.respects _ _ _ _ (E.reflexive _) (moved r)));
     })

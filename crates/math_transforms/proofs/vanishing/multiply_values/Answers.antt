@@ -1,5 +1,5 @@
 use Rattle.std.proofs.Common.{◌≡◌, ◌^◌, length, arith}
-use Rattle.math_transforms.proofs.Members.{ring_members}
+use Rattle.math_base.proofs.Members.{ring_members}
 use Rattle.math_transforms.proofs.DomainSteps.{values-multiplied}
 use Rattle.math_transforms.proofs.vanishing.multiply_values.Goals as goal
 

@@ -4,7 +4,7 @@ use Rattle.math_theory.proofs.polynomials.BuiltPolynomials.{value-at_zero-same}
 use Rattle.math_theory.proofs.domains.BuiltVanishing.{IsVanishing-from_VanishesAt-same}
 use Rattle.math_base.proofs.WholeWrites.{take-written}
 use Rattle.math_transforms.proofs.DomainSteps.{values-one}
-use Rattle.math_transforms.proofs.Members.{ring_members}
+use Rattle.math_base.proofs.Members.{ring_members}
 use Rattle.math_transforms.proofs.vanishing.vanishing_values.Goals as goal
 
 pub returns : goal.returns

@@ -3,7 +3,7 @@ use Rattle.std.specs.List.{All}
 use Rattle.secret_bytes.specs.Combined.{AreRecovered, IsDueCombining}
 use Rattle.secret_bytes.specs.Keyed.{AreKeyed}
 use Rattle.secret_bytes.specs.Passes.{IsDueRecovering}
-use Rattle.secret_bytes.specs.Settled.{IsFirstFault, StandBelow, firsts}
+use Rattle.secret_bytes.specs.Settled.{IsDueSettling, StandBelow, firsts}
 use Rattle.secret_bytes.proofs.CombinedShares.{due-fault, due-recovering, firsts-ready, refused}
 use Rattle.secret_bytes.proofs.combining.combine.Goals as goal
 
@@ -13,8 +13,8 @@ returns-in_err-settled-clause-due c =
     let first = c.in-Some.first.now in
     let is_first : slice_get shares 0 ≡ Some first = rw c.deref.ensures.value at (sym c.in-Some.ensures.value) in
     let width : c.len.result ≡ length first.values.items = omega (arith, c.len.ensures, first.values.ok) in
-    let fault : IsFirstFault first.threshold first.deal (length first.values.items) shares c.in_err-settled.field-0.0 = rw (c.deref-2.ensures.value, width) at c.in_err-settled.ensures.fault in
-    refused c.from_residual.result c.in_err-settled.field-0.0 (IsDueCombining shares) c.from_residual.ensures.1 (due-fault shares first is_first c.in_err-settled.field-0.0 fault)
+    let due : IsDueSettling first.threshold first.deal (length first.values.items) shares c.in_err-settled.field-0.0 = rw (c.deref-2.ensures.value, width) at c.in_err-settled.ensures.due in
+    refused c.from_residual.result c.in_err-settled.field-0.0 (IsDueCombining shares) c.from_residual.ensures.1 (due-fault shares first is_first c.in_err-settled.field-0.0 due)
 
 pub returns-then-len-t-clause-due : goal.returns-then-len-t-clause-due
 returns-then-len-t-clause-due c =

@@ -1,7 +1,8 @@
 use Rattle.math_base.specs.ElementLaws.{equality, group}
 use Rattle.shared_secret.specs.Shares.{IsRepeatedFirst, IsZeroFirst}
 use Rattle.shared_secret.proofs.RefusedShares.{exclude}
-use Rattle.secret_bytes.specs.Columns.{column, goldilocks}
+use Rattle.math_base.specs.Elements.{goldilocks}
+use Rattle.secret_bytes.specs.Columns.{column}
 use Rattle.secret_bytes.proofs.RecoveredShares.{distinct-points}
 use Rattle.secret_bytes.proofs.combining.corrected.Goals as goal
 

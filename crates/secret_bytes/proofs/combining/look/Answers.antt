@@ -1,6 +1,7 @@
 use Rattle.std.proofs.Common.{◌≡◌, ◌+◌, [], ◌∷◌, ◌++◌, length, ap, arith}
 use Rattle.shared_secret.specs.CorrectedShares.{IsCorrected}
-use Rattle.secret_bytes.specs.Columns.{column, goldilocks}
+use Rattle.math_base.specs.Elements.{goldilocks}
+use Rattle.secret_bytes.specs.Columns.{column}
 use Rattle.secret_bytes.proofs.WeighedColumns.{elements-next}
 use Rattle.secret_bytes.proofs.combining.look.Goals as goal
 

@@ -1,5 +1,6 @@
 use Rattle.shared_secret.specs.CorrectedShares.{IsCorrected}
-use Rattle.secret_bytes.specs.Columns.{column, goldilocks}
+use Rattle.math_base.specs.Elements.{goldilocks}
+use Rattle.secret_bytes.specs.Columns.{column}
 use Rattle.secret_bytes.proofs.WeighedColumns.{some-wrong}
 use Rattle.secret_bytes.proofs.combining.wrong_at.Goals as goal
 

@@ -21,5 +21,6 @@ returns c = record {
   again = λ s h e.
       let letters : c.in-Some.letters.now ≡ grouped true (share_spelling s) = ap (drop 2) (sym c.in-Some.ensures.some ∙ e) in
       let found : c.in-Some-2.bytes.items ≡ share_spelling s = (rw c.in-Some-2.is at c.in_ok-bytes.ensures.again) (share_spelling s) (share-bytes 1048576 s h) letters in
-      c.refusal.ensures (c.in-Err.ensures.again s h (c.deref.ensures.value ∙ found));
+      c.refusal.ensures.memory.0 (c.in-Err.ensures.again s h (c.deref.ensures.value ∙ found));
+  due = c.refusal.ensures.due;
 }

@@ -1,5 +1,6 @@
 use Rattle.std.proofs.Common.{arith, refl}
 use Rattle.secret_bytes.proofs.SettledShares.{elements-equal}
+use Rattle.secret_bytes.proofs.SharePlaces.{contradicted, values-hold}
 use Rattle.secret_bytes.proofs.settling.fault_of.Goals as goal
 
 pub returns-then-share-of-clause-some : goal.returns-then-share-of-clause-some
@@ -24,7 +25,7 @@ returns-then-is_contradicted-clause-some c = (
     deal = elements-equal c.args.share.now.deal c.args.of.now.deal c.if-ne.ensures;
     count = omega (arith, c.len.ensures, c.args.share.now.values.ok, c.if-len-of.false);
   },
-  c.if-is_contradicted.ensures.yes refl,
+  contradicted c.args.shares.now c.args.place c.args.share.now c.args.first (omega (arith, c.requires.within)) c.requires.first (c.if-is_contradicted.ensures.yes refl),
 )
 
 pub returns-clause-none : goal.returns-clause-none
@@ -35,5 +36,6 @@ returns-clause-none c = record {
     deal = elements-equal c.args.share.now.deal c.args.of.now.deal c.if-ne.ensures;
     count = omega (arith, c.len.ensures, c.args.share.now.values.ok, c.if-len-of.false);
   };
-  values = c.if-is_contradicted.ensures.no (λ t. cc);
+  values = values-hold c.args.of.now.threshold c.args.of.now.deal c.args.of.now.width c.args.shares.now c.args.place c.args.share.now c.args.first
+      (omega (arith, c.requires.within)) c.requires.before c.requires.first (c.if-is_contradicted.ensures.no (λ t. cc));
 }

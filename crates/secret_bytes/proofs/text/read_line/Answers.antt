@@ -3,7 +3,8 @@ use Rattle.std.specs.Str.{IsTrimAscii}
 use Rattle.secret_bytes.specs.Lines.{line_spelling}
 use Rattle.secret_bytes.specs.Refusals.{IsMemory}
 use Rattle.secret_bytes.specs.Texts.{IsNoLine}
-use Rattle.secret_bytes.proofs.TextLines.{no-line, refused, trimmed-once}
+use Rattle.secret_bytes.proofs.PassedErrors.{passed}
+use Rattle.secret_bytes.proofs.TextLines.{no-line, trimmed-once}
 use Rattle.secret_bytes.proofs.text.read_line.Goals as goal
 
 pub returns-in_err-share-clause-due : goal.returns-in_err-share-clause-due
@@ -12,7 +13,7 @@ returns-in_err-share-clause-due c =
     let text = c.trim_ascii-text.result.now in
     let e = c.in_err-share.field-0.0 in
     let some : 0 < length text = search rules in
-    refused c.from_residual.result e (λ why. IsMemory why ⊎ IsNoLine line) c.from_residual.ensures.1 (no-line e line text c.trim_ascii-text.ensures.value some c.in_err-share.ensures.again)
+    passed c.from_residual.result e (λ why. IsMemory why ⊎ IsNoLine line why) c.from_residual.ensures.1 (no-line e line text c.trim_ascii-text.ensures.value some c.in_err-share.ensures.due c.in_err-share.ensures.again)
 
 pub returns-clause-read : goal.returns-clause-read
 returns-clause-read c =

@@ -1,6 +1,7 @@
-use Rattle.shard_blocks.proofs.CellCounts.{cells_counted}
+use Rattle.std.proofs.Common.{◌∙◌, ◌+◌, sym, ap}
+use Rattle.shard_blocks.proofs.CellCounts.{count_block_words}
+use Rattle.shard_blocks.specs.BlockWords.{words_of_bytes}
 use Rattle.shard_blocks.proofs.blocks.cells_for.Goals as goal
 
 pub returns : goal.returns
-returns c = λ block e.
-    cells_counted c.args.bytes c.args.min c.div_ceil-words.result c.div_ceil.result c.div_ceil-2.result block c.requires e c.div_ceil-words.ensures c.div_ceil.ensures c.div_ceil-2.ensures
+returns c = λ block e. c.shard_width.ensures (words_of_bytes block) (count_block_words block c.args.bytes e ∙ ap (λ n. n + 1) (sym c.div_ceil.ensures))

@@ -1,5 +1,5 @@
 use Rattle.std.proofs.Common.{◌≤◌, length, arith}
-use Rattle.math_transforms.proofs.Members.{ring_members}
+use Rattle.math_base.proofs.Members.{ring_members}
 use Rattle.shared_secret.proofs.CombinedShares.{combinable, combined}
 use Rattle.shared_secret.proofs.DealtShares.{combined-constant}
 use Rattle.shared_secret.proofs.combining.combine.Goals as goal
@@ -16,9 +16,9 @@ pub returns-clause-combined : goal.returns-clause-combined
 returns-clause-combined g c =
     let R = ring_members g.F.Multiplicative.product g.F.Debug.debug_output g.F.Object.same g.F.Object.NEVER_REFUSES g.F.Additive.zero g.F.Additive.sum g.F.Additive.negative g.F.Ring.one in
     let F = g.met.F in
-    combined R F.Object.equality F.Additive.group F.Multiplicative.commutes F.Ring.ring c.args.shares.now c.in_ok-points.points.items c.in_ok-values.values.items c.values.result.now
+    combined R F.Object.equality F.Additive.group F.Multiplicative.commutes F.Ring.ring c.args.shares.now c.in_ok-points.points.items c.in_ok-values.values.items c.in_ok-weights.weights.items
     c.in_ok-secret.secret c.in_ok-points.ensures.points c.in_ok-values.ensures
-    (rw (c.values.ensures, c.weights-2.ensures) (c.in_ok-weights.ensures c.in_ok-points.ensures.apart)) (rw c.deref.ensures.value at c.in_ok-secret.ensures.ok)
+    ((rw c.deref.ensures.value at c.in_ok-weights.ensures) c.in_ok-points.ensures.apart) (rw (c.deref-2.ensures.value, c.deref-3.ensures.value) at c.in_ok-secret.ensures.ok)
 
 pub returns-clause-constant : goal.returns-clause-constant
 returns-clause-constant g c = λ p l h.

@@ -5,7 +5,7 @@ use Rattle.std.proofs.lemmas.List.{take_all}
 use Rattle.std.proofs.lemmas.List.Elements.{All-push}
 use Rattle.std.proofs.lemmas.List.Quantifiers.{all_pairs_push}
 use Rattle.math_theory.specs.Interpolation.{IsFirstPlace}
-use Rattle.math_transforms.proofs.Members.{ring_members}
+use Rattle.math_base.proofs.Members.{ring_members}
 use Rattle.shared_secret.specs.Shares.{point}
 use Rattle.shared_secret.proofs.CombinedShares.{alike_next, not_zero, no_value, value_of_some}
 use Rattle.shared_secret.proofs.RefusedShares.{zero_first, repeated_first}

@@ -1,7 +1,7 @@
 use Rattle.std.proofs.Common.{take}
 use Rattle.std.specs.List.{All, AllZip}
 use Rattle.math_theory.specs.Interpolation.{AreApart}
-use Rattle.math_transforms.proofs.Members.{ring_members}
+use Rattle.math_base.proofs.Members.{ring_members}
 use Rattle.shared_secret.specs.Shares.{point}
 use Rattle.shared_secret.proofs.combining.distinct_points.Given as goal
 

@@ -1,5 +1,5 @@
 use Rattle.std.proofs.Common.{◌≡◌, ◌∙◌, ◌≤◌, length, sym, arith}
-use Rattle.math_transforms.proofs.Members.{ring_members}
+use Rattle.math_base.proofs.Members.{ring_members}
 use Rattle.shared_secret.proofs.CombinedShares.{combinable}
 use Rattle.shared_secret.proofs.CorrectedShares.{point_count, value_count, corrected, none-corrected}
 use Rattle.shared_secret.proofs.correcting.combine_corrected.Goals as goal

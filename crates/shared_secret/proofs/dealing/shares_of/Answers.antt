@@ -2,7 +2,7 @@ use Rattle.std.proofs.Common.{◌≡◌, ◌+◌, ◌++◌, [], ◌∷◌, map, 
 use Rattle.std.proofs.lemmas.List.Elements.{All-nil, All-push}
 use Rattle.math_theory.specs.ModuleLaws.{ring_is_module}
 use Rattle.math_theory.specs.Powers.{power-zero}
-use Rattle.math_transforms.proofs.Members.{ring_members}
+use Rattle.math_base.proofs.Members.{ring_members}
 use Rattle.math_base.specs.Polynomials.{value_in_ring}
 use Rattle.shared_secret.specs.declared.shares.Share.{Share}
 use Rattle.shared_secret.specs.Shares.{point}

@@ -1,7 +1,7 @@
 use Rattle.std.proofs.Common.{◌≡◌, ◌<◌, ◌≤◌, ℕ, map}
 use Rattle.std.specs.List.{range_with_len}
 use Rattle.math_theory.specs.Powers.{multiple}
-use Rattle.math_transforms.proofs.Members.{ring_members}
+use Rattle.math_base.proofs.Members.{ring_members}
 use Rattle.shared_secret.specs.Shares.{AreSharesOf}
 use Rattle.shared_secret.proofs.dealing.shares_of.Given as goal
 

@@ -1,4 +1,4 @@
-use Rattle.math_transforms.proofs.Members.{ring_members}
+use Rattle.math_base.proofs.Members.{ring_members}
 use Rattle.shared_secret.proofs.DealtShares.{any_combine}
 use Rattle.shared_secret.proofs.laws.any_shares_combine.Goals as goal
 

@@ -1,5 +1,5 @@
 use Rattle.math_base.specs.Members.{SpaceOf}
-use Rattle.math_transforms.proofs.Members.{ring_members}
+use Rattle.math_base.proofs.Members.{ring_members}
 use Rattle.shared_secret.proofs.DealtShares.{dealt_verified}
 use Rattle.shared_secret.proofs.laws.dealt_are_verified.Goals as goal
 

@@ -1,4 +1,4 @@
-use Rattle.math_transforms.proofs.Members.{ring_members}
+use Rattle.math_base.proofs.Members.{ring_members}
 use Rattle.shared_secret.proofs.ExplainedShares.{once, by_last, equally}
 use Rattle.shared_secret.proofs.laws.each_secret_explains.Goals as goal
 

@@ -1,4 +1,4 @@
-use Rattle.math_transforms.proofs.Members.{ring_members}
+use Rattle.math_base.proofs.Members.{ring_members}
 use Rattle.shared_secret.proofs.RefusedShares.{exclude}
 use Rattle.shared_secret.proofs.laws.refusals_exclude.Goals as goal
 

@@ -1,5 +1,5 @@
 use Rattle.std.proofs.Common.{IsTrue}
-use Rattle.math_transforms.proofs.Members.{ring_members}
+use Rattle.math_base.proofs.Members.{ring_members}
 use Rattle.shared_secret.specs.Shares.{point}
 use Rattle.shared_secret.proofs.DealingSteps.{answer_alike, value_alike}
 use Rattle.shared_secret.proofs.verifying.verify.Goals as goal

@@ -2,7 +2,7 @@ use Rattle.std.proofs.Common.{◌≡◌, ◌∙◌, ◌<◌, ◌-◌, length, ta
 use Rattle.std.proofs.lemmas.Bool.{true≢false}
 use Rattle.std.proofs.lemmas.List.{get_or_read}
 use Rattle.math_theory.specs.Sums.{weighted_sum}
-use Rattle.math_transforms.proofs.Members.{ring_members}
+use Rattle.math_base.proofs.Members.{ring_members}
 use Rattle.shared_secret.specs.Shares.{values}
 use Rattle.shared_secret.proofs.WeighedShares.{further-count, next-read, not-whole, part-of, secret-count, value-count, whole}
 use Rattle.shared_secret.proofs.weighing.secret_of.Goals.{then-given-t-via-then-given-t, then-given-t-via-else-given-t+then-given-t-2}
@@ -46,7 +46,7 @@ returns-then-not-branch-clause-none g c = λ t shares h e.
     let front : first ≡ take t (values shares) = part-of take first c.args.given.now (values shares) c.len-t.result t c.split_at.ensures.front at e in
     let back : others ≡ drop t (values shares) = part-of drop others c.args.given.now (values shares) c.len-t.result t c.split_at.ensures.back at e in
     let below : i < length others = c.loop-i-test.true in
-    let value : R.same c.in_ok-value.value (weighted_sum R.zero R.sum R.product first v.items) = rw c.deref.ensures.value at c.in_ok-value.ensures.ok in
+    let value : R.same c.in_ok-value.value (weighted_sum R.zero R.sum R.product first v.items) = rw c.deref.ensures.value at (c.requires.sums _ _ _ c.in_ok-value.ensures) in
     let there : c.index-others-i.result ≡ get_or others i R.zero = get_or_read others i c.index-others-i.result below c.index-others-i.is R.zero in
     not-whole R F.Object.equality F.Additive.group F.Multiplicative.commutes F.Ring.ring (λ w. w.items) t shares c.args.weights.now.secret.items c.args.weights.now.further.items h.combinable h.at_points.secret h.at_points.further i v (rw back at below) (sym c.index.ensures)
     (rw (front, back) at (λ (s : R.same (weighted_sum R.zero R.sum R.product first v.items) (get_or others i R.zero)).
@@ -61,7 +61,7 @@ loop-i-preserved g c =
     let i = c.loop-i.i in
     let v = c.index.result.now in
     let fs = c.args.weights.now.further.items in
-    let value : R.same c.in_ok-value.value (weighted_sum R.zero R.sum R.product first v.items) = rw c.deref.ensures.value at c.in_ok-value.ensures.ok in
+    let value : R.same c.in_ok-value.value (weighted_sum R.zero R.sum R.product first v.items) = rw c.deref.ensures.value at (c.requires.sums _ _ _ c.in_ok-value.ensures) in
     let same : R.same (weighted_sum R.zero R.sum R.product first v.items) c.index-others-i.result =
     F.Object.equality.transitive _ _ _ (F.Object.equality.symmetric _ _ value) (c.in_ok-equals.ensures.ok.0 c.if-not-branch.false) in
     next-read (λ w y. R.same (weighted_sum R.zero R.sum R.product first w.items) y) fs others R.zero i v c.index-others-i.result
@@ -76,7 +76,7 @@ returns-clause-found g c = λ t shares h e.
     let at : c.len-t.result ≡ t = omega (arith, c.len-t.ensures, c.args.weights.now.secret.ok, secret-count R F.Object.equality F.Additive.group F.Multiplicative.commutes F.Ring.ring (λ w. w.items) t shares c.args.weights.now.secret.items c.args.weights.now.further.items h.combinable h.at_points.secret h.at_points.further) in
     let front : first ≡ take t (values shares) = part-of take first c.args.given.now (values shares) c.len-t.result t c.split_at.ensures.front at e in
     let back : others ≡ drop t (values shares) = part-of drop others c.args.given.now (values shares) c.len-t.result t c.split_at.ensures.back at e in
-    let secret : R.same c.in_ok-secret.secret (weighted_sum R.zero R.sum R.product first c.args.weights.now.secret.items) = rw c.deref-2.ensures.value at c.in_ok-secret.ensures.ok in
+    let secret : R.same c.in_ok-secret.secret (weighted_sum R.zero R.sum R.product first c.args.weights.now.secret.items) = rw c.deref-2.ensures.value at (c.requires.sums _ _ _ c.in_ok-secret.ensures) in
     whole R F.Object.equality F.Additive.group F.Multiplicative.commutes F.Ring.ring (λ w. w.items) t shares c.args.weights.now.secret.items c.args.weights.now.further.items h.combinable h.at_points.secret h.at_points.further F.Field.field c.in_ok-secret.secret (rw front at secret)
     (λ k d l.
     let before = c.loop-i.invariant k d (omega (arith, l, ap length back, c.loop-i-test.false)) in

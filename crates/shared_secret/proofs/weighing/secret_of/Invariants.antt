@@ -1,6 +1,6 @@
 use Rattle.std.proofs.Common.{ℕ, ◌<◌, get_or}
 use Rattle.math_theory.specs.Sums.{weighted_sum}
-use Rattle.math_transforms.proofs.Members.{ring_members}
+use Rattle.math_base.proofs.Members.{ring_members}
 use Rattle.shared_secret.proofs.weighing.secret_of.Given as goal
 
 -- the further values so far are what the weights give

@@ -1,5 +1,5 @@
 use Rattle.std.proofs.Common.{◌≡◌, ◌≤◌, length, arith}
-use Rattle.math_transforms.proofs.Members.{ring_members}
+use Rattle.math_base.proofs.Members.{ring_members}
 use Rattle.shared_secret.specs.Weights.{AreWeightsAtPoints}
 use Rattle.shared_secret.proofs.CombinedShares.{alike_points, combinable}
 use Rattle.shared_secret.proofs.CorrectedShares.{point_count}

@@ -3,9 +3,9 @@ use Rattle.std.specs.List.{AllZip}
 use Rattle.std.proofs.lemmas.List.{take_all}
 use Rattle.math_theory.specs.Interpolation.{AreApart}
 use Rattle.math_base.specs.Polynomials.{AreWeightsAt}
-use Rattle.math_transforms.proofs.Members.{ring_members}
+use Rattle.math_base.proofs.Members.{ring_members}
 use Rattle.shared_secret.proofs.CombinedShares.{alike_next}
-use Rattle.shared_secret.proofs.WeighedShares.{apart-take, weights-at-zero}
+use Rattle.shared_secret.proofs.WeighedShares.{apart-take}
 use Rattle.shared_secret.proofs.weighing.weights_at_points.Goals as goal
 
 pub loop-x-preserved : goal.loop-x-preserved
@@ -27,7 +27,6 @@ returns g c = λ apart.
     subst (λ xs. AllZip (λ x w. AreWeightsAt R x first w.items) xs c.loop-x.further.items) (take_all c.loop-x.x-index others c.loop-x-test.false) (c.loop-x.invariant distinct) in
     record {
       secret = subst (λ xs. AreWeightsAt R R.zero xs c.in_ok-secret.secret.items) front
-          (weights-at-zero R F.Object.equality F.Additive.group F.Multiplicative.commutes F.Ring.ring c.in_ok-zero.zero first c.in_ok-secret.secret.items c.in_ok-zero.ensures.ok
-          (c.in_ok-secret.ensures.weights distinct));
+          (c.in_ok-secret.ensures distinct);
       further = rw (front, c.split_at.ensures.back) at further;
     }

@@ -1,4 +1,4 @@
-use Rattle.math_transforms.proofs.Members.{ring_members}
+use Rattle.math_base.proofs.Members.{ring_members}
 use Rattle.math_ntt.proofs.RecoveredFromValues.{recovers-from_some, recovers-from_all}
 use Rattle.math_ntt.proofs.laws.recovery.recovered_values.Goals as goal
 

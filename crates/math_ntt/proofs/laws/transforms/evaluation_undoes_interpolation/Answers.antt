@@ -1,4 +1,4 @@
-use Rattle.math_transforms.proofs.Members.{ring_members}
+use Rattle.math_base.proofs.Members.{ring_members}
 use Rattle.math_ntt.proofs.OneColumn.{values-once}
 use Rattle.math_ntt.proofs.laws.transforms.evaluation_undoes_interpolation.Goals as goal
 

@@ -1,4 +1,4 @@
-use Rattle.math_transforms.proofs.Members.{ring_members}
+use Rattle.math_base.proofs.Members.{ring_members}
 use Rattle.math_ntt.proofs.OneColumn.{polynomial-once}
 use Rattle.math_ntt.proofs.laws.transforms.interpolation_undoes_evaluation.Goals as goal
 

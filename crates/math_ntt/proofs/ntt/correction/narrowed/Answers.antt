@@ -1,7 +1,7 @@
 use Rattle.std.proofs.Common.{◌≡◌, ◌∙◌, ◌*◌, ◌^◌, ◌<◌, length, get_or, ap, sym, arith}
 use Rattle.std.proofs.lemmas.Nat.{mul-add-lt}
 use Rattle.math_theory.proofs.domains.CarriedDomains.{powers_apart-same}
-use Rattle.math_transforms.proofs.Members.{ring_members}
+use Rattle.math_base.proofs.Members.{ring_members}
 use Rattle.math_transforms.proofs.PresentIndices.{length-places}
 use Rattle.math_transforms.specs.Matrices.{MatrixOf}
 use Rattle.math_ntt.specs.Evaluations.{EvaluationsOf}

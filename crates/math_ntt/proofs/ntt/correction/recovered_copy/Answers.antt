@@ -1,7 +1,7 @@
 use Rattle.std.proofs.Common.{◌≡◌, ◌∙◌, ◌++◌, ◌*◌, ◌^◌, ◌<◌, length, take, drop, ap, arith}
 use Rattle.std.specs.List.{AllZip}
 use Rattle.math_base.proofs.WholeWrites.{take-written}
-use Rattle.math_transforms.proofs.Members.{ring_members}
+use Rattle.math_base.proofs.Members.{ring_members}
 use Rattle.math_transforms.specs.Matrices.{MatrixOf}
 use Rattle.math_ntt.proofs.CopiedRecoveries.{IsAdded, IsNone, added-within, added-exact, copied-fits}
 use Rattle.math_ntt.proofs.ntt.correction.recovered_copy.Goals as goal

@@ -1,6 +1,6 @@
 use Rattle.std.proofs.Common.{◌≡◌, ◌∙◌, ◌+◌, ◌*◌, ◌^◌, ◌<◌, ◌≤◌, length, sym, ap, arith}
 use Rattle.math_theory.specs.Recovery.{count_true}
-use Rattle.math_transforms.proofs.Members.{ring_members}
+use Rattle.math_base.proofs.Members.{ring_members}
 use Rattle.math_transforms.proofs.PowersOfTwo.{power_of_two-same}
 use Rattle.math_transforms.proofs.PresentIndices.{length-places}
 use Rattle.math_ntt.specs.Evaluations.{EvaluationsOf}

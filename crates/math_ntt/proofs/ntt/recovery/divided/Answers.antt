@@ -1,7 +1,34 @@
-use Rattle.std.proofs.Common.{◌≡◌, ◌^◌, length, arith}
-use Rattle.math_transforms.proofs.Members.{ring_members}
-use Rattle.math_ntt.proofs.RecoverySteps.{products-on_domain, values-again}
+use Rattle.std.proofs.Common.{◌≡◌, ◌∙◌, ◌+◌, ◌*◌, ◌^◌, length, arith}
+use Rattle.math_base.proofs.Members.{ring_members}
+use Rattle.math_transforms.proofs.TreeEntries.{root-tree, tree-ones}
+use Rattle.math_ntt.proofs.RecoverySteps.{products-on_domain, values-again, values-in_order}
 use Rattle.math_ntt.proofs.ntt.recovery.divided.Goals as goal
+
+pub evaluate_below-requires-clause-tree : goal.evaluate_below-requires-clause-tree
+evaluate_below-requires-clause-tree g c =
+    let R = ring_members g.F.Multiplicative.product g.F.Debug.debug_output g.F.Object.same g.F.Object.NEVER_REFUSES g.F.Additive.zero g.F.Additive.sum g.F.Additive.negative g.F.Ring.one in
+    let F = g.met.F in
+    root-tree R F.Object.equality F.Additive.group F.Multiplicative.commutes F.Ring.ring g.F.FieldNTT.root g.F.Ring.one c.args.lg c.args.evaluation.now
+    (λ l within. F.FieldNTT.roots.square l (omega (arith, within, c.requires.domain))) c.requires.evaluation
+
+pub evaluate_below-requires-clause-one : goal.evaluate_below-requires-clause-one
+evaluate_below-requires-clause-one g c =
+    let R = ring_members g.F.Multiplicative.product g.F.Debug.debug_output g.F.Object.same g.F.Object.NEVER_REFUSES g.F.Additive.zero g.F.Additive.sum g.F.Additive.negative g.F.Ring.one in
+    let F = g.met.F in
+    λ one. tree-ones R F.Object.equality F.Additive.group F.Multiplicative.commutes F.Ring.ring g.F.FieldNTT.root c.args.lg c.args.evaluation.now c.requires.evaluation
+
+pub evaluate_below-requires-clause-within : goal.evaluate_below-requires-clause-within
+evaluate_below-requires-clause-within g c = omega (arith, c.requires.evaluation.count)
+
+pub start_at-requires-clause-size : goal.start_at-requires-clause-size
+start_at-requires-clause-size g c = c.requires.evaluation.count
+
+pub moved_to_coset-requires-clause-coset : goal.moved_to_coset-requires-clause-coset
+moved_to_coset-requires-clause-coset g c = c.in_ok-start_at.ensures.tree g.F.FieldNTT.root g.F.FieldNTT.shift c.in_ok-shift.ensures.ok c.requires.evaluation
+
+pub quotients_from_coset-requires-clause-back : goal.quotients_from_coset-requires-clause-back
+quotients_from_coset-requires-clause-back g c =
+    c.in_ok-start_at-2.ensures.tree (λ l. g.F.Field.inverse (g.F.FieldNTT.root l)) (g.F.Field.inverse g.F.FieldNTT.shift) c.in_ok-back.ensures.ok c.requires.interpolation
 
 pub returns-clause-divided : goal.returns-clause-divided
 returns-clause-divided g c =
@@ -11,20 +38,23 @@ returns-clause-divided g c =
     let P = F.Multiplicative.commutes in
     let L = F.Ring.ring in
     let R = ring_members g.F.Multiplicative.product g.F.Debug.debug_output g.F.Object.same g.F.Object.NEVER_REFUSES g.F.Additive.zero g.F.Additive.sum g.F.Additive.negative g.F.Ring.one in
-    let n = 2 ^ c.args.lg in
-    let root = g.F.FieldNTT.root c.args.lg in
+    let lg = c.args.lg in
+    let n = 2 ^ lg in
+    let root = g.F.FieldNTT.root in
+    let order = F.FieldNTT.roots.order lg c.requires.domain in
     let v = c.args.vanishing.now in
-    let values = c.evaluate_rows.new.cells in
-    let long : length values ≡ n = omega arith in
+    let values = c.evaluate_below.new.cells in
+    let long : length values ≡ n = c.evaluate_below.auto.cells ∙ c.requires.vanishing_size in
     let moved = c.in_ok-moved_to_coset.ensures.cells in
     let divisor = c.in_ok-moved_to_coset.ensures.vanishing in
-    let size : length divisor.0 ≡ n = omega (arith, divisor.1) in
+    let size : length divisor.polynomials ≡ n = omega (arith, divisor.count) in
+    let in_order = values-in_order R E G P L F.Field.field root lg order c.args.evaluation.now v values c.requires.vanishing_size c.requires.evaluation c.in_ok-evaluate_below.ensures.values in
     record {
-      product = moved.0;
-      divisor = divisor.0;
+      product = moved.polynomials;
+      divisor = divisor.polynomials;
       divisor_size = size;
-      products = products-on_domain R E G P L root n c.args.cols v values c.args.cells.now c.multiply_rows.new.cells moved.0 c.requires.vanishing_size
-          c.in_ok-evaluate_rows.ensures.values (rw long at c.in_ok-multiply_rows.ensures) moved.2;
-      same_values = values-again R E G P L root n v values divisor.0 c.requires.vanishing_size size c.in_ok-evaluate_rows.ensures.values divisor.2;
-      quotients = c.in_ok-quotients_from_coset.ensures.quotients moved.0 divisor.0 size moved.3 divisor.3;
+      products = products-on_domain R E G P L F.Field.field root lg order c.args.cols v values c.args.cells.now c.reverse_rows.new.cells c.multiply_rows.new.cells moved.polynomials in_order
+          c.reverse_rows.ensures (rw long at c.in_ok-multiply_rows.ensures) moved.values;
+      same_values = values-again R E G P L F.Field.field root lg order v values divisor.polynomials size in_order divisor.values;
+      quotients = c.in_ok-quotients_from_coset.ensures.quotients moved.polynomials divisor.polynomials size moved.multiples divisor.multiples;
     }

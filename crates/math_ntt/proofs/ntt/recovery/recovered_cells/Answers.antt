@@ -2,13 +2,23 @@ use Rattle.std.proofs.Common.{◌≡◌, ◌∙◌, inl, inr, ◌+◌, ◌*◌, 
 use Rattle.std.proofs.lemmas.List.{get_or-replicate}
 use Rattle.std.proofs.lemmas.Nat.{mul-add-lt}
 use Rattle.math_theory.proofs.recovery.RecoveredColumns.{fits-none, fits-all}
+use Rattle.math_theory.specs.Recovery.{count_true}
 use Rattle.math_transforms.specs.DomainValues.{matrix_of}
 use Rattle.math_transforms.specs.Matrices.{column_of}
+use Rattle.math_transforms.specs.MissingPoints.{count_false}
 use Rattle.math_transforms.proofs.DomainSteps.{column-cell}
 use Rattle.math_transforms.proofs.MatrixRows.{length-column}
 use Rattle.math_transforms.proofs.MissingPlaces.{count_both, all_missing}
 use Rattle.math_transforms.proofs.PowersOfTwo.{power_of_two-same}
+use Rattle.math_ntt.proofs.RecoveryCounts.{some_levels}
 use Rattle.math_ntt.proofs.ntt.recovery.recovered_cells.Goals as goal
+
+pub recovered-requires-clause-many : goal.recovered-requires-clause-many
+recovered-requires-clause-many g c =
+    let points = c.args.points.now in
+    let filled = c.count_non_vanishing-filled.ensures in
+    let size = c.size_of.ensures in
+    some_levels c.args.lg (count_true points) (count_false points) (omega (arith, count_both points, c.requires.points)) (λ e. omega (arith, e)) (λ e. omega (arith, e))
 
 pub returns-clause-exact : goal.returns-clause-exact
 returns-clause-exact g c =

@@ -1,19 +1,11 @@
-use Rattle.std.proofs.Common.{◌≡◌, ◌<◌, ◌≤◌, ◌^◌, length, sym, ◌∙◌, arith, rules}
-use Rattle.std.proofs.lemmas.Bool.{false≢true}
+use Rattle.std.proofs.Common.{List, subst, sym}
 use Rattle.std.proofs.lemmas.Result.{err_from_is_err_and}
-use Rattle.math_base.specs.Elements.{root_of}
-use Rattle.math_transforms.proofs.PowersOfTwo.{power_of_two-same}
-use Rattle.math_ntt.specs.CorrectedRows.{IsCorrected}
-use Rattle.math_transforms.specs.Matrices.{column_of}
-use Rattle.math_shards.specs.declared.shards.Error.TheVariants.{TooFew, Inconsistent}
-use Rattle.math_shards.specs.Correcting.{CorrectTo, settled_indices}
-use Rattle.math_shards.specs.Shards.{rows_for}
-use Rattle.math_shards.proofs.SameCells.{nought}
-use Rattle.math_shards.proofs.CorrectedShards.{AreSettledRows, corrected_of_data, count_settled, least_is_positive, least_is_within, rows_are_domain, size_of_corrected, within_radius}
-use Rattle.math_values.specs.Values.{goldilocks}
+use Rattle.math_base.specs.declared.fields.goldilocks.F.{F}
+use Rattle.math_shards.specs.Correcting.{AreCorrected, CorrectTo, settled_indices}
+use Rattle.math_shards.specs.Fitting.{AreDataOf}
 use Rattle.math_shards.proofs.DueErrors.{due_beside, unsound_due}
-use Rattle.math_shards.proofs.JoinedShards.{domain_is_small}
-use Rattle.math_shards.proofs.UnlikeRows.{corrected_with_positions}
+use Rattle.math_shards.proofs.JoinedCorrection.{joined_corrected}
+use Rattle.math_shards.proofs.JoinedRows.{join_of_fit}
 use Rattle.math_shards.proofs.shards.correcting.corrected_data.Goals as goal
 
 pub returns-in_err-check_numbers-clause-err : goal.returns-in_err-check_numbers-clause-err
@@ -24,117 +16,20 @@ returns-in_err-check_numbers-clause-err c =
     let due = unsound_due (λ _. ⊥) settled_indices CorrectTo c.in-Some.first.now c.args.shards.now e c.in_err-check_numbers.ensures.err in
     rw (q.1, q.2) (due_beside (λ _. ⊥) settled_indices CorrectTo c.in-Some.first.now c.args.shards.now e item.3.0 (sym item.1) due)
 
-pub returns-then-filled_rows-first-clause-err : goal.returns-then-filled_rows-first-clause-err
-returns-then-filled_rows-first-clause-err c =
-    let first = c.in-Some.first.now in
-    let shards = c.args.shards.now in
+pub returns-in_err-joined-clause-err : goal.returns-in_err-joined-clause-err
+returns-in_err-joined-clause-err c =
+    let q = err_from_is_err_and c.from_residual-in_err-joined.result c.from_residual-in_err-joined.ensures.1 in
     let item = c.in-Some.ensures.item in
-    let e = c.in_ok-values.values in
-    let g = c.in_ok-values.ensures.ok in
-    let r : AreSettledRows g.0 first shards e = record { short = c.in_ok-values.ensures.total; next = g.1; holds = g.2; some = item.3.0; sound = c.in_ok-check_numbers.ensures.ok } in
-    let few : settled_indices first.total shards < first.min = omega (arith, count_settled g.0 first shards e r, c.filled_rows.ensures, c.if-filled_rows-first.true) in
-    due_beside (λ _. ⊥) settled_indices CorrectTo first shards TooFew item.3.0 (sym item.1) ((r.sound, λ x. x), few)
+    let e = c.in_err-joined.field-0.0 in
+    rw (q.1, q.2) (due_beside (λ _. ⊥) settled_indices CorrectTo c.in-Some.first.now c.args.shards.now e item.3.0 (sym item.1) c.in_err-joined.ensures.err)
 
-pub correct-requires-clause-domain : goal.correct-requires-clause-domain
-correct-requires-clause-domain c lg is =
+pub returns-in-Some-2-clause-ok : goal.returns-in-Some-2-clause-ok
+returns-in-Some-2-clause-ok c =
     let first = c.in-Some.first.now in
     let shards = c.args.shards.now in
-    let item = c.in-Some.ensures.item in
-    let e = c.in_ok-values.values in
-    let g = c.in_ok-values.ensures.ok in
-    let r : AreSettledRows g.0 first shards e = record { short = c.in_ok-values.ensures.total; next = g.1; holds = g.2; some = item.3.0; sound = c.in_ok-check_numbers.ensures.ok } in
-    let same : g.0 ≡ lg = power_of_two-same g.0 lg (sym g.2.size.0 ∙ is) in
-    let some : 1 ≤ first.total = omega (arith, least_is_positive g.0 first shards e r, least_is_within g.0 first shards e r) in
-    omega (arith, same, domain_is_small first.total g.0 some r.short r.next)
-
-pub returns-in_default-2-clause-err : goal.returns-in_default-2-clause-err
-returns-in_default-2-clause-err c =
-    let first = c.in-Some.first.now in
-    let shards = c.args.shards.now in
-    let item = c.in-Some.ensures.item in
-    let e = c.in_ok-values.values in
-    let g = c.in_ok-values.ensures.ok in
-    let r : AreSettledRows g.0 first shards e = record { short = c.in_ok-values.ensures.total; next = g.1; holds = g.2; some = item.3.0; sound = c.in_ok-check_numbers.ensures.ok } in
-    let enough : first.min ≤ settled_indices first.total shards = omega (arith, count_settled g.0 first shards e r, c.filled_rows.ensures, c.if-filled_rows-first.false) in
-    due_beside (λ _. ⊥) settled_indices CorrectTo first shards Inconsistent item.3.0 (sym item.1) (
-      (r.sound, λ x. x),
-      enough,
-      λ words k.
-          (rw c.in_default-2.is at c.in_ok-corrected.ensures.none) g.0 g.2.size.0 (column_of nought (rows_for first.min words)) (within_radius g.0 first shards e r words k),
-    )
-
-pub returns-in_default-3-clause-err : goal.returns-in_default-3-clause-err
-returns-in_default-3-clause-err c =
-    let first = c.in-Some.first.now in
-    let shards = c.args.shards.now in
-    let item = c.in-Some.ensures.item in
-    let e = c.in_ok-values.values in
-    let g = c.in_ok-values.ensures.ok in
-    let r : AreSettledRows g.0 first shards e = record { short = c.in_ok-values.ensures.total; next = g.1; holds = g.2; some = item.3.0; sound = c.in_ok-check_numbers.ensures.ok } in
-    let q = c.in-Some-2.corrected.polynomials in
-    let wrong = c.in-Some-2.corrected.wrong.items in
-    let h : IsCorrected goldilocks (root_of g.0) e first.min q wrong = (rw c.in-Some-2.is at c.in_ok-corrected.ensures.found) g.0 g.2.size.0 in
-    let enough : first.min ≤ settled_indices first.total shards = omega (arith, count_settled g.0 first shards e r, c.filled_rows.ensures, c.if-filled_rows-first.false) in
-    due_beside (λ _. ⊥) settled_indices CorrectTo first shards Inconsistent item.3.0 (sym item.1) (
-      (r.sound, λ x. x),
-      enough,
-      λ words k.
-          false≢true (rw c.in_default-3.is at (c.in_ok-words.ensures.none words k.each_word k.few (corrected_of_data g.0 first shards e r q wrong h words k))),
-    )
-
-pub evaluate-requires : goal.evaluate-requires
-evaluate-requires c =
-    let first = c.in-Some.first.now in
-    let shards = c.args.shards.now in
-    let item = c.in-Some.ensures.item in
-    let e = c.in_ok-values.values in
-    let g = c.in_ok-values.ensures.ok in
-    let r : AreSettledRows g.0 first shards e = record { short = c.in_ok-values.ensures.total; next = g.1; holds = g.2; some = item.3.0; sound = c.in_ok-check_numbers.ensures.ok } in
-    let q = c.in-Some-2.corrected.polynomials in
-    let wrong = c.in-Some-2.corrected.wrong.items in
-    let h : IsCorrected goldilocks (root_of g.0) e first.min q wrong = (rw c.in-Some-2.is at c.in_ok-corrected.ensures.found) g.0 g.2.size.0 in
-    let some : 1 ≤ first.total = omega (arith, least_is_positive g.0 first shards e r, least_is_within g.0 first shards e r) in
-    record { domain = λ lg is. domain_is_small first.total lg some r.short (rw is at (rows_are_domain g.0 first shards e r q wrong h)) }
-
-pub unlike_rows-requires-clause-rows : goal.unlike_rows-requires-clause-rows
-unlike_rows-requires-clause-rows c k d l =
-    let first = c.in-Some.first.now in
-    let shards = c.args.shards.now in
-    let item = c.in-Some.ensures.item in
-    let e = c.in_ok-values.values in
-    let g = c.in_ok-values.ensures.ok in
-    let r : AreSettledRows g.0 first shards e = record { short = c.in_ok-values.ensures.total; next = g.1; holds = g.2; some = item.3.0; sound = c.in_ok-check_numbers.ensures.ok } in
-    let q = c.in-Some-2.corrected.polynomials in
-    let wrong = c.in-Some-2.corrected.wrong.items in
-    let h : IsCorrected goldilocks (root_of g.0) e first.min q wrong = (rw c.in-Some-2.is at c.in_ok-corrected.ensures.found) g.0 g.2.size.0 in
-    let s = r.sound k d l in
-    omega (arith, s.1, s.0.most, (rows_are_domain g.0 first shards e r q wrong h).1, c.in_ok-evaluate.ensures.size.0)
-
-pub unlike_rows-requires-clause-cells : goal.unlike_rows-requires-clause-cells
-unlike_rows-requires-clause-cells c k d l =
-    let first = c.in-Some.first.now in
-    let shards = c.args.shards.now in
-    let item = c.in-Some.ensures.item in
-    let e = c.in_ok-values.values in
-    let g = c.in_ok-values.ensures.ok in
-    let r : AreSettledRows g.0 first shards e = record { short = c.in_ok-values.ensures.total; next = g.1; holds = g.2; some = item.3.0; sound = c.in_ok-check_numbers.ensures.ok } in
-    let q = c.in-Some-2.corrected.polynomials in
-    let wrong = c.in-Some-2.corrected.wrong.items in
-    let h : IsCorrected goldilocks (root_of g.0) e first.min q wrong = (rw c.in-Some-2.is at c.in_ok-corrected.ensures.found) g.0 g.2.size.0 in
-    (r.sound k d l).0.count ∙ sym (c.in_ok-evaluate.ensures.size.1 ∙ (size_of_corrected g.0 first shards e r q wrong h).1)
-
-pub returns-clause-ok : goal.returns-clause-ok
-returns-clause-ok c =
-    let first = c.in-Some.first.now in
-    let shards = c.args.shards.now in
-    let item = c.in-Some.ensures.item in
-    let e = c.in_ok-values.values in
-    let g = c.in_ok-values.ensures.ok in
-    let r : AreSettledRows g.0 first shards e = record { short = c.in_ok-values.ensures.total; next = g.1; holds = g.2; some = item.3.0; sound = c.in_ok-check_numbers.ensures.ok } in
-    let q = c.in-Some-2.corrected.polynomials in
-    let wrong = c.in-Some-2.corrected.wrong.items in
-    let h : IsCorrected goldilocks (root_of g.0) e first.min q wrong = (rw c.in-Some-2.is at c.in_ok-corrected.ensures.found) g.0 g.2.size.0 in
-    let words = c.in-Some-3.words.items in
-    let few : length words < 2 ^ 64 = search (rules, c.in-Some-3.words.small) in
-    corrected_with_positions g.0 first shards e r q wrong h words (rw c.in-Some-3.is at c.in_ok-words.ensures.some) c.in_ok-evaluate.field-0.matrix c.in_ok-evaluate.ensures.size
-    c.in_ok-evaluate.ensures.values (rw c.in-Some-3.is at c.in_ok-words.ensures.each_word) few c.in_ok-left_out.left_out.items c.in_ok-left_out.ensures
+    let sound = c.in_ok-check_numbers.ensures.ok in
+    let found = rw c.in-Some-2.is at c.in_ok-elements.ensures.some in
+    let are : AreDataOf found.0 first.min c.deref.result.now = subst (λ (xs : List F). AreDataOf found.0 first.min xs) (sym c.deref.ensures.value) found.2 in
+    rw (c.in_ok-words.ensures found.0 first.min found.1 are, c.new-left_out.ensures.items)
+    (joined_corrected found.0 shards
+    (join_of_fit found.0 first.min first.total shards (λ i d l. (sound i d l).0.least) (λ i d l. (sound i d l).0.most) found.3))

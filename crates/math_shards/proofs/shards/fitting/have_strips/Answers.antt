@@ -1,4 +1,5 @@
-use Rattle.std.proofs.Common.{arith}
+use Rattle.std.proofs.Common.{◌∙◌, ◌+◌, sym, arith}
+use Rattle.std.proofs.lemmas.Bool.{false≢true}
 use Rattle.math_transforms.specs.DomainValues.{matrix_of}
 use Rattle.math_shards.proofs.CosetRows.{values-more}
 use Rattle.math_shards.proofs.shards.fitting.have_strips.Goals as goal
@@ -9,5 +10,11 @@ loop-from-preserved g c =
     record {
       within = omega arith;
       values = values-more g.R.Row.index g.R.Row.cells c.args.rows.now layout.lg (matrix_of layout.min layout.width c.args.elements.now) c.loop-from.from c.min-cols.result
-          c.loop-from.invariant.values (c.have_columns.ensures c.if-not-have_columns.false);
+          c.loop-from.invariant.values (c.have_columns.ensures.0 c.if-not-have_columns.false);
     }
+
+pub returns-then-not-have_columns : goal.returns-then-not-have_columns
+returns-then-not-have_columns g c = (
+  λ e. absurd (false≢true e),
+  λ h. absurd (false≢true (sym c.if-not-have_columns.true ∙ c.have_columns.ensures.1 (λ i d l k b. h i d l (c.loop-from.from + k) (omega (arith, b))))),
+)

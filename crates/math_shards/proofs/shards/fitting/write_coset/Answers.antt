@@ -1,9 +1,8 @@
 use Rattle.std.proofs.Common.{◌≡◌, ◌∙◌, ◌+◌, ◌-◌, ◌*◌, ◌≤◌, ◌^◌, ◌++◌, length, drop, take, subst, refl, ap, arith}
-use Rattle.std.proofs.lemmas.List.{get_or_default, length-drop, length-take-le}
+use Rattle.std.proofs.lemmas.List.{length-drop, length-take-le}
 use Rattle.std.proofs.lemmas.Nat.{mul-le}
 use Rattle.math_transforms.proofs.WrittenCells.{row-within}
 use Rattle.math_shards.proofs.CosetCells.{HoldMultiples, begun-at, coset_columns, coset_valued, length-begun, multiple_at, multiples-first, multiples-more, zeros_over}
-use Rattle.math_shards.proofs.CosetTurns.{table-turn}
 use Rattle.math_shards.proofs.RootPowers.{raised, raised-more, raised-one}
 use Rattle.math_shards.proofs.SameCells.{nought}
 use Rattle.math_shards.proofs.shards.fitting.write_coset.Goals as goal
@@ -71,10 +70,3 @@ returns c =
     (coset_columns elements layout.min layout.width c.args.from cols (2 ^ c.args.lg) m c.args.ratio old cells c.requires.elements c.requires.within c.requires.points count refl rows
     (zeros_over a m (length (take m (drop a old))) old c.fill.new.self c.from.result up refl rest c.from.ensures (c.fill.ensures.after (λ y e. e))))
     c.in-Ok.ensures.values
-
-pub write_four-requires-clause-turn : goal.write_four-requires-clause-turn
-write_four-requires-clause-turn c =
-    let lg : c.args.lg ≡ 2 = c.if-lg-eq2.true in
-    let long : length c.args.table.now ≡ 2 ^ 2 = c.requires.table.count ∙ ap (λ n. 2 ^ n) lg in
-    let x = c.index-table-3.result in
-    table-turn c.args.lg c.args.table.now x lg c.requires.table (c.index-table-3.is ∙ get_or_default c.args.table.now 3 x nought (omega (arith, long)))

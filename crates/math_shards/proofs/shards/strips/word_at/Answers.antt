@@ -1,10 +1,7 @@
-use Rattle.std.proofs.Common.{◌∙◌, ◌-◌, sym, arith}
-use Rattle.std.proofs.lemmas.List.{get_or_past}
+use Rattle.std.proofs.Common.{◌∙◌, sym, arith}
+use Rattle.math_shards.specs.DataWords.{words_in}
 use Rattle.math_shards.proofs.PackedWords.{counted-behind}
 use Rattle.math_shards.proofs.shards.strips.word_at.Goals as goal
 
-pub returns-then-place-data : goal.returns-then-place-data
-returns-then-place-data c = sym (counted-behind c.args.data.now c.args.place (omega arith) ∙ get_or_past c.args.data.now (c.args.place - 1) 0 (omega arith))
-
 pub returns : goal.returns
-returns c = sym (counted-behind c.args.data.now c.args.place (omega arith))
+returns g c = c.word_in.ensures ∙ sym (counted-behind (words_in g.W.Word.word c.args.source.now) c.args.place (omega arith))

@@ -1,15 +1,16 @@
 use Rattle.std.proofs.Common.{ℕ, ◌+◌, ◌-◌, ◌<◌, ◌≤◌, get_or, length}
 use Rattle.math_base.specs.Elements.{same}
+use Rattle.math_shards.specs.DataWords.{words_in}
 use Rattle.math_shards.specs.Strips.{packed_at}
 use Rattle.math_shards.proofs.SameCells.{nought}
 use Rattle.math_shards.proofs.shards.strips.write_packed.Given as goal
 
 -- the elements so far
 abbrev pub invariant-loop-done : goal.invariant-loop-done
-invariant-loop-done l = record {
+invariant-loop-done g l = record {
   within : l.done ≤ length l.cells;
-  packed : (j : ℕ) → j < l.done → same (get_or l.cells j nought) (packed_at l.data (l.first + j));
+  packed : (j : ℕ) → j < l.done → same (get_or l.cells j nought) (packed_at (words_in g.W.Word.word l.source) (l.first + j));
 }
 
 abbrev pub decreases-loop-done : goal.decreases-loop-done
-decreases-loop-done l = length l.initial.cells - l.done
+decreases-loop-done g l = length l.initial.cells - l.done

@@ -1,12 +1,14 @@
 use Rattle.std.proofs.Common.{◌≡◌, ◌∙◌, ◌+◌, ◌-◌, ◌*◌, ◌≤◌, ◌^◌, length, drop, take, subst, refl, arith}
 use Rattle.std.proofs.lemmas.List.{length-drop, length-take-le}
 use Rattle.std.proofs.lemmas.Nat.{mul-le}
+use Rattle.math_shards.specs.DataWords.{words_in}
 use Rattle.math_shards.specs.Shards.{width_for}
 use Rattle.math_shards.proofs.StripColumns.{HoldRows, row-written, strip_written}
 use Rattle.math_shards.proofs.shards.strips.write_strip.Goals as goal
 
 pub loop-row-preserved : goal.loop-row-preserved
-loop-row-preserved c =
+loop-row-preserved g c =
+    let words = words_in g.W.Word.word c.args.source.now in
     let cols = c.args.cols in
     let i = c.loop-row.row in
     let layout = c.args.layout in
@@ -18,11 +20,11 @@ loop-row-preserved c =
     let e : n ≡ cols = omega arith in
     let long : length c.write_packed.new.cells ≡ n =
     c.write_packed.auto.cells ∙ length-take-le n (drop (i * cols) old) (omega (arith, within, e, length-drop (i * cols) old)) in
-    row-written c.args.data.now layout.width c.args.from cols i n old c.write_packed.new.cells e within long c.loop-row.invariant c.write_packed.ensures
+    row-written words layout.width c.args.from cols i n old c.write_packed.new.cells e within long c.loop-row.invariant c.write_packed.ensures
 
 pub returns : goal.returns
-returns c =
-    let words = c.args.data.now in
+returns g c =
+    let words = words_in g.W.Word.word c.args.source.now in
     let layout = c.args.layout in
     let from = c.args.from in
     let cols = c.args.cols in

@@ -1,4 +1,5 @@
-use Rattle.std.proofs.Common.{◌≤◌, ◌^◌, length, take}
+use Rattle.std.proofs.Common.{◌<◌, ◌≤◌, ◌^◌, length, take}
+use Rattle.std.specs.List.{All, Contains}
 use Rattle.math_shards.specs.Weights.{AreChosen}
 use Rattle.math_shards.proofs.ChosenRows.{AreMarked}
 use Rattle.math_shards.proofs.shards.weighing.chosen.Given as goal
@@ -8,5 +9,6 @@ abbrev pub invariant-loop-row : goal.invariant-loop-row
 invariant-loop-row g l = record {
   few : length l.indices.items ≤ l.min;
   marked : AreMarked (2 ^ l.lg) l.indices.items l.points;
-  rows : AreChosen g.R.Row.index g.R.Row.cells l.width (take l.row-index l.rows) l.indices.items l.cells.items;
+  rows : AreChosen g.R.Row.index g.R.Row.cells (take l.row-index l.rows) l.indices.items l.cells.items;
+  all : length l.indices.items < l.min → All (λ row. Contains l.indices.items (g.R.Row.index row)) (take l.row-index l.rows);
 }

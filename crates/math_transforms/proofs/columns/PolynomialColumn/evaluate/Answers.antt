@@ -1,5 +1,5 @@
 use Rattle.std.proofs.Common.{◌≡◌, ◌∙◌, ◌^◌, ◌++◌, List, length, take, drop, refl, ap, subst, arith}
-use Rattle.math_transforms.proofs.Members.{ring_members}
+use Rattle.math_base.proofs.Members.{ring_members}
 use Rattle.math_transforms.specs.DomainValues.{matrix_of, one_column, AreValuesOnDomain}
 use Rattle.math_base.proofs.WholeWrites.{take-written}
 use Rattle.math_transforms.proofs.OnDomain.{values-on_domain}

@@ -1,5 +1,5 @@
 use Rattle.std.proofs.Common.{◌≡◌, ◌+◌, not, eqb}
-use Rattle.math_transforms.proofs.Members.{ring_members}
+use Rattle.math_base.proofs.Members.{ring_members}
 use Rattle.math_transforms.specs.CombinedCells.{AreCombined}
 use Rattle.math_transforms.proofs.transform.butterflies.combine_cells.Given as goal
 

@@ -1,8 +1,37 @@
-use Rattle.std.proofs.Common.{◌∙◌, ◌≡◌, ◌*◌, ◌^◌, length}
+use Rattle.std.proofs.Common.{◌∙◌, arith}
 use Rattle.math_theory.proofs.domains.MergedPieces.{root-inverse}
-use Rattle.math_transforms.proofs.Members.{ring_members}
 use Rattle.math_transforms.proofs.CosetRows.{values-moved}
+use Rattle.math_base.proofs.Members.{ring_members}
+use Rattle.math_transforms.proofs.RootInverses.{inverse-tree_squares}
+use Rattle.math_transforms.proofs.TreeEntries.{root-tree, tree-ones}
 use Rattle.math_transforms.proofs.transform.coset.move_rows.Goals as goal
+
+pub interpolate_below-requires-clause-tree : goal.interpolate_below-requires-clause-tree
+interpolate_below-requires-clause-tree g c =
+    let R = ring_members g.F.Multiplicative.product g.F.Debug.debug_output g.F.Object.same g.F.Object.NEVER_REFUSES g.F.Additive.zero g.F.Additive.sum g.F.Additive.negative g.F.Ring.one in
+    let F = g.met.F in
+    root-tree R F.Object.equality F.Additive.group F.Multiplicative.commutes F.Ring.ring (λ l. g.F.Field.inverse (g.F.FieldNTT.root l)) g.F.Ring.one c.args.lg c.args.interpolation.now
+    (inverse-tree_squares F.Object.equality F.Additive.group F.Multiplicative.commutes F.Ring.ring F.Field.field F.FieldNTT.roots c.args.lg c.requires.domain) c.requires.interpolation
+
+pub interpolate_below-requires-clause-one : goal.interpolate_below-requires-clause-one
+interpolate_below-requires-clause-one g c =
+    let R = ring_members g.F.Multiplicative.product g.F.Debug.debug_output g.F.Object.same g.F.Object.NEVER_REFUSES g.F.Additive.zero g.F.Additive.sum g.F.Additive.negative g.F.Ring.one in
+    let F = g.met.F in
+    λ one. tree-ones R F.Object.equality F.Additive.group F.Multiplicative.commutes F.Ring.ring (λ l. g.F.Field.inverse (g.F.FieldNTT.root l)) c.args.lg c.args.interpolation.now
+    c.requires.interpolation
+
+pub interpolate_below-requires-clause-within : goal.interpolate_below-requires-clause-within
+interpolate_below-requires-clause-within g c = omega (arith, c.requires.interpolation.count)
+
+pub evaluate_below-requires-clause-tree : goal.evaluate_below-requires-clause-tree
+evaluate_below-requires-clause-tree g c =
+    let R = ring_members g.F.Multiplicative.product g.F.Debug.debug_output g.F.Object.same g.F.Object.NEVER_REFUSES g.F.Additive.zero g.F.Additive.sum g.F.Additive.negative g.F.Ring.one in
+    let F = g.met.F in
+    root-tree R F.Object.equality F.Additive.group F.Multiplicative.commutes F.Ring.ring g.F.FieldNTT.root g.F.FieldNTT.shift c.args.lg c.args.coset.now
+    (λ l within. F.FieldNTT.roots.square l (omega (arith, within, c.requires.domain))) c.requires.coset
+
+pub evaluate_below-requires-clause-within : goal.evaluate_below-requires-clause-within
+evaluate_below-requires-clause-within g c = omega (arith, c.requires.coset.count)
 
 pub returns-clause-moved : goal.returns-clause-moved
 returns-clause-moved g c =
@@ -10,9 +39,7 @@ returns-clause-moved g c =
     let F = g.met.F in
     let order = F.FieldNTT.roots.order c.args.lg c.requires.domain in
     let unit = root-inverse F.Object.equality F.Additive.group F.Multiplicative.commutes F.Ring.ring F.Field.field _ _ order in
-    let mid : length c.untransform_halves.new.cells ≡ 2 ^ c.args.lg * c.args.cols = c.untransform_halves.auto.cells ∙ c.requires.size in
-    let scaled : length c.multiply_rows.new.cells ≡ 2 ^ c.args.lg * c.args.cols = c.multiply_rows.auto.cells ∙ mid in
-    values-moved R F.Object.equality F.Additive.group F.Multiplicative.commutes F.Ring.ring g.F.Field.inverse F.Field.field c.args.lg c.args.cols (g.F.FieldNTT.root c.args.lg)
-    order (g.F.Field.inverse (g.F.FieldNTT.root c.args.lg)) g.F.FieldNTT.shift c.args.factors.now c.args.cells.now c.untransform_halves.new.cells c.multiply_rows.new.cells
-    c.transform_halves.new.cells unit c.requires.factors c.requires.size mid scaled (c.transform_halves.auto.cells ∙ scaled)
-    c.in_ok-untransform_halves.ensures.values (rw c.requires.factors.count at c.in_ok-multiply_rows.ensures) c.in_ok-transform_halves.ensures.values
+    values-moved R F.Object.equality F.Additive.group F.Multiplicative.commutes F.Ring.ring F.Field.field g.F.FieldNTT.root (λ l. g.F.Field.inverse (g.F.FieldNTT.root l))
+    g.F.FieldNTT.shift (g.F.FieldNTT.half g.F.Ring.one) c.args.lg c.args.cols c.args.interpolation.now c.args.coset.now c.args.cells.now c.interpolate_below.new.cells
+    c.evaluate_below.new.cells order c.requires.some unit (F.FieldNTT.roots.half_twice g.F.Ring.one) c.requires.interpolation c.requires.coset
+    (c.interpolate_below.auto.cells ∙ c.requires.size) c.in_ok-interpolate_below.ensures.values c.in_ok-evaluate_below.ensures.values

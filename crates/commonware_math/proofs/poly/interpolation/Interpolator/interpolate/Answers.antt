@@ -2,7 +2,7 @@ use Rattle.std.proofs.Common.{◌≡◌, refl}
 use Rattle.std.specs.Cmp.Lexicographic.{slice_cmp}
 use Rattle.std.specs.Map.{keys_of}
 use Rattle.commonware_math.proofs.EqualKeys.{differing_keys, equal_keys}
-use Rattle.commonware_math.proofs.InterpolatorLaws.{interpolated-value}
+use Rattle.math_poly.proofs.InterpolatedValues.{interpolated-value}
 use Rattle.commonware_math.proofs.poly.interpolation.Interpolator.interpolate.Goals as goal
 
 pub returns-then-is_ne-clause-keys : goal.returns-then-is_ne-clause-keys

@@ -2,7 +2,7 @@ use Rattle.std.proofs.Common.{◌≡◌, ◌∙◌, ℕ, ◌+◌, ◌-◌, ◌*�
 use Rattle.math_theory.specs.Recovery.{count_true}
 use Rattle.math_transforms.specs.CountedWork.{AddsWithin}
 use Rattle.math_transforms.specs.Matrices.{MatrixOf}
-use Rattle.math_transforms.proofs.Members.{ring_members}
+use Rattle.math_base.proofs.Members.{ring_members}
 use Rattle.math_ntt.specs.CorrectedRows.{AreWithinRadius, IsCorrected}
 use Rattle.math_ntt.specs.Evaluations.{EvaluationsOf}
 use Rattle.math_ntt.specs.RecoveredRows.{IsExactWork}

@@ -5,7 +5,7 @@ use Rattle.math_ntt.specs.Evaluations.{EvaluationsOf}
 use Rattle.math_transforms.specs.DomainValues.{matrix_of}
 use Rattle.math_ntt.specs.RecoveredRows.{AreOnlyRecovered, IsExactWork}
 use Rattle.math_transforms.specs.CountedWork.{AddsWithin}
-use Rattle.math_transforms.proofs.Members.{ring_members}
+use Rattle.math_base.proofs.Members.{ring_members}
 use Rattle.math_ntt.proofs.RecoveredWholes.{evaluations, most-at_any, exact-at_any, only-recovered}
 use Rattle.math_ntt.proofs.ntt.evaluations.EvaluationVector.recover_counted.Goals as goal
 

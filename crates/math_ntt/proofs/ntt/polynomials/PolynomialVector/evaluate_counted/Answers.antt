@@ -1,5 +1,5 @@
 use Rattle.std.proofs.Common.{◌≡◌, ◌∙◌, ◌+◌, ◌*◌, ◌^◌, ◌++◌, ℕ, length, take, drop, refl, ap, subst}
-use Rattle.math_transforms.proofs.Members.{ring_members}
+use Rattle.math_base.proofs.Members.{ring_members}
 use Rattle.math_transforms.specs.CountedWork.{AddsAtMost}
 use Rattle.math_transforms.specs.DomainValues.{matrix_of, AreValuesOnDomain}
 use Rattle.math_transforms.specs.Matrices.{MatrixOf}

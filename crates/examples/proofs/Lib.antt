@@ -1,0 +1,3 @@
+pub mod DealtSecrets
+pub mod JoinedWords
+pub mod RecoveredRows

@@ -1,0 +1,44 @@
+use Rattle.std.proofs.Common.{◌≡◌, ◌∙◌, ◌*◌, ◌<◌, ◌≤◌, ◌^◌, ℕ, List, length, take, sym, ap, subst, arith}
+use Rattle.std.proofs.lemmas.List.{length-take-le}
+use Rattle.std.proofs.lemmas.Nat.{mul-le}
+use Rattle.math_base.specs.declared.fields.goldilocks.F.{F}
+use Rattle.std.specs.List.{All}
+use Rattle.math_shards.specs.Fitting.{AreDataOf}
+use Rattle.math_shards.specs.Joining.{ArePolynomialsOf}
+use Rattle.math_shards.proofs.JoinedRows.{width_of_data}
+use Rattle.math_shards.proofs.ShardRows.{cells_of_recovered, polynomials_of_rows}
+use Rattle.math_shards.proofs.shards.correcting.data_of.Goals as goal
+
+pub data_count-requires-clause-size : goal.data_count-requires-clause-size
+data_count-requires-clause-size c =
+    let q = c.args.polynomials.now in
+    let all : c.args.min * c.args.width ≤ q.rows * c.args.width = mul-le c.args.min c.args.width q.rows c.args.width c.requires.rows (omega arith) in
+    ap length (c.deref.ensures.value ∙ c.in_ok-elements.ensures ∙ ap (λ w. take (c.args.min * w) q.cells) c.requires.size.1)
+    ∙ length-take-le (c.args.min * c.args.width) q.cells (omega (arith, all, c.requires.size.2))
+
+pub returns-in_default-clause-none : goal.returns-in_default-clause-none
+returns-in_default-clause-none c = λ words each_word few same_as.
+    let q = c.args.polynomials.now in
+    let cells = cells_of_recovered words c.args.min q.rows c.args.width q c.requires.some c.requires.rows c.requires.size same_as in
+    absurd ((rw c.in_default.is at c.data_count.ensures.none) words
+    (record { each_word = each_word; few = few; packed = c.deref.ensures.value ∙ c.in_ok-elements.ensures ∙ cells }))
+
+pub returns-clause-each_word : goal.returns-clause-each_word
+returns-clause-each_word c =
+    let found = rw c.in-Some.is at c.data_count.ensures.some in
+    let are : AreDataOf found.0 c.args.min c.deref-2.result.now = subst (λ (xs : List F). AreDataOf found.0 c.args.min xs) (c.deref.ensures.value ∙ sym c.deref-2.ensures.value) found.2 in
+    subst (λ (ws : List ℕ). All (λ word. word < 2 ^ 64) ws) (sym (c.in_ok-words.ensures found.0 c.args.min found.1 are)) found.2.each_word
+
+pub returns-clause-some : goal.returns-clause-some
+returns-clause-some c =
+    let q = c.args.polynomials.now in
+    let min = c.args.min in
+    let width = c.args.width in
+    let found = rw c.in-Some.is at c.data_count.ensures.some in
+    let are : AreDataOf found.0 min c.deref-2.result.now = subst (λ (xs : List F). AreDataOf found.0 min xs) (c.deref.ensures.value ∙ sym c.deref-2.ensures.value) found.2 in
+    let front : c.deref.result.now ≡ take (min * width) q.cells = c.deref.ensures.value ∙ c.in_ok-elements.ensures ∙ ap (λ w. take (min * w) q.cells) c.requires.size.1 in
+    let all : min * width ≤ q.rows * width = mul-le min width q.rows width c.requires.rows (omega arith) in
+    let size : length c.deref.result.now ≡ min * width = ap length front ∙ length-take-le (min * width) q.cells (omega (arith, all, c.requires.size.2)) in
+    subst (λ (ws : List ℕ). ArePolynomialsOf ws min q) (sym (c.in_ok-words.ensures found.0 min found.1 are))
+    (polynomials_of_rows found.0 min q.rows width q c.requires.some c.requires.rows c.requires.size (width_of_data found.0 min width c.deref.result.now c.requires.some size found.2)
+    (sym front ∙ found.2.packed) c.requires.short)

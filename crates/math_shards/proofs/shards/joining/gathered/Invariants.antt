@@ -1,8 +1,0 @@
-use Rattle.std.proofs.Common.{◌^◌, ℕ, length}
-use Rattle.std.specs.Int.{IsNextPowerOfTwo}
-use Rattle.math_shards.proofs.GatheredShards.{HoldsFirst}
-use Rattle.math_shards.proofs.shards.joining.gathered.Given as goal
-
--- 2^lg is the number of points, and the shards so far are held
-abbrev pub invariant-loop-shard : goal.invariant-loop-shard
-invariant-loop-shard l = (lg : ℕ) × IsNextPowerOfTwo l.first.total (2 ^ lg) × HoldsFirst lg (length l.first.cells.items) l.shards l.shard-index l.values

@@ -1,0 +1,37 @@
+use Rattle.std.proofs.Common.{List, refl, subst, sym}
+use Rattle.std.proofs.lemmas.Result.{err_from_is_err_and}
+use Rattle.math_base.specs.declared.fields.goldilocks.F.{F}
+use Rattle.math_shards.specs.Fitting.{AreDataOf}
+use Rattle.math_shards.specs.Joining.{HaveConflict}
+use Rattle.math_shards.specs.Shards.{JoinTo, distinct_indices}
+use Rattle.math_shards.proofs.DueErrors.{due_beside, rows_due, unsound_due}
+use Rattle.math_shards.proofs.JoinedRows.{join_of_fit}
+use Rattle.math_shards.proofs.shards.joining.joined_data.Goals as goal
+
+pub returns-in_err-check_numbers-clause-err : goal.returns-in_err-check_numbers-clause-err
+returns-in_err-check_numbers-clause-err c =
+    let q = err_from_is_err_and c.from_residual.result c.from_residual.ensures.1 in
+    let item = c.in-Some.ensures.item in
+    let e = c.in_err-check_numbers.field-0.0 in
+    let due = unsound_due HaveConflict distinct_indices JoinTo c.in-Some.first.now c.args.shards.now e c.in_err-check_numbers.ensures.err in
+    rw (q.1, q.2) (due_beside HaveConflict distinct_indices JoinTo c.in-Some.first.now c.args.shards.now e item.3.0 (sym item.1) due)
+
+pub returns-in_err-elements-clause-err : goal.returns-in_err-elements-clause-err
+returns-in_err-elements-clause-err c =
+    let q = err_from_is_err_and c.from_residual-in_err-elements.result c.from_residual-in_err-elements.ensures.1 in
+    let item = c.in-Some.ensures.item in
+    let first = c.in-Some.first.now in
+    let shards = c.args.shards.now in
+    let e = c.in_err-elements.field-0.0 in
+    let due = rows_due first shards e c.in_ok-check_numbers.ensures.ok item.3.0 c.in_err-elements.ensures.err in
+    rw (q.1, q.2) (due_beside HaveConflict distinct_indices JoinTo first shards e item.3.0 (sym item.1) due)
+
+pub returns-clause-ok : goal.returns-clause-ok
+returns-clause-ok c =
+    let first = c.in-Some.first.now in
+    let shards = c.args.shards.now in
+    let sound = c.in_ok-check_numbers.ensures.ok in
+    let found = c.in_ok-elements.ensures.ok in
+    let are : AreDataOf found.0 first.min c.deref.result.now = subst (λ (xs : List F). AreDataOf found.0 first.min xs) (sym c.deref.ensures.value) found.2 in
+    subst (λ ws. JoinTo ws shards) (sym (c.in_ok-words.ensures found.0 first.min found.1 are))
+    (join_of_fit found.0 first.min first.total shards (λ i d l. (sound i d l).0.least) (λ i d l. (sound i d l).0.most) found.3)

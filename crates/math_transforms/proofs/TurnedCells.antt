@@ -1,0 +1,194 @@
+-- Four cells that are turned by two levels at once: in a commutative ring, and up to a type's own equality.
+use Rattle.std.proofs.Common.{◌≡◌, ◌≢◌, ℕ, Bool, true, false, eqb, not, List, [], ◌∷◌, refl}
+use Rattle.std.proofs.lemmas.Bool.{eq-eqb, ne_eqb}
+use Rattle.math_theory.specs.Laws.{IsEquality, IsGroup, IsProduct, IsRing}
+use Rattle.math_theory.specs.Rings.{CommutativeRing}
+use Rattle.math_theory.proofs.classes.Classes.{Class, class, class_same, same_class, ring_of_classes}
+use Rattle.math_theory.proofs.rings.Normal.{ring, ◌⊕◌, ◌⊗◌, minus, 𝟙, v0, v1, v2, v3, v4, v5, v6}
+use Rattle.math_base.specs.Members.{RingOf}
+use Rattle.math_transforms.specs.CombinedCells.{IsCombined}
+use Rattle.math_transforms.specs.Quarters.{IsTurned}
+use Rattle.math_transforms.proofs.PointsBelow.{plain}
+
+module _ {K : Type 0} (C : CommutativeRing K) (e f g a b c d : K) where
+  -- forward, by three products and one by the root of order four
+  four-forward-plain : (turn eg one a1 b1 b2 c1 d1 d2 new_a new_b new_c new_d : K) → eg ≡ C.product e g → one ≡ C.one
+      → IsCombined (plain C) true g a c a1 c1 → b1 ≡ C.product b e → IsCombined (plain C) true eg b1 d b2 d1 → d2 ≡ C.product d1 turn
+      → IsCombined (plain C) true one a1 b2 new_a new_b → IsCombined (plain C) true one c1 d2 new_c new_d
+      → IsTurned (plain C) true e (C.product e turn) g a b c d new_a new_b new_c new_d
+  four-forward-plain turn eg one a1 b1 b2 c1 d1 d2 new_a new_b new_c new_d product_is one_is h hb k hd l m =
+      let xs : List K = a ∷ b ∷ c ∷ d ∷ e ∷ g ∷ turn ∷ [] in
+      record {
+        first = rw (l.sum, h.sum, k.sum, hb, product_is, one_is) (ring C xs ((v0 ⊕ (v2 ⊗ v5)) ⊕ (((v1 ⊗ v4) ⊕ (v3 ⊗ (v4 ⊗ v5))) ⊗ 𝟙)) ((v0 ⊕ (v2 ⊗ v5)) ⊕ ((v1 ⊕ (v3 ⊗ v5)) ⊗ v4)) refl);
+        second = rw (l.difference, h.sum, k.sum, hb, product_is, one_is)
+            (ring C xs ((v0 ⊕ (v2 ⊗ v5)) ⊕ minus (((v1 ⊗ v4) ⊕ (v3 ⊗ (v4 ⊗ v5))) ⊗ 𝟙)) ((v0 ⊕ (v2 ⊗ v5)) ⊕ minus ((v1 ⊕ (v3 ⊗ v5)) ⊗ v4)) refl);
+        third = rw (m.sum, h.difference, hd, k.difference, hb, product_is, one_is)
+            (ring C xs ((v0 ⊕ minus (v2 ⊗ v5)) ⊕ ((((v1 ⊗ v4) ⊕ minus (v3 ⊗ (v4 ⊗ v5))) ⊗ v6) ⊗ 𝟙)) ((v0 ⊕ minus (v2 ⊗ v5)) ⊕ ((v1 ⊕ minus (v3 ⊗ v5)) ⊗ (v4 ⊗ v6))) refl);
+        fourth = rw (m.difference, h.difference, hd, k.difference, hb, product_is, one_is)
+            (ring C xs ((v0 ⊕ minus (v2 ⊗ v5)) ⊕ minus ((((v1 ⊗ v4) ⊕ minus (v3 ⊗ (v4 ⊗ v5))) ⊗ v6) ⊗ 𝟙)) ((v0 ⊕ minus (v2 ⊗ v5)) ⊕ minus ((v1 ⊕ minus (v3 ⊗ v5)) ⊗ (v4 ⊗ v6))) refl);
+      }
+
+  -- and on the way back
+  four-back-plain : (turn eg one a1 b1 b2 c1 d1 d2 new_a new_b new_c new_d : K) → eg ≡ C.product e g → one ≡ C.one
+      → IsCombined (plain C) false one a b a1 b1 → IsCombined (plain C) false one c d c1 d1 → d2 ≡ C.product d1 turn
+      → IsCombined (plain C) false g a1 c1 new_a new_c → IsCombined (plain C) false eg b1 d2 b2 new_d → new_b ≡ C.product b2 e
+      → IsTurned (plain C) false e (C.product e turn) g a b c d new_a new_b new_c new_d
+  four-back-plain turn eg one a1 b1 b2 c1 d1 d2 new_a new_b new_c new_d product_is one_is h k hd l m hb =
+      let xs : List K = a ∷ b ∷ c ∷ d ∷ e ∷ g ∷ turn ∷ [] in
+      record {
+        first = rw (l.sum, h.sum, k.sum) refl;
+        second = rw (hb, m.sum, hd, h.difference, k.difference, one_is)
+            (ring C xs ((((v0 ⊕ minus v1) ⊗ 𝟙) ⊕ (((v2 ⊕ minus v3) ⊗ 𝟙) ⊗ v6)) ⊗ v4) (((v0 ⊕ minus v1) ⊗ v4) ⊕ ((v2 ⊕ minus v3) ⊗ (v4 ⊗ v6))) refl);
+        third = rw (l.difference, h.sum, k.sum) refl;
+        fourth = rw (m.difference, hd, h.difference, k.difference, one_is, product_is)
+            (ring C xs ((((v0 ⊕ minus v1) ⊗ 𝟙) ⊕ minus (((v2 ⊕ minus v3) ⊗ 𝟙) ⊗ v6)) ⊗ (v4 ⊗ v5)) ((((v0 ⊕ minus v1) ⊗ v4) ⊕ minus ((v2 ⊕ minus v3) ⊗ (v4 ⊗ v6))) ⊗ v5) refl);
+      }
+
+  -- by four weights
+  weights-forward-plain : (a1 b1 c1 d1 new_a new_b new_c new_d : K) → IsCombined (plain C) true g a c a1 c1 → IsCombined (plain C) true g b d b1 d1
+      → IsCombined (plain C) true e a1 b1 new_a new_b → IsCombined (plain C) true f c1 d1 new_c new_d → IsTurned (plain C) true e f g a b c d new_a new_b new_c new_d
+  weights-forward-plain a1 b1 c1 d1 new_a new_b new_c new_d h k l m = record {
+    first = rw (l.sum, h.sum, k.sum) refl;
+    second = rw (l.difference, h.sum, k.sum) refl;
+    third = rw (m.sum, h.difference, k.difference) refl;
+    fourth = rw (m.difference, h.difference, k.difference) refl;
+  }
+
+  weights-back-plain : (a1 b1 c1 d1 new_a new_b new_c new_d : K) → IsCombined (plain C) false e a b a1 b1 → IsCombined (plain C) false f c d c1 d1
+      → IsCombined (plain C) false g a1 c1 new_a new_c → IsCombined (plain C) false g b1 d1 new_b new_d → IsTurned (plain C) false e f g a b c d new_a new_b new_c new_d
+  weights-back-plain a1 b1 c1 d1 new_a new_b new_c new_d h k l m = record {
+    first = rw (l.sum, h.sum, k.sum) refl;
+    second = rw (m.sum, h.difference, k.difference) refl;
+    third = rw (l.difference, h.sum, k.sum) refl;
+    fourth = rw (m.difference, h.difference, k.difference) refl;
+  }
+
+  -- without a weight
+  one-forward-plain : (turn one a1 b1 c1 d1 d2 new_a new_b new_c new_d : K) → one ≡ C.one
+      → IsCombined (plain C) true one a c a1 c1 → IsCombined (plain C) true one b d b1 d1 → d2 ≡ C.product d1 turn
+      → IsCombined (plain C) true one a1 b1 new_a new_b → IsCombined (plain C) true one c1 d2 new_c new_d
+      → IsTurned (plain C) true C.one turn C.one a b c d new_a new_b new_c new_d
+  one-forward-plain turn one a1 b1 c1 d1 d2 new_a new_b new_c new_d one_is h k hd l m =
+      let xs : List K = a ∷ b ∷ c ∷ d ∷ turn ∷ [] in
+      record {
+        first = rw (l.sum, h.sum, k.sum, one_is) refl;
+        second = rw (l.difference, h.sum, k.sum, one_is) refl;
+        third = rw (m.sum, h.difference, hd, k.difference, one_is)
+            (ring C xs ((v0 ⊕ minus (v2 ⊗ 𝟙)) ⊕ (((v1 ⊕ minus (v3 ⊗ 𝟙)) ⊗ v4) ⊗ 𝟙)) ((v0 ⊕ minus (v2 ⊗ 𝟙)) ⊕ ((v1 ⊕ minus (v3 ⊗ 𝟙)) ⊗ v4)) refl);
+        fourth = rw (m.difference, h.difference, hd, k.difference, one_is)
+            (ring C xs ((v0 ⊕ minus (v2 ⊗ 𝟙)) ⊕ minus (((v1 ⊕ minus (v3 ⊗ 𝟙)) ⊗ v4) ⊗ 𝟙)) ((v0 ⊕ minus (v2 ⊗ 𝟙)) ⊕ minus ((v1 ⊕ minus (v3 ⊗ 𝟙)) ⊗ v4)) refl);
+      }
+
+  one-back-plain : (turn one a1 b1 c1 d1 d2 new_a new_b new_c new_d : K) → one ≡ C.one
+      → IsCombined (plain C) false one a b a1 b1 → IsCombined (plain C) false one c d c1 d1 → d2 ≡ C.product d1 turn
+      → IsCombined (plain C) false one a1 c1 new_a new_c → IsCombined (plain C) false one b1 d2 new_b new_d
+      → IsTurned (plain C) false C.one turn C.one a b c d new_a new_b new_c new_d
+  one-back-plain turn one a1 b1 c1 d1 d2 new_a new_b new_c new_d one_is h k hd l m =
+      let xs : List K = a ∷ b ∷ c ∷ d ∷ turn ∷ [] in
+      record {
+        first = rw (l.sum, h.sum, k.sum) refl;
+        second = rw (m.sum, hd, h.difference, k.difference, one_is)
+            (ring C xs (((v0 ⊕ minus v1) ⊗ 𝟙) ⊕ (((v2 ⊕ minus v3) ⊗ 𝟙) ⊗ v4)) (((v0 ⊕ minus v1) ⊗ 𝟙) ⊕ ((v2 ⊕ minus v3) ⊗ v4)) refl);
+        third = rw (l.difference, h.sum, k.sum, one_is) refl;
+        fourth = rw (m.difference, hd, h.difference, k.difference, one_is)
+            (ring C xs ((((v0 ⊕ minus v1) ⊗ 𝟙) ⊕ minus (((v2 ⊕ minus v3) ⊗ 𝟙) ⊗ v4)) ⊗ 𝟙) ((((v0 ⊕ minus v1) ⊗ 𝟙) ⊕ minus ((v2 ⊕ minus v3) ⊗ v4)) ⊗ 𝟙) refl);
+      }
+
+module _ {A : Type 0} (R : RingOf A) (E : IsEquality R.same) (G : IsGroup R.same R.zero R.sum R.negative) (P : IsProduct R.same R.product) (L : IsRing R.same R.sum R.product R.one) where
+  abbrev C : CommutativeRing (Class E)
+  C = ring_of_classes E G P L
+
+  -- to the classes, and back
+  pub combined-class : (forward : Bool) (w a b low high : A) → IsCombined R forward w a b low high → IsCombined (plain C) forward (class E w) (class E a) (class E b) (class E low) (class E high)
+  combined-class true w a b low high h = record { sum = class_same E _ _ h.sum; difference = class_same E _ _ h.difference }
+  combined-class false w a b low high h = record { sum = class_same E _ _ h.sum; difference = class_same E _ _ h.difference }
+
+  pub turned-class : (forward : Bool) (e f g a b c d new_a new_b new_c new_d : A) → IsTurned R forward e f g a b c d new_a new_b new_c new_d
+      → IsTurned (plain C) forward (class E e) (class E f) (class E g) (class E a) (class E b) (class E c) (class E d) (class E new_a) (class E new_b) (class E new_c) (class E new_d)
+  turned-class true e f g a b c d new_a new_b new_c new_d h = record { first = class_same E _ _ h.first; second = class_same E _ _ h.second; third = class_same E _ _ h.third; fourth = class_same E _ _ h.fourth }
+  turned-class false e f g a b c d new_a new_b new_c new_d h = record { first = class_same E _ _ h.first; second = class_same E _ _ h.second; third = class_same E _ _ h.third; fourth = class_same E _ _ h.fourth }
+
+  turned-same : (forward : Bool) (e f g a b c d new_a new_b new_c new_d : A)
+      → IsTurned (plain C) forward (class E e) (class E f) (class E g) (class E a) (class E b) (class E c) (class E d) (class E new_a) (class E new_b) (class E new_c) (class E new_d)
+      → IsTurned R forward e f g a b c d new_a new_b new_c new_d
+  turned-same true e f g a b c d new_a new_b new_c new_d h = record { first = same_class E _ _ h.first; second = same_class E _ _ h.second; third = same_class E _ _ h.third; fourth = same_class E _ _ h.fourth }
+  turned-same false e f g a b c d new_a new_b new_c new_d h = record { first = same_class E _ _ h.first; second = same_class E _ _ h.second; third = same_class E _ _ h.third; fourth = same_class E _ _ h.fourth }
+
+  -- by the same weights
+  pub turned-by : (forward : Bool) (e e' f f' g g' a b c d new_a new_b new_c new_d : A) → R.same e e' → R.same f f' → R.same g g'
+      → IsTurned R forward e f g a b c d new_a new_b new_c new_d → IsTurned R forward e' f' g' a b c d new_a new_b new_c new_d
+  turned-by forward e e' f f' g g' a b c d new_a new_b new_c new_d he hf hg h =
+      turned-same forward e' f' g' a b c d new_a new_b new_c new_d
+      (rw (class_same E e e' he, class_same E f f' hf, class_same E g g' hg) at (turned-class forward e f g a b c d new_a new_b new_c new_d h))
+
+  module _ (n : ℕ) (e f g a b c d : A) where
+    -- where the number that stands for forward is not zero
+    at-forward : n ≢ 0 → (e f g new_a new_b new_c new_d : A) → IsTurned R true e f g a b c d new_a new_b new_c new_d → IsTurned R (not (eqb n 0)) e f g a b c d new_a new_b new_c new_d
+    at-forward s e f g new_a new_b new_c new_d h = rw (ne_eqb n 0 s) h
+
+    at-back : n ≡ 0 → (e f g new_a new_b new_c new_d : A) → IsTurned R false e f g a b c d new_a new_b new_c new_d → IsTurned R (not (eqb n 0)) e f g a b c d new_a new_b new_c new_d
+    at-back s e f g new_a new_b new_c new_d h = rw (eq-eqb n 0 s) h
+
+    pub weights-forward : n ≢ 0 → (a1 b1 c1 d1 new_a new_b new_c new_d : A) → IsCombined R true g a c a1 c1 → IsCombined R true g b d b1 d1
+        → IsCombined R true e a1 b1 new_a new_b → IsCombined R true f c1 d1 new_c new_d → IsTurned R (not (eqb n 0)) e f g a b c d new_a new_b new_c new_d
+    weights-forward s a1 b1 c1 d1 new_a new_b new_c new_d h k l m =
+        at-forward s e f g new_a new_b new_c new_d
+        (turned-same true e f g a b c d new_a new_b new_c new_d
+        (weights-forward-plain C (class E e) (class E f) (class E g) (class E a) (class E b) (class E c) (class E d) (class E a1) (class E b1) (class E c1) (class E d1) (class E new_a) (class E new_b) (class E new_c) (class E new_d)
+        (combined-class true _ _ _ _ _ h) (combined-class true _ _ _ _ _ k) (combined-class true _ _ _ _ _ l) (combined-class true _ _ _ _ _ m)))
+
+    pub weights-back : n ≡ 0 → (a1 b1 c1 d1 new_a new_b new_c new_d : A) → IsCombined R false e a b a1 b1 → IsCombined R false f c d c1 d1
+        → IsCombined R false g a1 c1 new_a new_c → IsCombined R false g b1 d1 new_b new_d → IsTurned R (not (eqb n 0)) e f g a b c d new_a new_b new_c new_d
+    weights-back s a1 b1 c1 d1 new_a new_b new_c new_d h k l m =
+        at-back s e f g new_a new_b new_c new_d
+        (turned-same false e f g a b c d new_a new_b new_c new_d
+        (weights-back-plain C (class E e) (class E f) (class E g) (class E a) (class E b) (class E c) (class E d) (class E a1) (class E b1) (class E c1) (class E d1) (class E new_a) (class E new_b) (class E new_c) (class E new_d)
+        (combined-class false _ _ _ _ _ h) (combined-class false _ _ _ _ _ k) (combined-class false _ _ _ _ _ l) (combined-class false _ _ _ _ _ m)))
+
+    pub four-forward : n ≢ 0 → (turn eg one a1 b1 b2 c1 d1 d2 new_a new_b new_c new_d : A) → R.same eg (R.product e g) → R.same one R.one
+        → IsCombined R true g a c a1 c1 → R.same b1 (R.product b e) → IsCombined R true eg b1 d b2 d1 → R.same d2 (R.product d1 turn)
+        → IsCombined R true one a1 b2 new_a new_b → IsCombined R true one c1 d2 new_c new_d
+        → IsTurned R (not (eqb n 0)) e (R.product e turn) g a b c d new_a new_b new_c new_d
+    four-forward s turn eg one a1 b1 b2 c1 d1 d2 new_a new_b new_c new_d product_is one_is h hb k hd l m =
+        at-forward s e (R.product e turn) g new_a new_b new_c new_d
+        (turned-same true e (R.product e turn) g a b c d new_a new_b new_c new_d
+        (four-forward-plain C (class E e) (class E f) (class E g) (class E a) (class E b) (class E c) (class E d) (class E turn) (class E eg) (class E one)
+        (class E a1) (class E b1) (class E b2) (class E c1) (class E d1) (class E d2) (class E new_a) (class E new_b) (class E new_c) (class E new_d)
+        (class_same E _ _ product_is) (class_same E _ _ one_is) (combined-class true _ _ _ _ _ h) (class_same E _ _ hb) (combined-class true _ _ _ _ _ k) (class_same E _ _ hd)
+        (combined-class true _ _ _ _ _ l) (combined-class true _ _ _ _ _ m)))
+
+    pub four-back : n ≡ 0 → (turn eg one a1 b1 b2 c1 d1 d2 new_a new_b new_c new_d : A) → R.same eg (R.product e g) → R.same one R.one
+        → IsCombined R false one a b a1 b1 → IsCombined R false one c d c1 d1 → R.same d2 (R.product d1 turn)
+        → IsCombined R false g a1 c1 new_a new_c → IsCombined R false eg b1 d2 b2 new_d → R.same new_b (R.product b2 e)
+        → IsTurned R (not (eqb n 0)) e (R.product e turn) g a b c d new_a new_b new_c new_d
+    four-back s turn eg one a1 b1 b2 c1 d1 d2 new_a new_b new_c new_d product_is one_is h k hd l m hb =
+        at-back s e (R.product e turn) g new_a new_b new_c new_d
+        (turned-same false e (R.product e turn) g a b c d new_a new_b new_c new_d
+        (four-back-plain C (class E e) (class E f) (class E g) (class E a) (class E b) (class E c) (class E d) (class E turn) (class E eg) (class E one)
+        (class E a1) (class E b1) (class E b2) (class E c1) (class E d1) (class E d2) (class E new_a) (class E new_b) (class E new_c) (class E new_d)
+        (class_same E _ _ product_is) (class_same E _ _ one_is) (combined-class false _ _ _ _ _ h) (combined-class false _ _ _ _ _ k) (class_same E _ _ hd)
+        (combined-class false _ _ _ _ _ l) (combined-class false _ _ _ _ _ m) (class_same E _ _ hb)))
+
+    pub one-forward : n ≢ 0 → (turn one a1 b1 c1 d1 d2 new_a new_b new_c new_d : A) → R.same one R.one
+        → IsCombined R true one a c a1 c1 → IsCombined R true one b d b1 d1 → R.same d2 (R.product d1 turn)
+        → IsCombined R true one a1 b1 new_a new_b → IsCombined R true one c1 d2 new_c new_d
+        → IsTurned R (not (eqb n 0)) R.one turn R.one a b c d new_a new_b new_c new_d
+    one-forward s turn one a1 b1 c1 d1 d2 new_a new_b new_c new_d one_is h k hd l m =
+        at-forward s R.one turn R.one new_a new_b new_c new_d
+        (turned-same true R.one turn R.one a b c d new_a new_b new_c new_d
+        (one-forward-plain C (class E e) (class E f) (class E g) (class E a) (class E b) (class E c) (class E d) (class E turn) (class E one)
+        (class E a1) (class E b1) (class E c1) (class E d1) (class E d2) (class E new_a) (class E new_b) (class E new_c) (class E new_d)
+        (class_same E _ _ one_is) (combined-class true _ _ _ _ _ h) (combined-class true _ _ _ _ _ k) (class_same E _ _ hd)
+        (combined-class true _ _ _ _ _ l) (combined-class true _ _ _ _ _ m)))
+
+    pub one-back : n ≡ 0 → (turn one a1 b1 c1 d1 d2 new_a new_b new_c new_d : A) → R.same one R.one
+        → IsCombined R false one a b a1 b1 → IsCombined R false one c d c1 d1 → R.same d2 (R.product d1 turn)
+        → IsCombined R false one a1 c1 new_a new_c → IsCombined R false one b1 d2 new_b new_d
+        → IsTurned R (not (eqb n 0)) R.one turn R.one a b c d new_a new_b new_c new_d
+    one-back s turn one a1 b1 c1 d1 d2 new_a new_b new_c new_d one_is h k hd l m =
+        at-back s R.one turn R.one new_a new_b new_c new_d
+        (turned-same false R.one turn R.one a b c d new_a new_b new_c new_d
+        (one-back-plain C (class E e) (class E f) (class E g) (class E a) (class E b) (class E c) (class E d) (class E turn) (class E one)
+        (class E a1) (class E b1) (class E c1) (class E d1) (class E d2) (class E new_a) (class E new_b) (class E new_c) (class E new_d)
+        (class_same E _ _ one_is) (combined-class false _ _ _ _ _ h) (combined-class false _ _ _ _ _ k) (class_same E _ _ hd)
+        (combined-class false _ _ _ _ _ l) (combined-class false _ _ _ _ _ m)))

@@ -1,0 +1,9 @@
+use Rattle.math_base.proofs.Members.{ring_members}
+use Rattle.shared_secret.proofs.ExplainedShares.{deals}
+use Rattle.shared_secret.proofs.laws.deals_are_explained.Goals as goal
+
+pub returns : goal.returns
+returns g c =
+    let F = g.met.F in
+    let R = ring_members g.F.Multiplicative.product g.F.Debug.debug_output g.F.Object.same g.F.Object.NEVER_REFUSES g.F.Additive.zero g.F.Additive.sum g.F.Additive.negative g.F.Ring.one in
+    deals R F.Object.equality F.Additive.group F.Multiplicative.commutes F.Ring.ring F.Field.field g.F.Random.sample
