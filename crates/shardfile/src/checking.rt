@@ -9,7 +9,7 @@ use crate::listing::{line_of, list};
 use crate::names::Wanted;
 use crate::output::owned;
 use crate::progress::Progress;
-use crate::sources::{ShardFile, count_there, gather};
+use crate::sources::{ShardFile, count_there, gather, is_want_of_room};
 use shard_blocks::cells_for;
 use shard_format::header::Header;
 use shard_format::records::{block_count, record_size};
@@ -178,12 +178,13 @@ pub fn check(rt: &HostRuntime, wanted: &Wanted, compares_all: bool) -> Result<Ch
     }
 }
 
-/// Whether the fault is one of the folder, or of the headers and lengths of the files.
+/// Whether the fault is one of the folder, or of the headers and lengths of the files. Where memory
+/// or room for an open file ran out nothing is found.
 fn is_of_headers(fault: &Fault) -> bool {
-    matches!(
-        fault,
-        Fault::Folder(..) | Fault::NoShard(_) | Fault::Tie(..) | Fault::Length(_)
-    )
+    match fault {
+        Fault::Folder(_, error) => !is_want_of_room(error),
+        fault => matches!(fault, Fault::NoShard(_) | Fault::Tie(..) | Fault::Length(_)),
+    }
 }
 
 /// A line for each file with which something is wrong.

@@ -96,8 +96,12 @@ fn open_file(rt: &HostRuntime, name: &str) -> Result<Option<File>, Fault> {
     }
 }
 
-/// Whether the error says that the system has no room for one more open file.
-fn is_want_of_room(error: &io::Error) -> bool {
+/// Whether the error says that memory ran out, or that the system has no room for one more open
+/// file.
+pub fn is_want_of_room(error: &io::Error) -> bool {
+    if error.kind() == io::ErrorKind::OutOfMemory {
+        return true;
+    }
     error
         .raw_os_error()
         .is_some_and(|code| NO_ROOM.contains(&code))
