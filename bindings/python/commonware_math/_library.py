@@ -9,6 +9,7 @@ from __future__ import annotations
 import ctypes
 import operator
 import os
+import re
 import subprocess
 import sys
 from pathlib import Path
@@ -16,6 +17,25 @@ from typing import Any, Iterator
 
 MAJOR = 1
 NAME = f"libcommonware_math.so.{MAJOR}"
+
+
+def _levels() -> list[str]:
+    """The levels of processor that this one has, by the system's loader, the highest first."""
+    try:
+        said = subprocess.run(["/lib64/ld-linux-x86-64.so.2", "--help"], capture_output=True, text=True, check=False)
+    except OSError:
+        return []
+    return re.findall(r"^ *(x86-64-v\d) \(supported", said.stdout, re.MULTILINE)
+
+
+def _in_folder(folder: Path) -> Iterator[str]:
+    """The library in the folder: the one for the highest level of this processor, where it has one, and that for all."""
+    if (folder / "glibc-hwcaps").is_dir():
+        for level in _levels():
+            path = folder / "glibc-hwcaps" / level / NAME
+            if path.exists():
+                yield str(path)
+    yield str(folder / NAME)
 
 
 def _by_pkg_config() -> Iterator[str]:
@@ -27,7 +47,7 @@ def _by_pkg_config() -> Iterator[str]:
     except OSError:
         return
     if said.returncode == 0 and said.stdout.strip():
-        yield str(Path(said.stdout.strip()) / NAME)
+        yield from _in_folder(Path(said.stdout.strip()))
 
 
 def _candidates() -> Iterator[str]:
@@ -35,12 +55,12 @@ def _candidates() -> Iterator[str]:
     named = os.environ.get("COMMONWARE_MATH_LIB")
     if named:
         path = Path(named)
-        yield str(path / NAME if path.is_dir() else path)
+        yield from _in_folder(path) if path.is_dir() else [str(path)]
         return
     yield NAME
     yield from _by_pkg_config()
     for prefix in (Path(sys.prefix), Path("/usr/local"), Path.home() / ".local"):
-        yield str(prefix / "lib" / NAME)
+        yield from _in_folder(prefix / "lib")
 
 
 def _load() -> ctypes.CDLL:

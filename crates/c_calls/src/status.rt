@@ -1,8 +1,8 @@
 //! What a call answers.
 
-ghost use Rattle.std.specs.Prelude.{◌≡◌, ◌≢◌, ◌↔◌, ◌≤◌, ◌-◌, ◌++◌, Result, length, replicate};
+ghost use Rattle.std.specs.Prelude.{◌≡◌, ◌≢◌, ◌↔◌, ◌⊎◌, ◌≤◌, ◌-◌, ◌++◌, Result, length, replicate};
 ghost use Rattle.math_codec.specs.Faults.{Fault, IsMemory, Reports};
-ghost use Rattle.c_calls.specs.Statuses.{code_of, done, out_of_memory, status_of_read, status_of_shards, text_of};
+ghost use Rattle.c_calls.specs.Statuses.{code_of, done, end_of_buffer, extra_data, out_of_memory, out_of_range, status_of_read, status_of_shards, text_of};
 
 use commonware_math::codec::Error;
 use commonware_math::shards;
@@ -58,6 +58,8 @@ pub fn of_read(error: &Error) -> Status
     ensures memory { code_of result ≡ out_of_memory ↔ IsMemory error.now }
     ensures exact { (expected : Result (Unit {0}) Fault) → Reports error.now expected
         → code_of result ≢ out_of_memory → code_of result ≡ status_of_read expected }
+    ensures statuses { (code_of result ≡ out_of_memory) ⊎ ((code_of result ≡ out_of_range)
+        ⊎ ((end_of_buffer ≤ code_of result) × (code_of result ≤ extra_data))) }
 {
     match error {
         Error::Memory(_) => Status::OutOfMemory,

@@ -15,7 +15,7 @@ use std::alloc::Global;
 use std::num::NonZeroU32;
 
 /// Writes the weights for the value at x over the points.
-pub fn at_points(alloc: Global, points: &[u64], x: u64, weights: &mut [u64]) -> Mem<()>
+pub fn write_weights(alloc: Global, points: &[u64], x: u64, weights: &mut [u64]) -> Mem<()>
     requires count { length weights.old ≡ length points.now }
     requires below { AreElements points.now }
     requires x_below { x < P }
@@ -66,7 +66,7 @@ fn copied(alloc: Global, indices: &[u32]) -> Mem<Vec<u32>>
 
 /// Writes the weights for the value at x over the powers, with these exponents, of the root whose
 /// order is `total` rounded up to a power of two.
-pub fn at_roots(
+pub fn write_weights_at_roots(
     alloc: Global,
     total: NonZeroU32,
     indices: &[u32],

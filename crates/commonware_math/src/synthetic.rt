@@ -27,6 +27,12 @@ use std::alloc::Global;
 use std::marker::Model;
 
 /// A linear combination of free generators, by their indices, and of points.
+///
+/// ```
+/// let [x, y] = Synthetic::<F, F>::generators_array::<2>(alloc)?;
+/// let sum = x.scaled(alloc, &F::from(2))?.add(alloc, &y)?;
+/// sum.eval(alloc, &[F::from(4), F::from(6)])?; // 14
+/// ```
 #[derive(Debug, Drop)]
 pub struct Synthetic<F: Ring, G: Space<F>> {
     /// The weights of the free generators, by rising index.
@@ -51,6 +57,10 @@ impl<F: Ring, G: Space<F>> Model for Synthetic<F, G> {
 
 impl<F: Ring, G: Space<F>> Synthetic<F, G> {
     /// Makes the combination of no terms, which is zero.
+    ///
+    /// ```
+    /// Synthetic::<F, F>::default(alloc).eval(alloc, &[])?; // 0
+    /// ```
     pub fn default(alloc: Global) -> Self
         ensures { result ≡ combination_zero G.zero }
     {
@@ -61,6 +71,12 @@ impl<F: Ring, G: Space<F>> Synthetic<F, G> {
     }
 
     /// Makes the combination of the given pairs of a weight and a point, with no free term.
+    ///
+    /// ```
+    /// let sum = Synthetic::concrete(alloc, vec![in alloc; (F::from(2), F::from(5))]?)?;
+    /// sum.max_free_index(); // None
+    /// sum.eval(alloc, &[])?; // 10
+    /// ```
     pub fn concrete<P: IntoIterator<Item = (F, G)>>(alloc: Global, weighted_points: P) -> Mem<Self>
     where
         P::IntoIter: Drop,
@@ -83,6 +99,11 @@ impl<F: Ring, G: Space<F>> Synthetic<F, G> {
 
     /// Returns the greatest index that is stored, even if its weight is zero. It is `None` if none
     /// is stored.
+    ///
+    /// ```
+    /// let [_, _, x] = Synthetic::<F, F>::generators_array::<3>(alloc)?;
+    /// x.max_free_index(); // Some(2)
+    /// ```
     pub fn max_free_index(&self) -> Option<u32>
         ensures none { IfNone result (self.now.0 ≡ []) }
         ensures some { IfSome result (λ i. IsGreatestIndex self.now.0 i) }
@@ -95,6 +116,11 @@ impl<F: Ring, G: Space<F>> Synthetic<F, G> {
     /// It is the sum of each generator scaled by the weight at its index, plus the sum of the
     /// points, each scaled by its weight. Each stored index has to be below the number of
     /// generators.
+    ///
+    /// ```
+    /// let [x] = Synthetic::<F, F>::generators_array::<1>(alloc)?;
+    /// x.scaled(alloc, &F::from(2))?.eval(alloc, &[F::from(4)])?; // 8
+    /// ```
     pub fn eval(self, alloc: Global, generators: &[G]) -> Mem<G>
         requires { (i : ℕ) → HasTerm self.0 i → i < length generators.now }
         ensures { IfOk result (λ answer.

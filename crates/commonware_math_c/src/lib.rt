@@ -13,7 +13,7 @@ ghost use Rattle.math_theory.specs.Interpolation.{AreApart};
 ghost use Rattle.math_theory.specs.Recovery.{count_true};
 ghost use Rattle.math_base.specs.Elements.{number, residue, same};
 ghost use Rattle.math_base.specs.Polynomials.{value_in_ring};
-ghost use Rattle.c_calls.specs.Statuses.{done, inconsistent, out_of_memory, out_of_range, repeated, too_few, wrong_size, mismatch, wrong_index, status_of_read, status_of_shards, text_of};
+ghost use Rattle.c_calls.specs.Statuses.{done, end_of_buffer, extra_data, inconsistent, out_of_memory, out_of_range, repeated, too_few, wrong_size, mismatch, wrong_index, status_of_read, status_of_shards, text_of};
 ghost use Rattle.c_calls.specs.WordCorrections.{AreCorrectedWords, HaveNearRows};
 ghost use Rattle.c_calls.specs.WordDecodings.{AreDecodedWords, HasDecodingSizes, HasNearWords};
 ghost use Rattle.c_calls.specs.WordElements.{AreElements, elements, goldilocks};
@@ -154,6 +154,7 @@ pub extern "C" fn cwm_correct(
         → (cells.new ≡ cells.old) × (wrong.new ≡ wrong.old) × (written.new ≡ written.old) }
     ensures none { result ≡ inconsistent → ¬ (HaveNearRows cols count cells.old filled.now) }
     ensures few { result ≡ too_few → count_true (truth filled.now) < count }
+    ensures enough { result ≡ inconsistent → count ≤ count_true (truth filled.now) }
     ensures range { result ≡ out_of_range
         → ¬ (All (λ b. b ≤ 1) filled.now × AreFilledElements cols cells.old filled.now) }
     ensures size { result ≡ wrong_size → ¬ (HasRowsFor (length cells.old) cols (length filled.now)
@@ -190,7 +191,7 @@ pub extern "C" fn cwm_weights(alloc: Global, points: &[u64], x: u64, weights: &m
     if x >= MODULUS || !are_elements(points) {
         return Status::OutOfRange.code();
     }
-    match weights::at_points(alloc, points, x, weights) {
+    match weights::write_weights(alloc, points, x, weights) {
         Ok(()) => Status::Done.code(),
         Err(_) => Status::OutOfMemory.code(),
     }
@@ -225,7 +226,7 @@ pub extern "C" fn cwm_weights_at_roots(
     if !weights::are_rising(total, indices) {
         return Status::WrongIndex.code();
     }
-    match weights::at_roots(alloc, nonzero, indices, x, weights) {
+    match weights::write_weights_at_roots(alloc, nonzero, indices, x, weights) {
         Ok(()) => Status::Done.code(),
         Err(_) => Status::OutOfMemory.code(),
     }
@@ -303,6 +304,7 @@ pub extern "C" fn cwm_encode_poly(
 }
 
 /// Writes the coefficients of the polynomial that the bytes encode over the first words of `out`.
+/// It takes no memory, and never answers that memory ran out.
 #[unsafe(no_mangle)]
 pub extern "C" fn cwm_decode_poly(
     alloc: Global,
@@ -316,8 +318,9 @@ pub extern "C" fn cwm_decode_poly(
     ensures kept { result ≢ done → (out.new ≡ out.old) × (count.new ≡ count.old) }
     ensures size { result ≡ wrong_size
         → (p : List ℕ) × IsEncodedBy p bytes.now × (length out.old < length p) }
-    ensures fault { result ≢ out_of_memory → result ≢ wrong_size
-        → result ≡ status_of_read (scan_polynomial bytes.now) }
+    ensures fault { result ≢ wrong_size → result ≡ status_of_read (scan_polynomial bytes.now) }
+    ensures statuses { (result ≡ done) ⊎ ((result ≡ out_of_range) ⊎ ((result ≡ wrong_size)
+        ⊎ ((end_of_buffer ≤ result) × (result ≤ extra_data)))) }
 {
     match polynomials::decode(alloc, bytes, out) {
         Ok(Some(n)) => {
@@ -585,7 +588,8 @@ pub extern "C" fn cwm_status_text(status: u32, text: &mut [u8]) -> u32
     ensures text { result ≡ done
         → text.new ≡ text_of status ++ replicate (length text.old - length (text_of status)) 0 }
     ensures kept { result ≢ done → text.new ≡ text.old }
-    ensures size { result ≢ done → (result ≡ wrong_size) × (length text.old < 32) }
+    ensures size { result ≡ wrong_size → length text.old < 32 }
+    ensures statuses { (result ≡ done) ⊎ (result ≡ wrong_size) }
 {
     if text.len() < 32 {
         return Status::WrongSize.code();

@@ -91,7 +91,7 @@ cut-waiting k waiting more positive some last =
           ∙ ap (λ l. number (take k waiting) ∷ cut k l) (drop_at (take k waiting) after k long)
     ]
 
-number_below : (k : ℕ) (bs : List ℕ) → All IsBit bs → length bs ≤ k → number bs < 2 ^ k
+pub number_below : (k : ℕ) (bs : List ℕ) → All IsBit bs → length bs ≤ k → number bs < 2 ^ k
 number_below k [] h l = pow_pos k
 number_below zero (b ∷ bs) h l = absurd (omega arith)
 number_below (suc k) (b ∷ bs) h l =

@@ -6,7 +6,7 @@ use Rattle.rand_core.specs.Stream.{Stream}
 use Rattle.math_base.specs.Samples.{before_samples, samples}
 
 -- the list that a first item was put before
-rest_of : {T : Type 0} (q : Option (List T) × Stream) (y : T) (xs : List T) (t : Stream) → ◌≡◌ {A = Option (List T) × Stream} (option_map (λ ys. y ∷ ys) q.0, q.1) (Some xs, t)
+pub rest_of : {T : Type 0} (q : Option (List T) × Stream) (y : T) (xs : List T) (t : Stream) → ◌≡◌ {A = Option (List T) × Stream} (option_map (λ ys. y ∷ ys) q.0, q.1) (Some xs, t)
     → (ys : List T) × (q ≡ (Some ys, t)) × (y ∷ ys ≡ xs)
 rest_of (None, r) y xs t e = absurd (none-some xs (ap (λ p. p.0) e))
 rest_of (Some ys, r) y xs t e = (ys, ap (λ z. (Some ys, z)) (ap (λ p. p.1) e), same_Some (y ∷ ys) xs (ap (λ p. p.0) e))

@@ -38,11 +38,20 @@ pub trait Object: Sized + Debug + Drop {
     const NEVER_REFUSES: bool;
 
     /// Returns a value that is the same as this one.
+    ///
+    /// ```
+    /// let p = Poly::from_coefficients(vec![in alloc; F::from(4), F::from(6)]?);
+    /// p.clone(alloc)?; // Poly(4 + 6 X^1)
+    /// ```
     fn clone(&self, alloc: Global) -> Mem<Self>
         ensures ok { IfOk result (λ copy. same copy self.now) }
         ensures never { IsTrue NEVER_REFUSES → IsOk result };
 
     /// Returns whether both are the same.
+    ///
+    /// ```
+    /// F::from(4).equals(alloc, &F::from(6))?; // false
+    /// ```
     fn equals(&self, alloc: Global, other: &Self) -> Mem<bool>
         ensures ok { IfOk result (λ answer. IsTrue answer ↔ same self.now other.now) }
         ensures never { IsTrue NEVER_REFUSES → IsOk result };
@@ -62,28 +71,52 @@ pub trait Additive: Object {
     ghost negative: { Self → Self };
 
     /// Returns zero.
+    ///
+    /// ```
+    /// F::zero(alloc)?; // 0
+    /// ```
     fn zero(alloc: Global) -> Mem<Self>
         ensures ok { IfOk result (λ answer. Self.same answer zero) }
         ensures never { IsTrue Self.NEVER_REFUSES → IsOk result };
 
     /// Adds `rhs` to this value. If it is refused, the value stays as it was.
+    ///
+    /// ```
+    /// let mut x = F::from(4);
+    /// x.add_assign(alloc, &F::from(6))?;
+    /// x; // 10
+    /// ```
     fn add_assign(&mut self, alloc: Global, rhs: &Self) -> Mem<()>
         ensures ok { OnOk result (Self.same self.new (sum self.old rhs.now)) }
         ensures err { OnErr result (self.new ≡ self.old) }
         ensures never { IsTrue Self.NEVER_REFUSES → IsOk result };
 
     /// Subtracts `rhs` from this value. If it is refused, the value stays as it was.
+    ///
+    /// ```
+    /// let mut x = F::from(6);
+    /// x.sub_assign(alloc, &F::from(4))?;
+    /// x; // 2
+    /// ```
     fn sub_assign(&mut self, alloc: Global, rhs: &Self) -> Mem<()>
         ensures ok { OnOk result (Self.same self.new (sum self.old (negative rhs.now))) }
         ensures err { OnErr result (self.new ≡ self.old) }
         ensures never { IsTrue Self.NEVER_REFUSES → IsOk result };
 
     /// Returns the negative.
+    ///
+    /// ```
+    /// F::from(1).neg(alloc)?; // 18446744069414584320
+    /// ```
     fn neg(self, alloc: Global) -> Mem<Self>
         ensures ok { IfOk result (λ answer. Self.same answer (negative self)) }
         ensures never { IsTrue Self.NEVER_REFUSES → IsOk result };
 
     /// Returns the sum.
+    ///
+    /// ```
+    /// F::from(4).add(alloc, &F::from(6))?; // 10
+    /// ```
     fn add(self, alloc: Global, rhs: &Self) -> Mem<Self>
         ensures ok { IfOk result (λ answer. Self.same answer (sum self rhs.now)) }
         ensures never { IsTrue Self.NEVER_REFUSES → IsOk result }
@@ -94,6 +127,10 @@ pub trait Additive: Object {
     }
 
     /// Returns the difference.
+    ///
+    /// ```
+    /// F::from(6).sub(alloc, &F::from(4))?; // 2
+    /// ```
     fn sub(self, alloc: Global, rhs: &Self) -> Mem<Self>
         ensures ok { IfOk result (λ answer. Self.same answer (sum self (negative rhs.now))) }
         ensures never { IsTrue Self.NEVER_REFUSES → IsOk result }
@@ -104,6 +141,12 @@ pub trait Additive: Object {
     }
 
     /// Adds the value to itself. If it is refused, the value stays as it was.
+    ///
+    /// ```
+    /// let mut x = F::from(4);
+    /// x.double(alloc)?;
+    /// x; // 8
+    /// ```
     fn double(&mut self, alloc: Global) -> Mem<()>
         ensures ok { OnOk result (Self.same self.new (sum self.old self.old)) }
         ensures err { OnErr result (self.new ≡ self.old) }
@@ -116,6 +159,10 @@ pub trait Additive: Object {
 
     /// Returns the n-fold sum. The limbs write the number n, the lowest limb first; no limbs write
     /// 0.
+    ///
+    /// ```
+    /// F::from(3).scale(alloc, &[4])?; // 12
+    /// ```
     fn scale(&self, alloc: Global, bits_le: &[u64]) -> Mem<Self>
         ensures ok { IfOk result (λ answer.
             Self.same answer (multiple zero sum self.now (number_of_limbs bits_le.now))) }
@@ -140,12 +187,22 @@ pub trait Multiplicative: Object {
     ghost product: { Self → Self → Self };
 
     /// Multiplies this value by `rhs`. If it is refused, the value stays as it was.
+    ///
+    /// ```
+    /// let mut x = F::from(4);
+    /// x.mul_assign(alloc, &F::from(6))?;
+    /// x; // 24
+    /// ```
     fn mul_assign(&mut self, alloc: Global, rhs: &Self) -> Mem<()>
         ensures ok { OnOk result (Self.same self.new (product self.old rhs.now)) }
         ensures err { OnErr result (self.new ≡ self.old) }
         ensures never { IsTrue Self.NEVER_REFUSES → IsOk result };
 
     /// Returns the product.
+    ///
+    /// ```
+    /// F::from(4).mul(alloc, &F::from(6))?; // 24
+    /// ```
     fn mul(self, alloc: Global, rhs: &Self) -> Mem<Self>
         ensures ok { IfOk result (λ answer. Self.same answer (product self rhs.now)) }
         ensures never { IsTrue Self.NEVER_REFUSES → IsOk result }
@@ -156,6 +213,12 @@ pub trait Multiplicative: Object {
     }
 
     /// Multiplies the value by itself. If it is refused, the value stays as it was.
+    ///
+    /// ```
+    /// let mut x = F::from(4);
+    /// x.square(alloc)?;
+    /// x; // 16
+    /// ```
     fn square(&mut self, alloc: Global) -> Mem<()>
         ensures ok { OnOk result (Self.same self.new (product self.old self.old)) }
         ensures err { OnErr result (self.new ≡ self.old) }
@@ -176,12 +239,20 @@ pub trait Ring: Additive + Multiplicative {
     ghost one: { Self };
 
     /// Returns one.
+    ///
+    /// ```
+    /// F::one(alloc)?; // 1
+    /// ```
     fn one(alloc: Global) -> Mem<Self>
         ensures ok { IfOk result (λ answer. Self.same answer one) }
         ensures never { IsTrue Self.NEVER_REFUSES → IsOk result };
 
     /// Returns the n-fold product. The limbs write the number n, the lowest limb first; no limbs
     /// write 0.
+    ///
+    /// ```
+    /// F::from(3).exp(alloc, &[4])?; // 81
+    /// ```
     fn exp(&self, alloc: Global, bits_le: &[u64]) -> Mem<Self>
         ensures ok { IfOk result (λ answer.
             Self.same answer (power one Self.product self.now (number_of_limbs bits_le.now))) }
@@ -207,6 +278,11 @@ pub trait Field: Ring {
     ghost inverse: { Self → Self };
 
     /// Returns the multiplicative inverse, and zero for zero.
+    ///
+    /// ```
+    /// let half = Field::inv(&F::from(2), alloc)?;
+    /// half.mul(alloc, &F::from(6))?; // 3
+    /// ```
     fn inv(&self, alloc: Global) -> Mem<Self>
         ensures ok { IfOk result (λ answer. Self.same answer (inverse self.now)) }
         ensures never { IsTrue Self.NEVER_REFUSES → IsOk result };
@@ -233,17 +309,31 @@ pub trait FieldNTT: Field {
 
     /// Returns the root of unity of order exactly 2^lg, or `None` exactly if lg is above
     /// `MAX_LG_ROOT_ORDER`.
+    ///
+    /// ```
+    /// <F as FieldNTT>::root_of_unity(alloc, 1)?; // Some(18446744069414584320)
+    /// <F as FieldNTT>::root_of_unity(alloc, 33)?; // None
+    /// ```
     fn root_of_unity(alloc: Global, lg: u8) -> Mem<Option<Self>>
         ensures range { IfOk result (λ answer. IsSome answer ↔ (lg ≤ MAX_LG_ROOT_ORDER)) }
         ensures ok { IfOk result (λ answer. IfSome answer (λ r. Self.same r (root lg))) }
         ensures never { IsTrue Self.NEVER_REFUSES → IsOk result };
 
     /// Returns a value that is no power of any of the roots.
+    ///
+    /// ```
+    /// let shift = F::coset_shift(alloc)?;
+    /// shift.exp(alloc, &[1 << 32])?.equals(alloc, &F::from(1))?; // false
+    /// ```
     fn coset_shift(alloc: Global) -> Mem<Self>
         ensures ok { IfOk result (λ answer. Self.same answer shift) }
         ensures never { IsTrue Self.NEVER_REFUSES → IsOk result };
 
     /// Returns the inverse of the coset shift.
+    ///
+    /// ```
+    /// F::coset_shift_inv(alloc)?.mul(alloc, &F::coset_shift(alloc)?)?; // 1
+    /// ```
     fn coset_shift_inv(alloc: Global) -> Mem<Self>
         ensures ok { IfOk result (λ answer. Self.same answer (Self.inverse shift)) }
         ensures never { IsTrue Self.NEVER_REFUSES → IsOk result }
@@ -257,6 +347,10 @@ pub trait FieldNTT: Field {
     ///
     /// Two is not zero, since the half of one times two is one. So the half is the value times the
     /// inverse of two.
+    ///
+    /// ```
+    /// FieldNTT::div_2(&F::from(6), alloc)?; // 3
+    /// ```
     fn div_2(&self, alloc: Global) -> Mem<Self>
         ensures ok { IfOk result (λ answer. Self.same answer (half self.now)) }
         ensures never { IsTrue Self.NEVER_REFUSES → IsOk result }
@@ -272,6 +366,12 @@ pub trait FieldNTT: Field {
     /// refused, the value is as it was.
     ///
     /// That is a product; a type may do it at less cost.
+    ///
+    /// ```
+    /// let mut x = F::from(3);
+    /// x.times_root_of_four(alloc, &F::from(1 << 48))?;
+    /// x; // 844424930131968
+    /// ```
     fn times_root_of_four(&mut self, alloc: Global, rhs: &Self) -> Mem<()>
         requires order { 2 ≤ MAX_LG_ROOT_ORDER }
         requires root { Self.same rhs.now (root 2) ⊎ Self.same rhs.now (Self.inverse (root 2)) }
@@ -294,12 +394,23 @@ pub trait Space<R: Ring>: Additive {
     ghost scaling: { Self → R → Self };
 
     /// Scales this value by `r`. If it is refused, the value stays as it was.
+    ///
+    /// ```
+    /// let mut p = Poly::from_coefficients(vec![in alloc; F::from(4), F::from(6)]?);
+    /// p.scale_assign(alloc, &F::from(2))?;
+    /// p; // Poly(8 + 12 X^1)
+    /// ```
     fn scale_assign(&mut self, alloc: Global, r: &R) -> Mem<()>
         ensures ok { OnOk result (Self.same self.new (scaling self.old r.now)) }
         ensures err { OnErr result (self.new ≡ self.old) }
         ensures never { IsTrue Self.NEVER_REFUSES → IsOk result };
 
     /// Returns the value scaled by `r`.
+    ///
+    /// ```
+    /// let p = Poly::from_coefficients(vec![in alloc; F::from(4), F::from(6)]?);
+    /// p.scaled(alloc, &F::from(2))?; // Poly(8 + 12 X^1)
+    /// ```
     fn scaled(self, alloc: Global, r: &R) -> Mem<Self>
         ensures ok { IfOk result (λ answer. Self.same answer (scaling self r.now)) }
         ensures never { IsTrue Self.NEVER_REFUSES → IsOk result }
@@ -311,6 +422,10 @@ pub trait Space<R: Ring>: Additive {
 
     /// Returns the sum of point i scaled by scalar i, over the shorter of both slices. It is zero
     /// for none.
+    ///
+    /// ```
+    /// F::msm(alloc, &[F::from(2), F::from(3)], &[F::from(4), F::from(6)])?; // 26
+    /// ```
     fn msm(alloc: Global, points: &[Self], scalars: &[R]) -> Mem<Self>
         ensures ok { IfOk result (λ answer.
             Self.same answer (weighted_sum Self.zero Self.sum scaling points.now scalars.now)) }
@@ -409,6 +524,10 @@ pub trait Random: Sized {
     ghost sample: { Stream → Option Self × Stream };
 
     /// Returns the next sample of the source. Nothing promises how samples are distributed.
+    ///
+    /// ```
+    /// F::random(alloc, rng)?; // 1
+    /// ```
     fn random<G: Rng + CryptoRng>(alloc: Global, rng: &mut G) -> Result<Self, RandomError>
         ensures sampled { IfOk result
             (λ x. sample (G.stream rng.old) ≡ (Some x, G.stream rng.new)) }
@@ -418,6 +537,13 @@ pub trait Random: Sized {
 
 /// Gives `Ok(shift)`, `Ok(shift * base)`, `Ok(shift * base^2)` and so on, without end. After an
 /// `Err` it ends.
+///
+/// ```
+/// let base = F::from(2);
+/// let mut powers = powers(alloc, F::from(3), &base);
+/// powers.next(); // Some(Ok(3))
+/// powers.next(); // Some(Ok(6))
+/// ```
 pub fn powers<'a, R: Ring>(alloc: Global, shift: R, base: &'a R) -> Powers<'a, R>
     ensures { (items : _) (last : _) (rest : _)
         → YieldsThen ⟦<Powers<'a, R> as Iterator>⟧.next_gives result items last rest
@@ -428,6 +554,10 @@ pub fn powers<'a, R: Ring>(alloc: Global, shift: R, base: &'a R) -> Powers<'a, R
 
 /// Returns the sum of point i scaled by scalar i, over the shorter of both slices, term by term. It
 /// is zero for none.
+///
+/// ```
+/// msm_naive(alloc, &[F::from(2), F::from(3)], &[F::from(4), F::from(6)])?; // 26
+/// ```
 pub fn msm_naive<R: Ring, K: Space<R>>(alloc: Global, points: &[K], scalars: &[R]) -> Mem<K>
     ensures ok { IfOk result
         (λ answer. K.same answer (weighted_sum K.zero K.sum K.scaling points.now scalars.now)) }

@@ -32,6 +32,13 @@ pub struct Decoded<F: Drop> {
 /// There are m distinct points and as many values. The polynomial has `count` coefficients, at most
 /// m of them, and differs from at most (m - count) / 2 values. There is one at most; it answers
 /// `None` exactly if there is none.
+///
+/// ```
+/// use math_decoding::decoding::decode;
+/// let points = [F::from(1), F::from(2), F::from(3), F::from(4)];
+/// let values = [F::from(3), F::from(5), F::from(8), F::from(9)];
+/// decode(alloc, &points, &values, 2)?; // Some(Decoded { coefficients: [1, 2], wrong: [2] })
+/// ```
 pub fn decode<F: Field>(
     alloc: Global,
     points: &[F],

@@ -8,6 +8,11 @@ use std::alloc::Global;
 
 /// Returns whether no two of the points are the same, as `decode` asks of its points. It compares
 /// each two.
+///
+/// ```
+/// use math_decoding::points::are_distinct;
+/// are_distinct(alloc, &[F::from(1), F::from(2), F::from(1)])?; // false
+/// ```
 pub fn are_distinct<F: Object>(alloc: Global, points: &[F]) -> Mem<bool>
     ensures { IfOk result (λ answer. IsTrue answer ↔ AreApart F.same points.now) }
 {

@@ -1,5 +1,5 @@
 -- From what is recovered of copies of cells, and counted apart, to the cells and to the work of the caller.
-use Rattle.std.proofs.Common.{◌≡◌, ◌∙◌, ℕ, suc, ◌+◌, ◌-◌, ◌*◌, ◌/◌, ◌^◌, ◌<◌, ◌≤◌, List, Bool, length, min, subst, sym, arith}
+use Rattle.std.proofs.Common.{◌≡◌, ◌∙◌, ℕ, suc, ◌+◌, ◌-◌, ◌*◌, ◌/◌, ◌^◌, ◌<◌, ◌≤◌, List, Bool, length, min, subst, sym, refl, arith}
 use Rattle.std.proofs.lemmas.List.Elements.{AllZip-get_or, length_all_zip}
 use Rattle.std.proofs.lemmas.Nat.{mul-add-lt}
 use Rattle.std.specs.List.{AllZip}
@@ -11,7 +11,10 @@ use Rattle.math_transforms.specs.Matrices.{MatrixOf}
 use Rattle.math_transforms.proofs.DomainSteps.{column-cell}
 use Rattle.math_transforms.proofs.MatrixRows.{length-column}
 use Rattle.math_transforms.proofs.PowersOfTwo.{power_of_two-same, power_of_two-word}
-use Rattle.math_ntt.specs.RecoveredRows.{AreRecovered, IsExactWork}
+use Rattle.math_ntt.specs.AddedWork.{AddsUpTo}
+use Rattle.math_ntt.proofs.AddedWork.{within-half}
+use Rattle.math_ntt.specs.Evaluations.{EvaluationsOf}
+use Rattle.math_ntt.specs.RecoveredRows.{AddsRecovery, AreRecovered, IsExactWork, IsRefusedWork}
 use Rattle.math_ntt.proofs.RecoveryCounts.{whole-bound, whole-room}
 
 -- from v to w the work x is added, as far as it fits
@@ -56,7 +59,43 @@ module _ {A : Type 0} where
       rw (rows, ← cols) (record {
         none_or_all = λ o. let (s, t) = exact.none_or_all o in (omega (arith, s, b, n.butterflies), omega (arith, t, p, n.root_products));
         some = λ i j l. let (s, t) = exact.some i j l in (omega (arith, s, b, n.butterflies), omega (arith, t, p, n.root_products));
+        no_fewer = λ i j. omega (arith, exact.no_fewer i j, b, n.butterflies);
       })
+
+  pub added-refused : (lg c : ℕ) (cells : List A) (m : MatrixOf A) (filled : List Bool) (z x v w : WorkOf) → m.rows ≡ 2 ^ lg → c ≡ m.cols → lg < 64 → 2 ^ lg * c < 2 ^ 64 → IsNone z
+      → AddsWithin (2 ^ lg * lg * (3 * lg + 3 * c + 2)) (128 * 2 ^ lg) z x → IsAdded v x w → IsRefusedWork lg (record { matrix = matrix_of (2 ^ lg) c cells; filled = filled }) z x
+      → v.butterflies ≤ 2 ^ 127 → v.root_products ≤ 2 ^ 127 → IsRefusedWork lg (record { matrix = m; filled = filled }) v w
+  added-refused lg c cells m filled z x v w rows cols small fits n h a refused room product_room =
+      let b : w.butterflies ≡ v.butterflies + x.butterflies = all-butterflies lg c z x v w small fits n h a room in
+      let p : w.root_products ≡ v.root_products + x.root_products = all-root_products lg (2 ^ lg * lg * (3 * lg + 3 * c + 2)) z x v w small n h a product_room in
+      rw (rows, ← cols) (record {
+        none_or_all = λ o. let k = refused.none_or_all o in record {
+          no_fewer = a.no_fewer;
+          no_more = omega (arith, k.no_more, b, n.butterflies);
+          root_products = omega (arith, k.root_products, p, n.root_products);
+        };
+        some = λ i j l. let k = refused.some i j l in record {
+          no_more = omega (arith, k.no_more, b, n.butterflies);
+          no_more_products = omega (arith, k.no_more_products, p, n.root_products);
+          in_order = λ begun. omega (arith, k.in_order (omega (arith, begun, b, n.butterflies)), p, n.root_products);
+        };
+      })
+
+  -- what is refused before any of its work
+  pub refused-none : (lg : ℕ) (e : EvaluationsOf A) (v : WorkOf) → IsRefusedWork lg e v v
+  refused-none lg e v = record {
+    none_or_all = λ o. record { no_fewer = omega arith; no_more = omega arith; root_products = refl };
+    some = λ i j l. record { no_more = omega arith; no_more_products = omega arith; in_order = λ begun. absurd (omega arith) };
+  }
+
+  -- and more after it
+  pub recovery-then : (lg : ℕ) (e : EvaluationsOf A) (b p : ℕ) (u v w : WorkOf) → AddsRecovery lg e u v → AddsWithin b p v w → AddsRecovery lg e u w
+  recovery-then lg e b p u v w h k = record {
+    after = h.after;
+    first = h.first;
+    butterflies = omega (arith, h.butterflies, k.no_fewer);
+    root_products = omega (arith, h.root_products, k.no_fewer_products);
+  }
 
   module _ (R : RingOf A) (E : IsEquality R.same) (root : ℕ → A) (lg c : ℕ) (filled : List Bool) (cells copies new : List A) where
     abbrev IsRecovered : ℕ → List A → Type 0
@@ -121,5 +160,5 @@ adds-few b p m c count v w l few h =
 
 -- the bound for any lg of which the number of rows is the power
 pub several-at_any : (rows cols lg t : ℕ) (v w : WorkOf) → rows ≡ 2 ^ lg → AddsWithin (t * (2 ^ lg * lg * (3 * lg + 3 * cols + 2))) (t * (128 * 2 ^ lg)) v w
-    → (m : ℕ) → rows ≡ 2 ^ m → AddsWithin (t * (rows * m * (3 * m + 3 * cols + 2))) (t * (128 * rows)) v w
-several-at_any rows cols lg t v w e h m f = rw (← power_of_two-same lg m (sym e ∙ f), e) h
+    → (m : ℕ) → rows ≡ 2 ^ m → AddsUpTo (t * (rows * m * (3 * m + 3 * cols + 2)) / 2) (t * (128 * rows)) v w
+several-at_any rows cols lg t v w e h m f = rw (← power_of_two-same lg m (sym e ∙ f), e) (within-half _ _ v w h)

@@ -4,6 +4,7 @@ pub mod PaddedPolynomials
 pub mod FirstRows
 pub mod MatrixPlaces
 pub mod ComparedTruths
+pub mod AddedWork
 pub mod RecoveryCounts
 pub mod RecoverySteps
 pub mod OneColumn

@@ -1,5 +1,5 @@
 -- From what is recovered and counted at a given lg to what is at the lg of any number of rows, and that nothing else fits.
-use Rattle.std.proofs.Common.{◌≡◌, ◌∙◌, ℕ, ◌+◌, ◌*◌, ◌^◌, List, Bool, length, sym, subst}
+use Rattle.std.proofs.Common.{◌≡◌, ◌∙◌, ℕ, ◌+◌, ◌*◌, ◌/◌, ◌^◌, List, Bool, length, sym, subst}
 use Rattle.math_theory.specs.Domains.{HasExactOrder, IsNoPower}
 use Rattle.math_theory.specs.Laws.{IsEquality, IsGroup, IsProduct, IsRing, IsField}
 use Rattle.math_theory.proofs.domains.CarriedDomains.{HasCoset-of_order-same}
@@ -7,26 +7,27 @@ use Rattle.math_theory.proofs.recovery.CarriedRecovery.{fits_once-same}
 use Rattle.math_base.specs.Members.{RingOf}
 use Rattle.math_transforms.specs.CountedWork.{WorkOf, AddsWithin}
 use Rattle.math_transforms.specs.DomainValues.{matrix_of}
+use Rattle.math_ntt.specs.AddedWork.{AddsUpTo}
+use Rattle.math_ntt.proofs.AddedWork.{within-half}
 use Rattle.math_ntt.specs.Evaluations.{EvaluationsOf}
 use Rattle.math_transforms.specs.Matrices.{column_of}
-use Rattle.math_ntt.specs.RecoveredRows.{AreRecovered, AreOnlyRecovered, IsExactWork}
+use Rattle.math_ntt.specs.RecoveredRows.{AreRecovered, AreOnlyRecovered}
 use Rattle.math_transforms.proofs.DomainSteps.{column-cell}
 use Rattle.math_transforms.proofs.MatrixRows.{length-column}
 use Rattle.math_transforms.proofs.PowersOfTwo.{power_of_two-same}
 
 pub most-at_any : (rows cols lg : ℕ) (v w : WorkOf) → rows ≡ 2 ^ lg → AddsWithin (2 ^ lg * lg * (3 * lg + 3 * cols + 2)) (128 * 2 ^ lg) v w
-    → (m : ℕ) → rows ≡ 2 ^ m → AddsWithin (rows * m * (3 * m + 3 * cols + 2)) (128 * rows) v w
-most-at_any rows cols lg v w e h m f = rw (← power_of_two-same lg m (sym e ∙ f), e) h
+    → (m : ℕ) → rows ≡ 2 ^ m → AddsUpTo (rows * m * (3 * m + 3 * cols + 2) / 2) (128 * rows) v w
+most-at_any rows cols lg v w e h m f = rw (← power_of_two-same lg m (sym e ∙ f), e) (within-half _ _ v w h)
 
 module _ {A : Type 0} where
   abbrev pub evaluations : ℕ → ℕ → List A → List Bool → EvaluationsOf A
   evaluations rows cols cells filled = record { matrix = matrix_of rows cols cells; filled = filled }
 
-  pub exact-at_any : (rows cols lg : ℕ) (cells : List A) (filled : List Bool) (v w : WorkOf) → rows ≡ 2 ^ lg → IsExactWork lg (evaluations (2 ^ lg) cols cells filled) v w
-      → (m : ℕ) → rows ≡ 2 ^ m → IsExactWork m (evaluations rows cols cells filled) v w
-  exact-at_any rows cols lg cells filled v w e h m f =
-      let at_rows : IsExactWork lg (evaluations rows cols cells filled) v w = subst (λ n. IsExactWork lg (evaluations n cols cells filled) v w) (sym e) h in
-      subst (λ k. IsExactWork k (evaluations rows cols cells filled) v w) (power_of_two-same lg m (sym e ∙ f)) at_rows
+  pub at_any : (P : ℕ → EvaluationsOf A → Type 0) (rows cols lg : ℕ) (cells : List A) (filled : List Bool) → rows ≡ 2 ^ lg → P lg (evaluations (2 ^ lg) cols cells filled)
+      → (m : ℕ) → rows ≡ 2 ^ m → P m (evaluations rows cols cells filled)
+  at_any P rows cols lg cells filled e h m f =
+      subst (λ k. P k (evaluations rows cols cells filled)) (power_of_two-same lg m (sym e ∙ f)) (subst (λ n. P lg (evaluations n cols cells filled)) (sym e) h)
 
   module _ (R : RingOf A) {inverse : A → A} (E : IsEquality R.same) (G : IsGroup R.same R.zero R.sum R.negative) (P : IsProduct R.same R.product) (L : IsRing R.same R.sum R.product R.one)
       (F : IsField R.same R.zero R.product R.one inverse) (root : ℕ → A) (s : A) (rows cols lg : ℕ) (e : rows ≡ 2 ^ lg) (order : HasExactOrder R.same R.one R.product (root lg) (2 ^ lg))

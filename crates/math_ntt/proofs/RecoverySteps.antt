@@ -4,7 +4,7 @@ use Rattle.math_theory.specs.BitReversal.{bit_reversed}
 use Rattle.math_theory.specs.Domains.{HasExactOrder}
 use Rattle.math_theory.specs.Laws.{IsEquality, IsGroup, IsProduct, IsRing, IsField}
 use Rattle.math_theory.specs.Powers.{power}
-use Rattle.math_theory.proofs.classes.RingUpToSame.{combine_same, combine2_same}
+use Rattle.math_theory.proofs.classes.RingUpToSame.{combine2_same}
 use Rattle.math_theory.proofs.polynomials.BuiltPolynomials.{value-at}
 use Rattle.math_theory.proofs.rings.Normal.{◌⊗◌, 𝟘, 𝟙, v0, v1, v2, v3, v4}
 use Rattle.math_theory.proofs.transforms.BitOrder.{bit_reversed-below, bit_reversed-twice}

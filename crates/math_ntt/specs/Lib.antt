@@ -5,6 +5,7 @@ pub mod MatrixEncodingLaws
 pub mod PolynomialRows
 pub mod Evaluations
 pub mod MatrixPlaces
+pub mod AddedWork
 pub mod RecoveredRows
 pub mod RecoveredValues
 pub mod CorrectedRows

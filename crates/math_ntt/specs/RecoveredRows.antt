@@ -5,8 +5,9 @@ use Rattle.math_theory.specs.Recovery.{Fits, count_true}
 use Rattle.math_base.specs.Members.{RingOf}
 use Rattle.math_base.specs.Polynomials.{value_in_ring}
 use Rattle.math_transforms.specs.CosetValues.{AreReversedMultiples}
-use Rattle.math_transforms.specs.CountedWork.{WorkOf}
+use Rattle.math_transforms.specs.CountedWork.{WorkOf, AddsAtMost}
 use Rattle.math_transforms.specs.DomainValues.{matrix_of}
+use Rattle.math_ntt.specs.AddedWork.{AddsInOrder}
 use Rattle.math_ntt.specs.Evaluations.{EvaluationsOf}
 use Rattle.math_transforms.specs.Matrices.{MatrixOf, column_of, cell_of}
 use Rattle.math_transforms.specs.MissingPoints.{count_false}
@@ -66,10 +67,24 @@ pub record AreDivided {A : Type 0} (R : RingOf A) (w s : A) (n c : ℕ) (cells v
   pub same_values : HaveSameValuesOnDomain R w n v divisor
   pub quotients : IsNonzeroOnCoset R w s n divisor → AreQuotientsOnCoset R w s (matrix_of n c product) divisor (matrix_of n c q)
 
--- the work of a recovery of 2^lg rows that succeeds: with no row or all rows filled, that of one transform; with some missing, and lg at most 8,
--- three transforms of all columns and of one more, and v (v + 1) / 2 root products for v missing rows
+-- the work of a recovery of 2^lg rows that succeeds: with no row or all rows filled, that of one transform; with some missing, at least three
+-- transforms of all columns and of one more, and with lg at most 8 just these, and v (v + 1) / 2 root products for v missing rows
 pub record IsExactWork {A : Type 0} (lg : ℕ) (e : EvaluationsOf A) (v w : WorkOf) : Type 0 where
   pub none_or_all : (count_true e.filled ≡ 0) ⊎ (count_false e.filled ≡ 0)
       → (2 * w.butterflies ≡ 2 * v.butterflies + e.matrix.cols * e.matrix.rows * lg) × (w.root_products ≡ v.root_products)
   pub some : 0 < count_true e.filled → 0 < count_false e.filled → lg ≤ 8
       → (2 * w.butterflies ≡ 2 * v.butterflies + e.matrix.rows * lg * (3 * e.matrix.cols + 3)) × (2 * w.root_products ≡ 2 * v.root_products + count_false e.filled * (count_false e.filled + 1))
+  pub no_fewer : 0 < count_true e.filled → 0 < count_false e.filled → 2 * v.butterflies + e.matrix.rows * lg * (3 * e.matrix.cols + 3) ≤ 2 * w.butterflies
+
+-- the work of a recovery of 2^lg rows that is refused: at most that of one that succeeds, and with lg at most 8 no butterfly before all root products
+pub record IsRefusedWork {A : Type 0} (lg : ℕ) (e : EvaluationsOf A) (v w : WorkOf) : Type 0 where
+  pub none_or_all : (count_true e.filled ≡ 0) ⊎ (count_false e.filled ≡ 0) → AddsAtMost (e.matrix.cols * e.matrix.rows * lg) v w
+  pub some : 0 < count_true e.filled → 0 < count_false e.filled → lg ≤ 8
+      → AddsInOrder (e.matrix.rows * lg * (3 * e.matrix.cols + 3)) (count_false e.filled * (count_false e.filled + 1)) v w
+
+-- from v to w the work of a recovery that succeeds is added, after which it is `after`, and maybe more
+pub record AddsRecovery {A : Type 0} (lg : ℕ) (e : EvaluationsOf A) (v w : WorkOf) : Type 0 where
+  pub after : WorkOf
+  pub first : IsExactWork lg e v after
+  pub butterflies : after.butterflies ≤ w.butterflies
+  pub root_products : after.root_products ≤ w.root_products

@@ -7,3 +7,4 @@ pub mod Fermat
 pub mod GoldilocksPrime
 pub mod BitLists
 pub mod BitPieces
+pub mod ByteLists

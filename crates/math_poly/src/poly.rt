@@ -21,6 +21,11 @@ use std::num::NonZeroU32;
 /// A polynomial, by its coefficients from the constant upwards.
 ///
 /// It stores 1 to 2^32 - 1 coefficients. The last ones may be zero.
+///
+/// ```
+/// let p = Poly::from_coefficients(vec![in alloc; F::from(4), F::from(6), F::from(8)]?);
+/// p.eval(alloc, &F::from(5))?; // 234
+/// ```
 #[derive(Drop)]
 pub struct Poly<K: Drop> {
     coefficients: Vec<K>,
@@ -38,6 +43,12 @@ impl<K: Drop> Model for Poly<K> {
 
 impl<K: Drop> Poly<K> {
     /// Makes a polynomial of its coefficients, from the constant upwards. There are 1 to 2^32 - 1.
+    ///
+    /// ```
+    /// let p = Poly::from_coefficients(vec![in alloc; F::from(4), F::from(6), F::from(0)]?);
+    /// p; // Poly(4 + 6 X^1 + 0 X^2)
+    /// p.coefficients(); // [4, 6, 0]
+    /// ```
     pub fn from_coefficients(coefficients: Vec<K>) -> Self
         requires some { 0 < length coefficients.items }
         requires few { length coefficients.items < 2 ^ 32 }
@@ -47,6 +58,13 @@ impl<K: Drop> Poly<K> {
     }
 
     /// Returns the number of stored coefficients, less one.
+    ///
+    /// ```
+    /// let p = Poly::from_coefficients(vec![in alloc; F::from(4), F::from(6), F::from(0)]?);
+    /// p.degree(); // 2
+    /// p.required(); // 3
+    /// p.constant(); // 4
+    /// ```
     pub fn degree(&self) -> u32
         ensures { result + 1 ≡ length self.now }
     {

@@ -17,6 +17,10 @@ use std::alloc::Global;
 /// points, that is one there and zero elsewhere. Otherwise it is the product of x - y over all
 /// points y, divided by x - p times the product of p - y over the others. If two points are the
 /// same, such a divisor is zero, and all weights are zero.
+///
+/// ```
+/// weights_at(alloc, &[F::from(1), F::from(2)], &F::from(3))?; // [18446744069414584320, 2]
+/// ```
 pub fn weights_at<F: Field>(alloc: Global, points: &[F], x: &F) -> Mem<Vec<F>>
     ensures count { IfOk result (λ w. length w.items ≡ length points.now) }
     ensures at_point { IfOk result (λ w. (k : ℕ) → IsFirstPlace F.same x.now points.now k

@@ -12,7 +12,7 @@ use Rattle.std.proofs.lemmas.List.Elements.{All-contains, All-head, All-map, All
 use Rattle.std.proofs.lemmas.List.Folds.{Any-from_list_any, list_any-append, list_any_at}
 use Rattle.std.proofs.lemmas.List.Sums.{sum_by-cons}
 use Rattle.math_base.specs.declared.fields.goldilocks.F.{F}
-use Rattle.math_cosets.specs.Restored.{AreDistinct}
+use Rattle.math_restoring.specs.Restored.{AreDistinct}
 use Rattle.math_shards.specs.Fitting.{distinct_among}
 use Rattle.math_shards.specs.Weights.{AreChosen}
 use Rattle.math_shards.proofs.SameCells.{nought}

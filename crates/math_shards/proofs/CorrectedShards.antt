@@ -25,7 +25,7 @@ use Rattle.math_shards.proofs.OnlyData.{only_data}
 use Rattle.math_shards.proofs.RecoveredShards.{cell_of_shard}
 use Rattle.math_shards.proofs.SameCells.{nought}
 use Rattle.math_shards.proofs.SettledShards.{settled_sound}
-use Rattle.math_cosets.proofs.CombinedColumns.{same_values}
+use Rattle.math_restoring.proofs.CombinedColumns.{same_values}
 
 -- the settled shards but those of wrong indices are shards of the data
 abbrev pub right_of : (words : List ℕ) (shards : List Shard) → CorrectTo words shards → List Shard

@@ -1,6 +1,6 @@
 -- Rows of values that are filled with shards: how many are filled, and shards of one index, whose cells are those of one row.
 use Rattle.std.proofs.Common.{◌≡◌, ℕ, zero, suc, ◌+◌, ◌-◌, ◌<◌, ◌≤◌, ◌^◌, List, [], ◌∷◌, Bool, true, false, cond, eqb, length, map, get_or, refl, sym, ◌∙◌, ap, arith}
-use Rattle.std.specs.List.{All, Any, AllZip, range_with_len, count_by}
+use Rattle.std.specs.List.{All, Any, range_with_len, count_by}
 use Rattle.std.proofs.lemmas.Bool.{eqb-true, eq-eqb, ne_eqb}
 use Rattle.std.proofs.lemmas.List.Elements.{All-weaker}
 use Rattle.std.proofs.lemmas.List.Folds.{Any-from_list_any, list_any_at, list_any_none}
@@ -8,13 +8,10 @@ use Rattle.std.proofs.lemmas.List.FromFn.{fill_by_all, sum_by-map-range_with_len
 use Rattle.std.proofs.lemmas.List.Sums.{sum_by-cons}
 use Rattle.math_theory.specs.Recovery.{count_true}
 use Rattle.math_base.specs.declared.fields.goldilocks.F.{F}
-use Rattle.math_base.specs.Elements.{same}
 use Rattle.math_ntt.specs.Evaluations.{EvaluationsOf}
-use Rattle.math_transforms.specs.Matrices.{row_of}
 use Rattle.math_shards.specs.declared.shards.Shard.{Shard}
-use Rattle.math_shards.specs.Joining.{HaveConflict, HoldsShards, IsSound}
+use Rattle.math_shards.specs.Joining.{HoldsShards, IsSound}
 use Rattle.math_shards.specs.Shards.{distinct_indices, has_index}
-use Rattle.math_shards.proofs.SameCells.{same_as_one}
 
 -- where some shard has the index i, here is one
 pub index_found : (shards : List Shard) (i : ℕ) → has_index shards i ≡ true → Any (λ s. s.index ≡ i) shards
@@ -74,19 +71,3 @@ no_indices n =
     let p : ℕ → Bool = has_index [] in
     let all : 0 + n ≡ n = omega arith in
     count_map p (range_with_len 0 n) ∙ ap (λ m. count_true (map p (range_with_len 0 m))) (sym all) ∙ count_more p 0 n (λ i l. refl)
-
--- no two of the shards have one index and unequal cells
-pub no_conflict : (lg width : ℕ) (shards : List Shard) (e : EvaluationsOf F) → HoldsShards lg width shards e → ¬ (HaveConflict shards)
-no_conflict lg width shards e h conflict =
-    let s = conflict.1 in
-    let t = conflict.4.1 in
-    let other = conflict.4 in
-    let here : AllZip same (row_of e.matrix s.index) s.cells.items = rw (sym conflict.3) (h.cells conflict.0 s conflict.2) in
-    let there : AllZip same (row_of e.matrix t.index) t.cells.items = rw (sym other.3) (h.cells other.0 t other.2) in
-    other.4.1 (same_as_one (row_of e.matrix s.index) t.cells.items s.cells.items (rw (sym other.4.0) there) here)
-
--- so sound shards that fill rows are without conflict, and as many rows are filled as there are distinct indices
-pub filled_with_sound : (lg width : ℕ) (first : Shard) (shards : List Shard) (e : EvaluationsOf F) → first.total ≤ 2 ^ lg → HoldsShards lg width shards e → All (IsSound first) shards
-    → (All (IsSound first) shards × ¬ (HaveConflict shards)) × (count_true e.filled ≡ distinct_indices first.total shards)
-filled_with_sound lg width first shards e fits holds sound =
-    ((sound, no_conflict lg width shards e holds), count_filled lg width first.total shards e holds (indices_below first shards sound) fits)

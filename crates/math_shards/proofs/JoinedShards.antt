@@ -13,7 +13,7 @@ use Rattle.math_shards.specs.Joining.{HaveConflict, IsSound}
 use Rattle.math_shards.specs.ShardEncoding.{AreSameShards}
 use Rattle.math_shards.specs.Shards.{ChosenShardsJoin, IsSameAsOne, IsShardOf, JoinTo, rows_for, value_at, width_for}
 use Rattle.math_shards.proofs.FilledShards.{no_indices}
-use Rattle.math_cosets.proofs.ElementRing.{same_are_equal}
+use Rattle.math_restoring.proofs.ElementRing.{same_are_equal}
 use Rattle.math_shards.proofs.SameCells.{nought, same_by_items}
 
 -- the least domain of `total` points

@@ -4,7 +4,6 @@ pub mod TakenCells
 pub mod PackedData
 pub mod SoundShards
 pub mod GatheredShards
-pub mod ExtendedRuns
 pub mod FilledShards
 pub mod JoinedShards
 pub mod DueErrors

@@ -16,8 +16,8 @@ use Rattle.math_base.specs.Elements.{number, product, residue, root_of, same, su
 use Rattle.math_ntt.proofs.MatrixPlaces.{columns_are_full}
 use Rattle.math_transforms.specs.DomainValues.{matrix_of}
 use Rattle.math_transforms.specs.Matrices.{AreSame, IsOfSize, MatrixOf, column_of}
-use Rattle.math_cosets.specs.Restored.{AreDistinct, HaveCellsAsValues}
-use Rattle.math_cosets.proofs.ElementRing.{same_are_equal}
+use Rattle.math_restoring.specs.Restored.{AreDistinct, HaveCellsAsValues}
+use Rattle.math_restoring.proofs.ElementRing.{same_are_equal}
 use Rattle.math_shards.specs.Shards.{value_at}
 use Rattle.math_shards.proofs.SameCells.{nought}
 use Rattle.math_shards.proofs.ShardRows.{same_by_columns}

@@ -7,14 +7,14 @@ use Rattle.std.specs.List.{All}
 use Rattle.std.proofs.Math.Nat.{pow-le-pow_right}
 use Rattle.std.proofs.lemmas.Bool.{cases_lt}
 use Rattle.std.proofs.lemmas.List.{drop-take, get_or-take, length-drop, length-map, length-take, length-take-le, take_all}
-use Rattle.std.proofs.lemmas.List.Elements.{All-drop, All-head, All-take}
+use Rattle.std.proofs.lemmas.List.Elements.{All-drop, All-take}
 use Rattle.math_numbers.specs.Goldilocks.{P}
 use Rattle.math_numbers.specs.Bits.{IsBit, bits, joined, number, piece_count, pieces, pieces-suc, pieces-zero}
 use Rattle.math_numbers.proofs.BitLists.{bits-number, joined-are_bits, length-joined}
 use Rattle.math_base.specs.declared.fields.goldilocks.F.{F}
 use Rattle.math_base.specs.Elements as Elements
 use Rattle.math_base.specs.Packing.{elements_of}
-use Rattle.math_base.proofs.BitFronts.{number-take-bits, pieces_below}
+use Rattle.math_base.proofs.BitFronts.{number-take-bits, number_below}
 use Rattle.math_base.proofs.ElementNumbers.{residue-number}
 use Rattle.math_shards.specs.Unpacking.{AreRepacked, first_words, repacked_at}
 use Rattle.math_shards.proofs.PackedWords.{element_bits_at, from_word}
@@ -84,13 +84,6 @@ repacked_element elements n p within some below last =
     ∙ joined_pieces_first 64 (n + 1) (joined 63 ns) (joined-are_bits 63 ns) (omega (arith, within, all)))
     ∙ ap Elements.residue (element_within ns (64 * (n + 1)) p some (rw at below) (λ l. rw at (last l)) ∙ at)
     ∙ residue-number x
-
--- so many bits write a number below that power of two
-number_below : (k : ℕ) (bs : List ℕ) → All IsBit bs → length bs ≤ k → number bs < 2 ^ k
-number_below k bs h few =
-    let one : number (take k bs) < 2 ^ k =
-    All-head (λ n. n < 2 ^ k) (number (take k bs)) (pieces k 0 (drop k bs)) (subst (All (λ n. n < 2 ^ k)) (pieces-suc k 0 bs) (pieces_below k 1 bs h)) in
-    subst (λ l. number l < 2 ^ k) (take_all k bs few) one
 
 -- an element that words pack to has no more bits than are left for it
 pub packed_below : (words : List ℕ) (e k : ℕ) → k ≤ 63 → length (take 63 (drop (63 * e) (joined 64 words))) ≤ k → Elements.number (get_or (elements_of words) e nought) < 2 ^ k

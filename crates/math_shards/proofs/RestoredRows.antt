@@ -12,7 +12,7 @@ use Rattle.math_base.specs.Elements.{number, same}
 use Rattle.math_transforms.specs.DomainValues.{matrix_of}
 use Rattle.math_transforms.specs.Matrices.{IsOfSize, MatrixOf, column_of}
 use Rattle.math_shards.specs.Fitting.{HasValuesOf, distinct_among}
-use Rattle.math_cosets.specs.Restored.{AreDistinct, HaveCellsAsValues}
+use Rattle.math_restoring.specs.Restored.{AreDistinct, HaveCellsAsValues}
 use Rattle.math_shards.specs.Shards.{value_at}
 use Rattle.math_shards.specs.Weights.{AreChosen}
 use Rattle.math_shards.proofs.ChosenRows.{below-kept, cell-at, chosen_among, count-kept, distinct-kept, distinct-most, is_one_of}

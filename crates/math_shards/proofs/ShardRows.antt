@@ -14,7 +14,7 @@ use Rattle.math_ntt.specs.PolynomialRows.{HaveSamePolynomials}
 use Rattle.math_transforms.proofs.MatrixRows.{cell-of_column}
 use Rattle.math_shards.specs.Joining.{ArePolynomialsOf}
 use Rattle.math_shards.specs.Shards.{elements_for, rows_for, width_for}
-use Rattle.math_cosets.proofs.ElementRing.{same_are_equal}
+use Rattle.math_restoring.proofs.ElementRing.{same_are_equal}
 use Rattle.math_shards.proofs.SameCells.{nought, same_by_items}
 
 -- the rows hold all elements, and zeros where some cells are left
@@ -50,16 +50,6 @@ same_by_columns r c q m size other columns =
       size.1 ∙ sym other.1,
       same_by_items (r * c) q.cells m.cells size.2 other.2 (λ i l. same_cells_at r q m full whole (size.1 ∙ sym other.1) columns c other.1 i l),
     )
-
--- and same matrices have the same columns
-pub columns_of_same : (q m : MatrixOf F) → AreSame same q m → HaveSamePolynomials same nought q m
-columns_of_same q m h = λ k l i.
-    ap (λ (n : MatrixOf F). number (get_or (column_of nought n k) i nought))
-    (ap₂ (λ (size : ℕ × ℕ) cells. record { rows = size.0; cols = size.1; cells = cells }) (ap₂ (λ (r c : ℕ). (r, c)) h.0 h.1) (same_are_equal q.cells m.cells h.2))
-
--- matrices that have the columns of m have the same ones
-pub columns_through : (p q m : MatrixOf F) → q.cols ≡ m.cols → HaveSamePolynomials same nought p m → HaveSamePolynomials same nought q m → HaveSamePolynomials same nought p q
-columns_through p q m e g h = λ k l i. let b : k < m.cols = omega (arith, l, e) in g k b i ∙ sym (h k b i)
 
 -- and the first cells of a matrix whose columns are the polynomials of data are those of the rows
 pub cells_of_recovered : (words : List ℕ) (min r width : ℕ) (q : MatrixOf F) → 1 ≤ min → min ≤ r → IsOfSize q r width → ArePolynomialsOf words min q

@@ -13,7 +13,7 @@ use Rattle.math_transforms.proofs.WrittenRows.{row-done}
 use Rattle.math_shards.specs.Shards.{elements_for, rows_for, width_for}
 use Rattle.math_shards.specs.Strips.{ArePacked, HasStripValues, IsStripOf, packed_at}
 use Rattle.math_shards.proofs.SameCells.{nought}
-use Rattle.math_cosets.proofs.CombinedColumns.{same_values}
+use Rattle.math_restoring.proofs.CombinedColumns.{same_values}
 use Rattle.math_shards.proofs.ShardRows.{rows_are_whole}
 
 -- the first rows of c cells are those of data from column `from` on

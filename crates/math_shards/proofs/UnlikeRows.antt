@@ -15,9 +15,9 @@ use Rattle.math_shards.specs.Correcting.{AreCorrected, ArePositionsWithout, Corr
 use Rattle.math_shards.specs.Joining.{ArePolynomialsOf, IsSound}
 use Rattle.math_shards.specs.Shards.{IsShardOf, rows_for}
 use Rattle.math_shards.proofs.CorrectedShards.{AreSettledRows, data_of_corrected, least_of, rows_are_domain, size_of_corrected, total_of}
-use Rattle.math_cosets.proofs.ElementRing.{same_are_equal}
+use Rattle.math_restoring.proofs.ElementRing.{same_are_equal}
 use Rattle.math_shards.proofs.SameCells.{nought, same_by_items}
-use Rattle.math_cosets.proofs.CombinedColumns.{same_values}
+use Rattle.math_restoring.proofs.CombinedColumns.{same_values}
 use Rattle.math_shards.proofs.SplitShards.{HoldsValues, shard_of_row}
 
 -- P holds of the shard at position i

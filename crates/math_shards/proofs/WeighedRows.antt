@@ -11,7 +11,7 @@ use Rattle.math_ntt.proofs.MatrixPlaces.{columns_are_full, rows_are_full, rows_a
 use Rattle.math_transforms.specs.DomainValues.{matrix_of}
 use Rattle.math_transforms.specs.Matrices.{MatrixOf, row_of, rows_of}
 use Rattle.math_transforms.proofs.MatrixRows.{cell-of_column, length-pieces}
-use Rattle.math_cosets.specs.Restored.{HaveCellsAsValues}
+use Rattle.math_restoring.specs.Restored.{HaveCellsAsValues}
 use Rattle.math_shards.specs.Shards.{value_at}
 use Rattle.math_shards.specs.Weights.{AreCoefficients, AreWeightsOf, weight_polynomial}
 use Rattle.math_shards.proofs.PutCoefficients.{column_in}

@@ -1,5 +1,6 @@
 pub mod Horner
 pub mod Values
+pub mod CarriedValues
 pub mod ValuesRespect
 pub mod Coefficients
 pub mod ScaledPoint

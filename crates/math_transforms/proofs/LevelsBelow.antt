@@ -1,5 +1,5 @@
 -- One level below a place of a tree of square roots, in a commutative ring: values of columns from those of two halves, and back.
-use Rattle.std.proofs.Common.{◌≡◌, ◌∙◌, inl, inr, ℕ, suc, ◌+◌, ◌-◌, ◌*◌, ◌<◌, ◌≤◌, ◌^◌, true, false, List, [], ◌∷◌, ◌++◌, length, take, drop, get_or, refl, sym, ap, ap₂, pow_pos, arith}
+use Rattle.std.proofs.Common.{◌≡◌, ◌∙◌, inl, inr, ℕ, suc, ◌+◌, ◌-◌, ◌*◌, ◌<◌, ◌≤◌, ◌^◌, true, false, List, [], ◌∷◌, ◌++◌, length, take, drop, get_or, refl, sym, ap, ap₂, arith}
 use Rattle.std.proofs.Math.Seq.{drop-append_seam, take-append_seam}
 use Rattle.std.proofs.lemmas.Bool.{cases_lt}
 use Rattle.std.proofs.lemmas.List.{get_or_append_left, get_or-append-add, get_or-take, get_or_past, length-map}
@@ -34,14 +34,6 @@ below lg place c some =
     let rows : 2 ^ lg ≡ 2 ^ (lg - 1) + 2 ^ (lg - 1) = ap (λ n. 2 ^ n) (sym up) ∙ power_of_two-suc (lg - 1) in
     let spread : 2 ^ lg * place ≡ 2 * (2 ^ (lg - 1) * place) = ap (λ i. i * place) rows ∙ omega arith in
     record { up = up; rows = rows; first = λ t. omega (arith, spread); second = λ t. omega (arith, spread) }
-
--- where there are two rows or more below a place, its entry is there, and its children have their places
-pub entry-inside : (lg place long : ℕ) → 0 < lg → 2 ^ lg * (place + 1) ≤ 2 * long → place < long
-entry-inside lg place long some within =
-    let h = below lg place 0 some in
-    let all : 2 ^ lg * (place + 1) ≡ 2 * (2 ^ (lg - 1) * (place + 1)) = ap (λ i. i * (place + 1)) h.rows ∙ omega arith in
-    let m : 1 * (place + 1) ≤ 2 ^ (lg - 1) * (place + 1) = mul-le 1 (place + 1) (2 ^ (lg - 1)) (place + 1) (pow_pos (lg - 1)) (omega arith) in
-    omega (arith, m, all, within)
 
 pub child-within : (lg place u long : ℕ) → 0 < lg → u < 2 → 2 ^ lg * (place + 1) ≤ 2 * long → 2 ^ (lg - 1) * ((2 * place + u) + 1) ≤ 2 * long
 child-within lg place u long some l within =

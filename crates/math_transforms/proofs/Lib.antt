@@ -17,6 +17,7 @@ pub mod CosetRows
 pub mod CombinedPairs
 pub mod ColumnHalves
 pub mod Levels
+pub mod SomeCells
 pub mod RootInverses
 pub mod ReversedRows
 pub mod SixteenRows

@@ -6,6 +6,7 @@ use Rattle.math_numbers.specs.Bits.{bits-zero, number}
 use Rattle.math_theory.specs.BitReversal.{bit_reversed}
 use Rattle.math_theory.proofs.transforms.BitOrder.{bit_reversed-suc, bit_reversed-below, bit_reversed-twice}
 use Rattle.math_theory.proofs.domains.RootOrders.{power_of_two-suc}
+use Rattle.math_transforms.proofs.ReversedBits.{reversed-high}
 use Rattle.math_transforms.proofs.ReversedRows.{IsReversedBelow, reversed-stayed, reversed-exchanged}
 
 reversed-none : (i : ℕ) → bit_reversed 0 i ≡ 0
@@ -15,20 +16,6 @@ reversed-none i = ap (λ t. number (reverse t)) (bits-zero i)
 pub opposite-four : (t : ℕ) → t < 16 → bit_reversed 4 t ≡ t % 2 * 8 + t / 2 % 2 * 4 + t / 4 % 2 * 2 + t / 8
 opposite-four t h =
     omega (arith, h, bit_reversed-suc 3 t, bit_reversed-suc 2 (t / 2), bit_reversed-suc 1 (t / 2 / 2), bit_reversed-suc 0 (t / 2 / 2 / 2), reversed-none (t / 2 / 2 / 2 / 2))
-
--- the highest bit becomes the lowest one
-reversed-high : (j h l : ℕ) → h < 2 → l < 2 ^ j → bit_reversed (suc j) (h * 2 ^ j + l) ≡ 2 * bit_reversed j l + h
-reversed-high zero h l few below =
-    let i : h * 2 ^ 0 + l ≡ h = omega (arith, below) in
-    rw i (omega (arith, few, bit_reversed-suc 0 h, reversed-none (h / 2), reversed-none l))
-reversed-high (suc j) h l few below =
-    let double : 2 ^ suc j ≡ 2 ^ j + 2 ^ j = power_of_two-suc j in
-    let high : h * 2 ^ suc j ≡ 2 * (h * 2 ^ j) = ap (λ p. h * p) double ∙ omega arith in
-    let low : (h * 2 ^ suc j + l) % 2 ≡ l % 2 = omega (arith, high) in
-    let rest : (h * 2 ^ suc j + l) / 2 ≡ h * 2 ^ j + l / 2 = omega (arith, high) in
-    let parts = rw (low, rest) at (bit_reversed-suc (suc j) (h * 2 ^ suc j + l)) in
-    let lowest : (l % 2) * 2 ^ suc j ≡ 2 * ((l % 2) * 2 ^ j) = ap (λ p. (l % 2) * p) double ∙ omega arith in
-    omega (arith, parts, lowest, reversed-high j h (l / 2) few (omega (arith, below, double)), bit_reversed-suc j l)
 
 -- and the two highest the two lowest ones
 reversed-highs : (k a l : ℕ) → a < 4 → l < 2 ^ k → bit_reversed (suc (suc k)) (a * 2 ^ k + l) ≡ 4 * bit_reversed k l + (a % 2 * 2 + a / 2)

@@ -16,10 +16,6 @@ use Rattle.math_transforms.specs.TreeLevels.{AddsLevel, AddsMade, AreLevelsScale
 use Rattle.math_transforms.proofs.PowersOfTwo.{power_of_two-double, power_of_two-rises}
 
 module _ {A : Type 0} (R : RingOf A) where
-  -- nothing is added yet
-  pub made-none : (f : A → A) (from : ℕ) (old : List A) → AddsMade R f from 0 old old
-  made-none f from old = record { count = omega arith; kept = λ p l. refl; added = λ i l. absurd (omega (arith, l)) }
-
   -- and one more
   pub made-more : (f : A → A) (from n : ℕ) (old mid new : List A) (x : A) → from + n < length old → AddsMade R f from n old mid → R.same x (f (entry R mid (from + n)))
       → new ≡ mid ++ (x ∷ []) → AddsMade R f from (n + 1) old new

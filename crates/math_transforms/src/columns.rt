@@ -54,7 +54,13 @@ impl<F: Drop> Model for EvaluationColumn<F> {
 }
 
 impl<F: Drop> PolynomialColumn<F> {
-    /// Coefficient i, which is that of the power i. i is below the number of coefficients.
+    /// Returns coefficient i, which is that of the power i. i is below the number of coefficients.
+    ///
+    /// ```
+    /// let points = VanishingPoints::all_non_vanishing(alloc, 1)?;
+    /// let (_, column) = EvaluationColumn::<F>::vanishing(alloc, &points)?;
+    /// column.interpolate(alloc)?.coefficient(1); // 0
+    /// ```
     pub fn coefficient(&self, i: usize) -> &F
         requires { i < length self.now }
         ensures { slice_get self.now i ≡ Some result.now }
@@ -64,10 +70,18 @@ impl<F: Drop> PolynomialColumn<F> {
 }
 
 impl<F: FieldNTT> PolynomialColumn<F> {
-    /// The values at the powers of the root of order N, where N is the number of coefficients.
+    /// Evaluates the polynomial at the powers of the root of order N, where N is the number of
+    /// coefficients.
     ///
     /// lg N is at most `F::MAX_LG_ROOT_ORDER`. Takes memory for a table of N elements; the values
     /// stand where the coefficients stood.
+    ///
+    /// ```
+    /// let mut points = VanishingPoints::new(alloc, 1)?;
+    /// points.set_non_vanishing(0);
+    /// let (_, column) = EvaluationColumn::<F>::vanishing(alloc, &points)?;
+    /// column.interpolate(alloc)?.evaluate(alloc)?.values()[1]; // 0
+    /// ```
     pub fn evaluate(self, alloc: Global) -> Mem<EvaluationColumn<F>>
         requires domain { HasDomain F.MAX_LG_ROOT_ORDER (length self) }
         ensures count { IfOk result (λ v. length v ≡ length self) }
@@ -83,7 +97,7 @@ impl<F: FieldNTT> PolynomialColumn<F> {
 }
 
 impl<F: Drop> EvaluationColumn<F> {
-    /// The values, in natural order.
+    /// Returns the values, in natural order.
     pub fn values(&self) -> &[F]
         ensures { result.now ≡ self.now }
     {
@@ -92,12 +106,27 @@ impl<F: Drop> EvaluationColumn<F> {
 }
 
 impl<F: FieldNTT> EvaluationColumn<F> {
-    /// The value at zero, and the values at the powers of the root of order N, of a polynomial that
-    /// is zero at the points that are `false` and at no others, where N is the number of points. Up
-    /// to a factor that is not zero it is the product of X - x over these points x.
+    /// Makes the values of a polynomial that is zero at the points that are `false` and at no
+    /// others.
+    ///
+    /// The answer is its value at zero, and its values at the powers of the root of order N, where
+    /// N is the number of points. Up to a factor that is not zero, the polynomial is the product of
+    /// X - x over the points x at which it is zero.
+    ///
+    /// The answer is its value at zero, and its values at the powers of the root of order N, where
+    /// N is the number of points. Up to a factor that is not zero, the polynomial is the product of
+    /// X - x over the points x at which it is zero.
     ///
     /// lg N is at most `F::MAX_LG_ROOT_ORDER`, and some point is `true`. Takes memory for two
     /// tables of N elements, and for as many coefficients, most of them twice.
+    ///
+    /// ```
+    /// let mut points = VanishingPoints::new(alloc, 1)?;
+    /// points.set_non_vanishing(0);
+    /// let (at_zero, column) = EvaluationColumn::<F>::vanishing(alloc, &points)?;
+    /// column.values()[0] * at_zero.inv(); // 2
+    /// column.values()[1]; // 0
+    /// ```
     pub fn vanishing(alloc: Global, points: &VanishingPoints) -> Mem<(F, Self)>
         requires domain { HasDomain F.MAX_LG_ROOT_ORDER (length points.now) }
         requires some { 0 < count_true points.now }
@@ -109,8 +138,8 @@ impl<F: FieldNTT> EvaluationColumn<F> {
         Ok((at_zero, EvaluationColumn { values }))
     }
 
-    /// The polynomial with N coefficients that has these values at the powers of the root of order
-    /// N, where N is the number of values.
+    /// Finds the polynomial that has these values at the powers of the root of order N, where N is
+    /// the number of values. It has N coefficients.
     ///
     /// lg N is at most `F::MAX_LG_ROOT_ORDER`. Takes memory for a table of N elements; the
     /// coefficients stand where the values stood.

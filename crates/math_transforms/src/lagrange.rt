@@ -55,8 +55,13 @@ use points::{differences, gathered, power_minus_one, products, scaled, size, val
 use std::alloc::Global;
 use std::num::NonZeroU32;
 
-/// The weights by which the values at the powers of a root of unity with the given indices give the
-/// value at zero, each with its index: those of `lagrange_coefficients_at` at zero.
+/// Returns the weights that give the value at zero from values at powers of a root of unity, each
+/// with the index of its power. They are those of `lagrange_coefficients_at` at zero.
+///
+/// ```
+/// let Some(total) = NonZeroU32::new(4) else { return Ok(()) };
+/// lagrange_coefficients::<F, _>(alloc, total, vec![in alloc; 2, 7]?)?; // [(2, 1)]
+/// ```
 pub fn lagrange_coefficients<F: FieldNTT, P: IntoIterator<Item = u32> + Drop>(
     alloc: Global,
     total: NonZeroU32,
@@ -78,8 +83,8 @@ where
     Ok(out)
 }
 
-/// The weights by which the values at the powers of a root of unity with the given indices give the
-/// value at x, each with its index, for polynomials of at most as many coefficients as indices.
+/// Returns the weights that give the value at x from values at powers of a root of unity, each with
+/// the index of its power. They hold for polynomials of at most as many coefficients as indices.
 ///
 /// The root is of order N, which is `total` rounded up to a power of two. Repeated indices and
 /// those of `total` or more are ignored. The weights go by rising index, and there is none where no
@@ -87,6 +92,11 @@ where
 /// not.
 ///
 /// lg N is at most `F::MAX_LG_ROOT_ORDER`.
+///
+/// ```
+/// let Some(total) = NonZeroU32::new(2) else { return Ok(()) };
+/// lagrange_coefficients_at(alloc, total, vec![in alloc; 1, 0]?, &F::from(1))?; // [(0, 1), (1, 0)]
+/// ```
 pub fn lagrange_coefficients_at<F: FieldNTT, P: IntoIterator<Item = u32> + Drop>(
     alloc: Global,
     total: NonZeroU32,

@@ -86,7 +86,8 @@ pub fn interpolation_table<F: FieldNTT>(alloc: Global, lg: u8) -> Mem<Vec<F>>
 /// Turns 2^lg rows of coefficients into rows of values: in each column cell j becomes the value at
 /// power j of the root of order 2^lg. Both are in natural order.
 ///
-/// Adds cols 2^lg lg / 2 butterflies. Where it is refused, the cells have some values.
+/// Adds cols 2^lg lg / 2 butterflies. Where it is refused, the cells have some values, and one
+/// butterfly or more is counted.
 pub fn evaluate_rows<F: FieldNTT>(
     alloc: Global,
     cells: &mut [F],
@@ -117,7 +118,8 @@ pub fn evaluate_rows<F: FieldNTT>(
 /// Turns 2^lg rows of values, at the powers of the root of order 2^lg, into rows of the
 /// coefficients of the polynomials that have them. Both are in natural order.
 ///
-/// Adds cols 2^lg lg / 2 butterflies. Where it is refused, the cells have some values.
+/// Adds cols 2^lg lg / 2 butterflies. Where it is refused, the cells have some values, and one
+/// butterfly or more is counted.
 pub fn interpolate_rows<F: FieldNTT>(
     alloc: Global,
     cells: &mut [F],
@@ -137,12 +139,18 @@ pub fn interpolate_rows<F: FieldNTT>(
     ensures counted { OnOk result
         (2 * work.new.butterflies ≡ 2 * work.old.butterflies + cols * 2 ^ lg * lg) }
     ensures bounded { AddsAtMost (cols * 2 ^ lg * lg) work.old work.new }
+    ensures refused { OnErr result (work.old.butterflies < work.new.butterflies) }
+    ensures never { IsTrue F.NEVER_REFUSES → IsOk result }
 {
     interpolate_multiples(alloc, cells, cols, lg, table, work)?;
-    if lg > 0 {
-        let factor = size_inverse(alloc, lg)?;
-        scale(alloc, cells, &factor)?;
+    if lg == 0 {
+        return Ok(());
     }
+    if cols == 0 {
+        return Ok(());
+    }
+    let factor = size_inverse(alloc, lg)?;
+    scale(alloc, cells, &factor)?;
     Ok(())
 }
 
@@ -180,8 +188,9 @@ pub fn interpolate_multiples<F: FieldNTT>(
 
 /// 1 / 2^lg: one, halved lg times.
 pub fn size_inverse<F: FieldNTT>(alloc: Global, lg: u8) -> Mem<F>
-    ensures { IfOk result
+    ensures inverse { IfOk result
         (λ x. F.same (F.product x (power F.one F.product (F.sum F.one F.one) lg)) F.one) }
+    ensures never { IsTrue F.NEVER_REFUSES → IsOk result }
 {
     let mut out = F::one(alloc)?;
     for _done in 0..lg {
@@ -192,9 +201,10 @@ pub fn size_inverse<F: FieldNTT>(alloc: Global, lg: u8) -> Mem<F>
 
 /// Multiplies each cell by a factor.
 fn scale<F: FieldNTT>(alloc: Global, cells: &mut [F], factor: &F) -> Mem<()>
-    ensures { OnOk result ((p : ℕ) → p < length cells.old
+    ensures scaled { OnOk result ((p : ℕ) → p < length cells.old
         → F.same (slice_index_or cells.new p F.zero)
         (F.product (slice_index_or cells.old p F.zero) factor.now)) }
+    ensures never { IsTrue F.NEVER_REFUSES → IsOk result }
 {
     for p in 0..cells.len() {
         cells[p].mul_assign(alloc, factor)?;

@@ -197,6 +197,8 @@ fn chunk<F: FieldNTT>(
     ensures exact { IfOk result
         (λ _. let v = count_false (every start stride (2 ^ lg) points.now) in v < 2 ^ lg
         → 2 * work.new.root_products ≡ 2 * work.old.root_products + v * (v + 1)) }
+    ensures no_more { let v = count_false (every start stride (2 ^ lg) points.now) in
+        2 * work.new.root_products ≤ 2 * work.old.root_products + v * (v + 1) }
     ensures bounded { AddsWithin 0 (128 * 2 ^ lg) work.old work.new }
 {
     let count = size_of(lg);
@@ -480,6 +482,8 @@ fn tree<F: FieldNTT>(
     ensures exact { IfOk result
         (λ _. let v = count_false (every start stride (2 ^ lg) points.now) in lg ≤ base
         → v < 2 ^ lg → 2 * work.new.root_products ≡ 2 * work.old.root_products + v * (v + 1)) }
+    ensures no_more { let v = count_false (every start stride (2 ^ lg) points.now) in lg ≤ base
+        → 2 * work.new.root_products ≤ 2 * work.old.root_products + v * (v + 1) }
     ensures bounded { AddsWithin (2 ^ lg * lg * (3 * lg - 1)) (128 * 2 ^ lg) work.old work.new }
 {
     if lg <= base {
@@ -540,6 +544,8 @@ pub fn vanishing_coefficients<F: FieldNTT>(
     ensures butterflies { lg ≤ 8 → work.new.butterflies ≡ work.old.butterflies }
     ensures exact { IfOk result (λ _. lg ≤ 8 → 2 * work.new.root_products
         ≡ 2 * work.old.root_products + count_false points.now * (count_false points.now + 1)) }
+    ensures no_more { lg ≤ 8 → 2 * work.new.root_products
+        ≤ 2 * work.old.root_products + count_false points.now * (count_false points.now + 1) }
     ensures bounded { AddsWithin (2 ^ lg * lg * (3 * lg - 1)) (128 * 2 ^ lg) work.old work.new }
 {
     let base = if lg <= WHOLE_LG { WHOLE_LG } else { CHUNK_LG };

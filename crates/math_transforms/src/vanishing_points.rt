@@ -32,6 +32,14 @@ use std::marker::Model;
 /// Point `i` is bit `i % 64` of word `i / 64`. Fewer than 64 points leave bits of the one word
 /// over, and these are zero, so that equal bitmaps have equal words and the ones of whole words can
 /// be counted.
+///
+/// ```
+/// let mut points = VanishingPoints::new(alloc, 2)?;
+/// points.set_non_vanishing(1);
+/// points.set_non_vanishing(3);
+/// points.non_vanishing_indices(alloc)?; // [1, 3]
+/// points.get(2); // false
+/// ```
 #[derive(Debug, Drop)]
 pub struct VanishingPoints {
     lg_size: u32,
@@ -48,9 +56,15 @@ impl Model for VanishingPoints {
 }
 
 impl VanishingPoints {
-    /// 2^lg_size points, at each of which a polynomial has to vanish: all are `false`.
+    /// Makes 2^lg_size points, at each of which a polynomial has to vanish: all are `false`.
     ///
     /// `lg_size` is below 64. Takes 2^lg_size / 8 bytes, and 8 at least.
+    ///
+    /// ```
+    /// let points = VanishingPoints::new(alloc, 2)?;
+    /// points.size(); // 4
+    /// points.count_non_vanishing(); // 0
+    /// ```
     pub fn new(alloc: Global, lg_size: u32) -> Mem<Self>
         requires { lg_size < 64 }
         ensures { IfOk result (λ points. points ≡ replicate (2 ^ lg_size) false) }
@@ -59,9 +73,15 @@ impl VanishingPoints {
         Ok(VanishingPoints { lg_size, words })
     }
 
-    /// 2^lg_size points, at none of which a polynomial has to vanish: all are `true`.
+    /// Makes 2^lg_size points, at none of which a polynomial has to vanish: all are `true`.
     ///
     /// `lg_size` is below 64. Takes 2^lg_size / 8 bytes, and 8 at least.
+    ///
+    /// ```
+    /// let points = VanishingPoints::all_non_vanishing(alloc, 2)?;
+    /// points.lg_size(); // 2
+    /// points.count_non_vanishing(); // 4
+    /// ```
     pub fn all_non_vanishing(alloc: Global, lg_size: u32) -> Mem<Self>
         requires { lg_size < 64 }
         ensures { IfOk result (λ points. points ≡ replicate (2 ^ lg_size) true) }
@@ -70,7 +90,7 @@ impl VanishingPoints {
         Ok(VanishingPoints { lg_size, words })
     }
 
-    /// The binary logarithm of the number of points: it is below 64.
+    /// Returns the binary logarithm of the number of points, which is below 64.
     pub fn lg_size(&self) -> u32
         ensures size { length self.now ≡ 2 ^ result }
         ensures small { result < 64 }
@@ -78,7 +98,7 @@ impl VanishingPoints {
         self.lg_size
     }
 
-    /// How many points there are.
+    /// Returns how many points there are.
     pub fn size(&self) -> u64
         ensures { result ≡ length self.now }
     {
@@ -93,7 +113,7 @@ impl VanishingPoints {
         self.words[(index / 64) as usize] |= 1 << (index % 64);
     }
 
-    /// Whether point `index` is one that does not vanish. `index` is below 2^lg_size.
+    /// Returns whether point `index` is one that does not vanish. `index` is below 2^lg_size.
     pub fn get(&self, index: u64) -> bool
         requires { index < length self.now }
         ensures { slice_get self.now index ≡ Some result }
@@ -101,7 +121,7 @@ impl VanishingPoints {
         (self.words[(index / 64) as usize] >> (index % 64)) & 1 == 1
     }
 
-    /// How many points do not vanish, counted a word at a time.
+    /// Returns how many points do not vanish. It counts a word at a time.
     pub fn count_non_vanishing(&self) -> u64
         ensures { result ≡ count_true self.now }
     {
@@ -112,7 +132,7 @@ impl VanishingPoints {
         count
     }
 
-    /// The indices of the non-vanishing points, by rising number.
+    /// Returns the indices of the non-vanishing points, by rising number.
     pub fn non_vanishing_indices(&self, alloc: Global) -> Mem<Vec<usize>>
         ensures { IfOk result (λ indices. indices.items ≡ filled_places self.now) }
     {

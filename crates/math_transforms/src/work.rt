@@ -25,7 +25,14 @@ impl Model for Work {
 }
 
 impl Work {
-    /// No work.
+    /// Makes the count of no work.
+    ///
+    /// ```
+    /// let mut work = Work::new();
+    /// work.saturating_add(Work::new());
+    /// work.butterflies(); // 0
+    /// work.root_products(); // 0
+    /// ```
     pub fn new() -> Self
         ensures butterflies { result.butterflies ≡ 0 }
         ensures root_products { result.root_products ≡ 0 }
@@ -36,14 +43,14 @@ impl Work {
         }
     }
 
-    /// How many pairs of cells were combined.
+    /// Returns how many pairs of cells were combined.
     pub fn butterflies(&self) -> u128
         ensures { result ≡ self.now.butterflies }
     {
         self.butterflies
     }
 
-    /// How many times a coefficient was multiplied by a root.
+    /// Returns how many times a coefficient was multiplied by a root.
     pub fn root_products(&self) -> u128
         ensures { result ≡ self.now.root_products }
     {

@@ -10,9 +10,15 @@ ghost use Rattle.math_theory.specs.Sums.{weighted_sum};
 use crate::products::paired_products;
 use math_base::fields::goldilocks::F;
 
-/// The sum of each element times its weight: the first element times the first weight, and so on.
+/// Returns the sum of each element times its weight: the first element times the first weight, and
+/// so on.
 ///
 /// There are as many weights as elements, or more, which do not count. Of no elements it is zero.
+///
+/// ```
+/// use math_values::sums::sum_of_products;
+/// sum_of_products(&[F::from(2), F::from(3)], &[F::from(4), F::from(6)]); // 26
+/// ```
 pub fn sum_of_products(elements: &[F], weights: &[F]) -> F
     requires { length elements.now ≤ length weights.now }
     ensures { result ≡ weighted_sum (residue 0) sum product elements.now weights.now }

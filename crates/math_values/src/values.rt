@@ -53,8 +53,14 @@ fn powers_of(alloc: Global, x: F, n: usize) -> Mem<(Vec<F>, F)>
 impl PowerTable {
     ghost use Rattle.math_values.specs.Tables.{point};
 
-    /// The table of the first powers of x: of `count` ones, but of one at least and of `BLOCK` at
-    /// most.
+    /// Makes the table of the first powers of x: of `count` ones, but of one at least and of
+    /// `BLOCK` at most.
+    ///
+    /// ```
+    /// use math_values::values::PowerTable;
+    /// let table = PowerTable::new(alloc, F::from(5), 3)?;
+    /// table.value(&[F::from(4), F::from(6), F::from(8)]); // 234
+    /// ```
     pub fn new(alloc: Global, x: F, count: usize) -> Mem<PowerTable>
         ensures { IfOk result (λ table. point table ≡ x) }
     {
@@ -66,9 +72,9 @@ impl PowerTable {
         })
     }
 
-    /// The table for one list of so many coefficients: a shorter one for a short list, since each
-    /// power takes a product too. In a long list the two halves of a block are to lie pages apart,
-    /// since both are read at once.
+    /// Makes the table for one list of so many coefficients: a shorter one for a short list, since
+    /// each power takes a product too. In a long list the two halves of a block are to lie pages
+    /// apart, since both are read at once.
     pub fn for_list(alloc: Global, x: F, coefficients: usize) -> Mem<PowerTable>
         ensures { IfOk result (λ table. point table ≡ x) }
     {
@@ -107,15 +113,23 @@ impl PowerTable {
         (sum + factor * value, above + more)
     }
 
-    /// The value at the point of the polynomial with these coefficients, from the constant upwards.
+    /// Returns the value at the point of the polynomial with these coefficients, from the constant
+    /// upwards.
     pub fn value(&self, coefficients: &[F]) -> F
         ensures { result ≡ value_in_ring goldilocks coefficients.now (point self.now) }
     {
         self.value_and_count::<F, false>(coefficients).0
     }
 
-    /// The value at the point of the polynomial whose coefficients are the words, from the constant
-    /// upwards. A word may be P or more: its remainder by P counts.
+    /// Returns the value at the point of the polynomial whose coefficients are the words, from the
+    /// constant upwards. A word may be P or more: its remainder by P counts.
+    ///
+    /// ```
+    /// use math_values::values::PowerTable;
+    /// let table = PowerTable::for_list(alloc, F::from(5), 2)?;
+    /// table.value_of_words(&[4, MODULUS + 6]); // 34
+    /// table.value_of_words_below(&[4, MODULUS + 6]); // None
+    /// ```
     pub fn value_of_words(&self, coefficients: &[u64]) -> F
         ensures { result
             ≡ value_in_ring goldilocks (elements coefficients.now) (point self.now) }
@@ -123,8 +137,8 @@ impl PowerTable {
         self.value_and_count::<u64, false>(coefficients).0
     }
 
-    /// The value at the point of the polynomial whose coefficients are the words, from the constant
-    /// upwards, where each word is below P. The words are gone over once.
+    /// Returns the value at the point of the polynomial whose coefficients are the words, from the
+    /// constant upwards, where each word is below P. The words are gone over once.
     pub fn value_of_words_below(&self, coefficients: &[u64]) -> Option<F>
         ensures value { IfSome result (λ v.
             v ≡ value_in_ring goldilocks (elements coefficients.now) (point self.now)) }

@@ -1,6 +1,8 @@
 //! Secrets that are scalars of a group, in shares that a commitment verifies.
 
-use crate::element_shares::{put_left, put_shares, put_undealt, secret_and_counts, share_of};
+use crate::element_shares::{
+    polynomial_of, put_left, put_shares, put_undealt, secret_and_counts, share_of,
+};
 use math_base::algebra::{CryptoGroup, Mem, Random};
 use math_poly::poly::Poly;
 use math_samples::elements::Element;
@@ -8,7 +10,7 @@ use math_samples::sources::Listed;
 use rows_base::answer::Answer;
 use rows_base::fault::Fault;
 use rows_base::refusals::{begin, end};
-use rows_base::words::{element, elements, numbers, parted};
+use rows_base::words::{element, numbers, parted};
 use shared_secret::{DealError, Share, deal_committed, verify};
 use std::alloc::Global;
 
@@ -88,15 +90,6 @@ fn deal_shares<G: Element + Random + CryptoGroup<Scalar = G>>(
     deal_from(alloc, secret, t, n, &words, answer)
 }
 
-/// The polynomial with these coefficients, from the constant upwards.
-fn commitment_of<G: Element>(alloc: Global, text: &str) -> Result<Poly<G>, Fault> {
-    let coefficients = elements::<G>(alloc, text)?;
-    if coefficients.is_empty() || coefficients.len() > u32::MAX as usize {
-        return Err(Fault::OutOfRange("no coefficient, or 2^32"));
-    }
-    Ok(Poly::from_coefficients(coefficients))
-}
-
 /// Adds whether a commitment verifies a share.
 fn put_verified<G: Element + CryptoGroup<Scalar = G>>(
     alloc: Global,
@@ -117,7 +110,7 @@ fn verify_share<G: Element + CryptoGroup<Scalar = G>>(
     answer: &mut Answer<G>,
 ) -> Result<(), Fault> {
     let (share, commitment) = parted(arguments, '@')?;
-    let commitment = commitment_of::<G>(alloc, commitment)?;
+    let commitment = polynomial_of::<G>(alloc, commitment)?;
     let share = share_of::<G>(alloc, share.trim())?;
     put_verified(alloc, &share, &commitment, &mut answer.text).map_err(Fault::Memory)
 }

@@ -1,15 +1,16 @@
 //! Secrets that are elements of a field, in shares.
 
 use math_base::algebra::{Mem, Random, msm_naive};
+use math_poly::poly::Poly;
 use math_samples::elements::Element;
 use math_samples::sources::Listed;
 use rows_base::answer::{Answer, put};
 use rows_base::fault::Fault;
 use rows_base::refusals::{begin, end};
-use rows_base::words::{element, numbers, parted, short};
+use rows_base::words::{element, elements, numbers, parted, short};
 use shared_secret::{
-    CombineError, Corrected, DealError, Share, Weights, combine, combine_corrected, deal,
-    secret_of, weigh,
+    CombineError, Corrected, DealError, Share, Weights, combine, combine_corrected, deal, point,
+    secret_of, shares_of, weigh,
 };
 use std::alloc::{AllocError, Global};
 
@@ -21,7 +22,9 @@ pub fn run<R: Element + Random>(
     answer: &mut Answer<R>,
 ) -> Result<bool, Fault> {
     let done = match call {
+        "point_of" => point_of(alloc, arguments, answer),
         "deal" => deal_shares(alloc, arguments, answer),
+        "shares_of" => shares_of_polynomial(alloc, arguments, answer),
         "combine" => combine_shares(alloc, arguments, answer),
         "combine_corrected" => correct_shares(alloc, arguments, answer),
         "weigh" => weigh_shares(alloc, arguments, answer),
@@ -29,6 +32,24 @@ pub fn run<R: Element + Random>(
         _ => return Ok(false),
     };
     done.and(Ok(true))
+}
+
+/// Adds the point of an index.
+fn put_point<R: Element>(alloc: Global, index: u32, answer: &mut Answer<R>) -> Mem<()> {
+    let given = begin(alloc, &());
+    let found = point::<R>(alloc, index);
+    end(alloc, given, &(), found.is_err());
+    answer.element(found?)
+}
+
+/// `point_of INDEX`: the point.
+fn point_of<R: Element>(
+    alloc: Global,
+    arguments: &str,
+    answer: &mut Answer<R>,
+) -> Result<(), Fault> {
+    let index = short(arguments.trim())?;
+    put_point(alloc, index, answer).map_err(Fault::Memory)
 }
 
 /// `SECRET T N`: the word of the secret, and the two numbers.
@@ -121,6 +142,48 @@ fn deal_shares<R: Element + Random>(
     let words = numbers(alloc, words)?;
     let secret = element::<R>(alloc, secret)?;
     deal_from(alloc, secret, t, n, &words, answer)
+}
+
+/// The polynomial with these coefficients, from the constant upwards.
+pub(crate) fn polynomial_of<R: Element>(alloc: Global, text: &str) -> Result<Poly<R>, Fault> {
+    let coefficients = elements::<R>(alloc, text)?;
+    if coefficients.is_empty() || coefficients.len() > u32::MAX as usize {
+        return Err(Fault::OutOfRange("no coefficient, or 2^32"));
+    }
+    Ok(Poly::from_coefficients(coefficients))
+}
+
+/// Adds the shares of a polynomial, or why there are none.
+fn put_shares_of<R: Element>(
+    alloc: Global,
+    p: &Poly<R>,
+    n: u32,
+    answer: &mut Answer<R>,
+) -> Mem<()> {
+    let given = begin(alloc, &p);
+    let shares = shares_of(alloc, p, n);
+    end(
+        alloc,
+        given,
+        &p,
+        matches!(shares, Err(DealError::Memory(_))),
+    );
+    match shares {
+        Ok(shares) => put_shares(shares, answer),
+        Err(error) => put_undealt(&mut answer.text, &error),
+    }
+}
+
+/// `shares_of N @ C ..`: the shares of the polynomial, each as `INDEX:VALUE`.
+fn shares_of_polynomial<R: Element>(
+    alloc: Global,
+    arguments: &str,
+    answer: &mut Answer<R>,
+) -> Result<(), Fault> {
+    let (n, coefficients) = parted(arguments, '@')?;
+    let n = short(n)?;
+    let p = polynomial_of::<R>(alloc, coefficients)?;
+    put_shares_of(alloc, &p, n, answer).map_err(Fault::Memory)
 }
 
 /// The share that a word `INDEX:VALUE` writes.

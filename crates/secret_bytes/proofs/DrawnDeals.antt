@@ -15,7 +15,7 @@ use Rattle.math_base.specs.Elements.{number, residue, same, sample_of, goldilock
 use Rattle.math_base.specs.Polynomials.{value_in_ring}
 use Rattle.math_base.specs.Samples.{before_samples, first_below, samples}
 use Rattle.math_base.proofs.ElementNumbers.{residue-number, same_number}
-use Rattle.math_base.proofs.SampleLists.{samples_behind_first}
+use Rattle.math_base.proofs.SampleLists.{rest_of, samples_behind_first}
 use Rattle.math_base.proofs.SampleSteps.{word_found}
 use Rattle.shared_secret.specs.declared.shares.Share.{Share}
 use Rattle.shared_secret.specs.Explanations.{Explains}
@@ -29,7 +29,7 @@ use Rattle.secret_bytes.specs.Keyed.{element_count}
 use Rattle.secret_bytes.proofs.AnyShares.{number_of-index, sampled-at}
 use Rattle.secret_bytes.proofs.SeenSlips.{equal_parts}
 use Rattle.secret_bytes.proofs.DealtRows.{sampled-count}
-use Rattle.secret_bytes.proofs.DrawnSamples.{after_first, sampled-samples}
+use Rattle.secret_bytes.proofs.DrawnSamples.{sampled-samples}
 use Rattle.secret_bytes.proofs.ExplainedBytes.{same_lists}
 use Rattle.secret_bytes.proofs.ExplainedSecrets.{each-explains}
 use Rattle.secret_bytes.proofs.PackedAlone.{keyed-alone, keyed-length}
@@ -55,7 +55,7 @@ forth : (q : Found) (whole : Stream → Option (List F) × Stream) (words : Stre
 unfolding before_samples
 forth (None, r) whole words x xs u below h e = absurd (none-some (x ∷ xs) (ap (λ p. p.0) e))
 forth (Some w, r) whole words x xs u below h e =
-    let (ys, f, g) = after_first (whole r) (residue w) (x ∷ xs) u e in
+    let (ys, f, g) = rest_of (whole r) (residue w) (x ∷ xs) u e in
     let first : residue w ≡ x = ap (λ zs. get_or zs 0 x) g in
     let rest : ys ≡ xs = ap (drop 1) g in
     let word : w ≡ number x = sym (mod-eq_of_lt (below w refl)) ∙ ap number first in
@@ -66,7 +66,7 @@ back : (q : Found) (whole : Stream → Option (List F) × Stream) (words : Strea
 unfolding before_samples
 back (None, r) whole words x xs u h e = absurd (none-some (number x ∷ map number xs) (ap (λ p. p.0) e))
 back (Some w, r) whole words x xs u h e =
-    let (ys, f, g) = after_first (words r) w (number x ∷ map number xs) u e in
+    let (ys, f, g) = rest_of (words r) w (number x ∷ map number xs) u e in
     let first : w ≡ number x = ap (λ zs. get_or zs 0 w) g in
     let rest : ys ≡ map number xs = ap (drop 1) g in
     ap (λ p. (option_map (λ zs. residue w ∷ zs) p.0, p.1)) (h r (f ∙ ap (λ zs. (Some zs, u)) rest)) ∙ ap (λ v. (Some (residue v ∷ xs), u)) first

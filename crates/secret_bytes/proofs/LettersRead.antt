@@ -71,9 +71,6 @@ pub record IsReadSoFar (text bytes rest : List ℕ) (first : Bool) : Type 0 wher
   pub forth : (more : List ℕ) → rest ≡ grouped first more → text ≡ grouped true (bytes ++ more)
   pub back : (all : List ℕ) → All (λ b. b < 256) all → text ≡ grouped true all → (more : List ℕ) × (all ≡ bytes ++ more) × (rest ≡ grouped first more) × All (λ b. b < 256) more
 
-pub read-begun : (text : List ℕ) → IsReadSoFar text [] text true
-read-begun text = record { forth = λ more e. e; back = λ all h e. (all, refl, e, h) }
-
 nothing : {X : Type 0} (first : Bool) (a b : ℕ) (xs : List ℕ) → [] ≡ gap first ++ (a ∷ b ∷ xs) → X
 nothing first a b xs e = absurd (omega (arith, ap length e, length-append (gap first) (a ∷ b ∷ xs)))
 
@@ -150,10 +147,6 @@ length-grouped first (b ∷ xs) (c ∷ ys) e =
     let rest : length (grouped (not first) xs) ≡ length (grouped (not first) ys) = length-grouped (not first) xs ys (omega arith) in
     length-append (gap first) (letter (b / 16) ∷ letter (b % 16) ∷ grouped (not first) xs) ∙ ap (λ n. length (gap first) + suc (suc n)) rest
     ∙ sym (length-append (gap first) (letter (c / 16) ∷ letter (c % 16) ∷ grouped (not first) ys))
-
-pub begins-grouped : (xs : List ℕ) → 0 < length xs → (after : List ℕ) × (grouped true xs ≡ 45 ∷ after)
-begins-grouped [] l = absurd (omega arith)
-begins-grouped (b ∷ xs) l = (letter (b / 16) ∷ letter (b % 16) ∷ grouped false xs, refl)
 
 gap-small : (first : Bool) → All (λ a. a < 128) (gap first)
 gap-small true = All-cons (λ a. a < 128) 45 [] (omega arith) (All-nil (λ a. a < 128))

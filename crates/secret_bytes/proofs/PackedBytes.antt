@@ -1,16 +1,13 @@
 -- Numbers of seven bytes: how large they are.
-use Rattle.std.proofs.Common.{◌≡◌, ◌∙◌, ℕ, zero, suc, ◌+◌, ◌/◌, ◌^◌, ◌-◌, ◌<◌, ◌≤◌, List, [], ◌∷◌, ◌++◌, length, take, drop, map, get_or, sym, ap, ap₂, subst, arith, append-nil, append_assoc, min}
+use Rattle.std.proofs.Common.{◌≡◌, ◌∙◌, ℕ, zero, suc, ◌+◌, ◌/◌, ◌^◌, ◌-◌, ◌<◌, ◌≤◌, List, [], ◌∷◌, ◌++◌, length, take, drop, map, get_or, sym, ap, ap₂, arith, append-nil, append_assoc, min}
 use Rattle.std.specs.List.{All}
-use Rattle.std.proofs.lemmas.List.{get_or_default, length-append, length-drop, map-append, take_all, drop_all, drop_at}
+use Rattle.std.proofs.lemmas.List.{length-append, length-drop, map-append, take_all, drop_all, drop_at}
 use Rattle.std.proofs.Math.Seq.{take-append_seam}
 use Rattle.std.proofs.lemmas.List.Elements.{All-drop, All-head, All-tail}
+use Rattle.math_numbers.proofs.ByteLists.{all_bytes}
 use Rattle.math_base.specs.declared.fields.goldilocks.F.{F}
 use Rattle.math_base.specs.Elements.{number}
 use Rattle.secret_bytes.specs.Packings.{number_count, number_of, packed, sevens}
-
--- where each number that is read from a list is below 256, its items are
-pub all_bytes : (bytes : List ℕ) → ((k : ℕ) → get_or bytes k 0 < 256) → All (λ byte. byte < 256) bytes
-all_bytes bytes h k d l = subst (λ (x : ℕ). x < 256) (get_or_default bytes k 0 d l) (h k)
 
 pub number-below : (k : ℕ) (bytes : List ℕ) → All (λ byte. byte < 256) bytes → length bytes ≤ k → number_of bytes < 256 ^ k
 number-below zero [] h l = omega arith

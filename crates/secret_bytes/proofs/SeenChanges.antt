@@ -4,7 +4,6 @@ use Rattle.std.specs.List.{All}
 use Rattle.std.proofs.lemmas.List.{get_or-drop, get_or-take, length-drop, length-take-le, take-append-drop}
 use Rattle.std.proofs.lemmas.List.Elements.{All-from_get_or}
 use Rattle.math_theory.specs.Laws.{IsEquality, IsGroup, IsProduct, IsRing, IsField}
-use Rattle.math_theory.specs.ModuleLaws.{ring_is_module}
 use Rattle.math_theory.specs.Powers.{multiple, power-zero, power-suc}
 use Rattle.math_theory.specs.Values.{value}
 use Rattle.math_theory.specs.Interpolation.{AreApart}
@@ -12,7 +11,7 @@ use Rattle.math_theory.proofs.classes.CarriedRingLaws.{difference_zero-same}
 use Rattle.math_theory.proofs.classes.RingUpToSame.{ring_same, combine_same, combine2_same}
 use Rattle.math_theory.proofs.polynomials.BuiltPolynomials.{value-zeros_after}
 use Rattle.math_theory.proofs.polynomials.CarriedRoots.{few_roots-same}
-use Rattle.math_theory.proofs.polynomials.Horner.{value_over-cons}
+use Rattle.math_theory.proofs.polynomials.CarriedValues.{value-cons}
 use Rattle.math_theory.proofs.rings.Normal.{◌⊕◌, ◌⊗◌, ◌⊖◌, minus, 𝟘, 𝟙, v0, v1, v2, v3, v4}
 use Rattle.secret_bytes.specs.KeyChecks.{within, check_of, added}
 
@@ -24,9 +23,6 @@ module _ {A : Type 0} {same : A → A → Type 0} {zero_of : A} {sum : A → A �
   abbrev less : A → A → A
   less a b = sum a (negative b)
 
-  value-cons : (r a : A) (p : List A) → same (at r (a ∷ p)) (sum a (product (at r p) r))
-  value-cons r a p = value_over-cons E G (ring_is_module E G P L) r a p
-
   -- e times the polynomial, and the polynomial moved up, and c: c + (X + e) p
   abbrev raised : A → A → List A → List A
   raised e c [] = c ∷ []
@@ -37,13 +33,13 @@ module _ {A : Type 0} {same : A → A → Type 0} {zero_of : A} {sum : A → A �
   length-raised e c (a ∷ p) = ap suc (length-raised e a p)
 
   value-raised : (r e c : A) (p : List A) → same (at r (raised e c p)) (sum c (product (sum r e) (at r p)))
-  value-raised r e c [] = E.transitive _ _ _ (value-cons r c []) (ring_same E G P L (c ∷ r ∷ e ∷ []) (v0 ⊕ (𝟘 ⊗ v1)) (v0 ⊕ ((v1 ⊕ v2) ⊗ 𝟘)) refl)
+  value-raised r e c [] = E.transitive _ _ _ (value-cons E G P L r c []) (ring_same E G P L (c ∷ r ∷ e ∷ []) (v0 ⊕ (𝟘 ⊗ v1)) (v0 ⊕ ((v1 ⊕ v2) ⊗ 𝟘)) refl)
   value-raised r e c (a ∷ p) =
-      E.transitive _ _ _ (value-cons r (sum c (product e a)) (raised e a p))
+      E.transitive _ _ _ (value-cons E G P L r (sum c (product e a)) (raised e a p))
       (E.transitive _ _ _ (G.respects_sum _ _ _ _ (E.reflexive _) (P.respects _ _ _ _ (value-raised r e a p) (E.reflexive r)))
       (E.transitive _ _ _
       (ring_same E G P L (c ∷ e ∷ a ∷ r ∷ at r p ∷ []) ((v0 ⊕ (v1 ⊗ v2)) ⊕ ((v2 ⊕ ((v3 ⊕ v1) ⊗ v4)) ⊗ v3)) (v0 ⊕ ((v3 ⊕ v1) ⊗ (v2 ⊕ (v4 ⊗ v3)))) refl)
-      (G.respects_sum _ _ _ _ (E.reflexive c) (P.respects _ _ _ _ (E.reflexive _) (E.symmetric _ _ (value-cons r a p))))))
+      (G.respects_sum _ _ _ _ (E.reflexive c) (P.respects _ _ _ _ (E.reflexive _) (E.symmetric _ _ (value-cons E G P L r a p))))))
 
   -- the coefficients, and zero past the end
   abbrev coeff : List A → ℕ → A
@@ -58,11 +54,11 @@ module _ {A : Type 0} {same : A → A → Type 0} {zero_of : A} {sum : A → A �
 
   value-plain : (elements : List A) (r : A) → same (at r (plain elements)) (within sum product elements r)
   value-plain [] r =
-      E.transitive _ _ _ (value-cons r zero_of (one ∷ []))
-      (E.transitive _ _ _ (G.respects_sum _ _ _ _ (E.reflexive zero_of) (P.respects _ _ _ _ (value-cons r one []) (E.reflexive r)))
+      E.transitive _ _ _ (value-cons E G P L r zero_of (one ∷ []))
+      (E.transitive _ _ _ (G.respects_sum _ _ _ _ (E.reflexive zero_of) (P.respects _ _ _ _ (value-cons E G P L r one []) (E.reflexive r)))
       (ring_same E G P L (r ∷ []) (𝟘 ⊕ ((𝟙 ⊕ (𝟘 ⊗ v0)) ⊗ v0)) v0 refl))
   value-plain (s ∷ elements) r =
-      E.transitive _ _ _ (value-cons r s (plain elements))
+      E.transitive _ _ _ (value-cons E G P L r s (plain elements))
       (G.respects_sum _ _ _ _ (E.reflexive s) (E.transitive _ _ _ (P.commutative _ _) (P.respects _ _ _ _ (E.reflexive r) (value-plain elements r))))
 
   -- and at r + e
@@ -80,8 +76,8 @@ module _ {A : Type 0} {same : A → A → Type 0} {zero_of : A} {sum : A → A �
 
   value-moved : (e : A) (elements : List A) (r : A) → same (at r (moved e elements)) (within sum product elements (sum r e))
   value-moved e [] r =
-      E.transitive _ _ _ (value-cons r e (one ∷ []))
-      (E.transitive _ _ _ (G.respects_sum _ _ _ _ (E.reflexive e) (P.respects _ _ _ _ (value-cons r one []) (E.reflexive r)))
+      E.transitive _ _ _ (value-cons E G P L r e (one ∷ []))
+      (E.transitive _ _ _ (G.respects_sum _ _ _ _ (E.reflexive e) (P.respects _ _ _ _ (value-cons E G P L r one []) (E.reflexive r)))
       (ring_same E G P L (r ∷ e ∷ []) (v1 ⊕ ((𝟙 ⊕ (𝟘 ⊗ v0)) ⊗ v0)) (v0 ⊕ v1) refl))
   value-moved e (s ∷ elements) r =
       E.transitive _ _ _ (value-raised r e s (moved e elements))
@@ -185,11 +181,11 @@ module _ {A : Type 0} {same : A → A → Type 0} {zero_of : A} {sum : A → A �
   value-apart r [] (b ∷ q) e = absurd (omega (arith, e))
   value-apart r (a ∷ p) [] e = absurd (omega (arith, e))
   value-apart r (a ∷ p) (b ∷ q) e =
-      E.transitive _ _ _ (value-cons r (less a b) (apart p q))
+      E.transitive _ _ _ (value-cons E G P L r (less a b) (apart p q))
       (E.transitive _ _ _ (G.respects_sum _ _ _ _ (E.reflexive _) (P.respects _ _ _ _ (value-apart r p q (omega (arith, e))) (E.reflexive r)))
       (E.transitive _ _ _
       (ring_same E G P L (a ∷ b ∷ at r p ∷ at r q ∷ r ∷ []) ((v0 ⊖ v1) ⊕ ((v2 ⊖ v3) ⊗ v4)) ((v0 ⊕ (v2 ⊗ v4)) ⊖ (v1 ⊕ (v3 ⊗ v4))) refl)
-      (G.respects_sum _ _ _ _ (E.symmetric _ _ (value-cons r a p)) (G.respects_negative _ _ (E.symmetric _ _ (value-cons r b q))))))
+      (G.respects_sum _ _ _ _ (E.symmetric _ _ (value-cons E G P L r a p)) (G.respects_negative _ _ (E.symmetric _ _ (value-cons E G P L r b q))))))
 
   -- the difference of the checks, as a polynomial of the key
   abbrev change : List A → List A → A → A → List A
@@ -217,7 +213,7 @@ module _ {A : Type 0} {same : A → A → Type 0} {zero_of : A} {sum : A → A �
       E.transitive _ _ _ (value-apart x (moved e (zero_of ∷ added sum elements ds)) (f ∷ plain elements) (change-lengths elements ds e f))
       (E.transitive _ _ _
       (G.respects_sum _ _ _ _ (value-moved e (zero_of ∷ added sum elements ds) x)
-      (G.respects_negative _ _ (E.transitive _ _ _ (value-cons x f (plain elements))
+      (G.respects_negative _ _ (E.transitive _ _ _ (value-cons E G P L x f (plain elements))
       (G.respects_sum _ _ _ _ (E.reflexive f) (P.respects _ _ _ _ (value-plain elements x) (E.reflexive x))))))
       (combine_same E G P L (u ∷ W ∷ x ∷ f ∷ []) ((𝟘 ⊕ v0) ⊖ (v3 ⊕ (v1 ⊗ v2))) 𝟘 (minus 𝟙) ((v2 ⊗ v1) ⊕ v3) v0 h refl))
 

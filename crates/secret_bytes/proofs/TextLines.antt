@@ -4,7 +4,7 @@ use Rattle.std.specs.Char.{is_ascii_whitespace}
 use Rattle.std.specs.List.{All, AllZip, onto_first, prefix_len}
 use Rattle.std.specs.Str.{IsTrimAscii}
 use Rattle.std.proofs.lemmas.Bool.{ne_eqb}
-use Rattle.std.proofs.lemmas.List.{append-nil, length_push}
+use Rattle.std.proofs.lemmas.List.{length_push}
 use Rattle.std.proofs.lemmas.List.Elements.{All-head, All-tail}
 use Rattle.std.proofs.lemmas.Str.Ascii.{trim_ascii_is}
 use Rattle.secret_bytes.specs.declared.line.LineError.{LineError}
@@ -13,7 +13,7 @@ use Rattle.secret_bytes.specs.declared.share.SecretShare.{SecretShare}
 use Rattle.secret_bytes.specs.Lines.{line_spelling}
 use Rattle.secret_bytes.specs.Refusals.{IsDueRefusal, IsMemory}
 use Rattle.secret_bytes.specs.SecretShares.{AdmitsShare, AreSameShares}
-use Rattle.secret_bytes.specs.Texts.{FitShares, IsBlank, IsFirstNoLine, IsLineOf, IsNoLine, IsReadAs, IsReadLine, text_lines}
+use Rattle.secret_bytes.specs.Texts.{FitShares, IsBlank, IsLineOf, IsNoLine, IsReadAs, IsReadLine, text_lines}
 use Rattle.secret_bytes.specs.declared.text.Lines.{Lines}
 
 -- a line and its end stand in front of the other lines
@@ -86,9 +86,6 @@ pub record IsReadTo (text rest : List ℕ) (number : ℕ) (shares : List SecretS
   pub few : number + length rest ≤ length text + 1
   pub read : FitShares IsReadAs 1 lines shares numbers
 
-pub read-none : (text : List ℕ) (shares : List SecretShare) (numbers : List ℕ) → shares ≡ [] → numbers ≡ [] → IsReadTo text text 1 shares numbers
-read-none text shares numbers e f = record { lines = []; parts = refl; next = refl; few = omega arith; read = (e, f) }
-
 next-parts : (text rest line after : List ℕ) (lines : List (List ℕ)) → text_lines text ≡ lines ++ text_lines rest → text_lines rest ≡ line ∷ text_lines after
     → text_lines text ≡ (lines ++ (line ∷ [])) ++ text_lines after
 next-parts text rest line after lines e f = e ∙ ap (λ ls. lines ++ ls) f ∙ sym (append_assoc lines (line ∷ []) (text_lines after))
@@ -125,27 +122,6 @@ read-next text rest line after number next old new r e l n (inl h) =
     rw (n, h.1, h.2) (read-blank text rest line after number old.shares.items old.numbers.items r e l h.0)
 read-next text rest line after number next old new r e l n (inr h) =
     rw (n, h.2, h.3) (read-share text rest line after number h.0 old.shares.items old.numbers.items r e l h.1)
-
--- all lines are read
-pub read-all : (text rest : List ℕ) (number : ℕ) (shares : List SecretShare) (numbers : List ℕ) → IsReadTo text rest number shares numbers → rest ≡ [] → FitShares IsReadAs 1 (text_lines text) shares numbers
-read-all text rest number shares numbers r e =
-    let whole : text_lines text ≡ r.lines = r.parts ∙ ap (λ t. r.lines ++ text_lines t) e ∙ append-nil r.lines in
-    rw whole r.read
-
--- the next line is none
-pub read-stopped : (text rest line after : List ℕ) (number : ℕ) (why : LineError) (shares : List SecretShare) (numbers : List ℕ) → IsReadTo text rest number shares numbers
-    → text_lines rest ≡ line ∷ text_lines after → IsNoLine line why → IsFirstNoLine text number why
-read-stopped text rest line after number why shares numbers r e none = record {
-  before = r.lines;
-  line = line;
-  after = text_lines after;
-  parts = r.parts ∙ ap (λ ls. r.lines ++ ls) e;
-  place = r.next;
-  shares = shares;
-  numbers = numbers;
-  read = r.read;
-  none = none;
-}
 
 -- of lines that are those of shares which have P, each is blank or that of such a share
 pub line-fits : (P : SecretShare → Type 0) (n : ℕ) (before : List (List ℕ)) (line : List ℕ) (after : List (List ℕ)) (shares : List SecretShare) (numbers : List ℕ)

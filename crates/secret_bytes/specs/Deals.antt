@@ -1,9 +1,14 @@
 -- Shares of bytes that are dealt.
 use Rattle.std.specs.List.{range_with_len}
-use Rattle.std.specs.Prelude.{◌≡◌, ◌+◌, ◌-◌, ◌*◌, ◌<◌, ℕ, List, [], ◌∷◌, length, map, slice_index_or, Some, All}
+use Rattle.std.specs.Prelude.{◌≡◌, ◌+◌, ◌-◌, ◌*◌, ◌<◌, ◌≤◌, ℕ, List, [], ◌∷◌, length, map, slice_index_or, Some, None, All}
 use Rattle.rand_core.specs.Stream.{Stream}
 use Rattle.math_base.specs.declared.fields.goldilocks.F.{F}
 use Rattle.math_base.specs.Elements.{sample_of, goldilocks}
+use Rattle.math_base.specs.Samples.{samples}
+use Rattle.math_base.specs.declared.algebra.RandomError.{RandomError}
+use Rattle.math_base.specs.declared.algebra.RandomError.TheVariants as random
+use Rattle.secret_bytes.specs.declared.error.DealError.{DealError}
+use Rattle.secret_bytes.specs.declared.error.DealError.TheVariants.{Memory, TooManyWords}
 use Rattle.secret_bytes.specs.declared.share.SecretShare.{SecretShare}
 use Rattle.shared_secret.specs.Shares.{AreDealt, IsSampled}
 use Rattle.secret_bytes.specs.Columns.{column}
@@ -41,3 +46,13 @@ pub record AreDealtBytes (bytes : List ℕ) (t n : ℕ) (before after : Stream) 
 -- how many samples a deal of n bytes takes: the deal, the key, and t - 1 for each element
 abbrev pub sample_count : ℕ → ℕ → ℕ
 sample_count t n = 2 + element_count n * (t - 1)
+
+-- a refused sample as a refused deal
+abbrev pub refusal_of : RandomError → DealError
+refusal_of (random.Memory e) = Memory e
+refusal_of random.TooManyWords = TooManyWords
+
+-- why so many samples are not drawn: one of them is refused; or memory ran out, and those that were drawn before are there
+abbrev pub IsDueSampling : ℕ → Stream → Stream → DealError → Type 0
+IsDueSampling n before after TooManyWords = samples sample_of n before ≡ (None, after)
+IsDueSampling n before after (Memory e) = (k : ℕ) × (xs : List F) × (k ≤ n) × (samples sample_of k before ≡ (Some xs, after))

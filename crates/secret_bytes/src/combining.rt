@@ -57,6 +57,13 @@ enum Pass {
 /// the threshold; and then shares of which too many are wrong, and a secret that does not fit its
 /// check. A share that stands twice counts once. That is found in the order of N log N steps for N
 /// shares, beside the time that distinct ones take.
+///
+/// ```
+/// use secret_bytes::{combine, deal};
+/// let mut shares = deal(alloc, b"key", 2, 4, rng)?;
+/// shares[0].values[0] = F::from(0);
+/// combine(alloc, shares)?; // Combined { bytes: [107, 101, 121], wrong: [1] }
+/// ```
 pub fn combine(alloc: Global, shares: Vec<SecretShare>) -> Result<Combined, CombineError>
     ensures combined { IfOk result (λ c. AreCombined shares.items c.bytes.items c.wrong.items) }
     ensures due { IfErr result (λ error. IsDueCombining shares.items error) }

@@ -1,20 +1,19 @@
 //! Dealing of bytes.
 
 ghost use Rattle.std.specs.List.{AllZip};
-ghost use Rattle.std.specs.Prelude.{◌≡◌, ◌<◌, ◌≤◌, ℕ, List, [], length, map};
-ghost use Rattle.std.specs.Prelude.{IfOk, OnOk};
+ghost use Rattle.std.specs.Prelude.{◌≡◌, ◌-◌, ◌*◌, ◌<◌, ◌≤◌, ℕ, List, [], length, map};
+ghost use Rattle.std.specs.Prelude.{IfOk, IfErr, OnOk};
 ghost use Rattle.math_base.specs.declared.fields.goldilocks.F.{F};
 ghost use Rattle.math_base.specs.Elements.{sample_of};
 ghost use Rattle.shared_secret.specs.Shares.{IsSampled};
-ghost use Rattle.secret_bytes.specs.Deals.{AreDealtBytes, AreSampled};
+ghost use Rattle.secret_bytes.specs.Deals.{AreDealtBytes, AreSampled, IsDueSampling, sample_count};
 ghost use Rattle.secret_bytes.specs.Rows.{AreRows, IsGrown};
 
 use crate::error::DealError;
 use crate::keyed::{drawn, keyed};
 use crate::share::SecretShare;
-use math_base::algebra::{Mem, RandomError};
+use math_base::algebra::Mem;
 use math_base::fields::goldilocks::F;
-use math_poly::poly::Poly;
 use math_values::values::PowerTable;
 use rand_core::{CryptoRng, Rng};
 use std::alloc::Global;
@@ -30,7 +29,15 @@ pub const MOST_SHARES: u32 = 255;
 /// The deal and the key are the first two elements of the source, and then come t - 1 for each
 /// element that is dealt. t is at least 1, n at least t, and there are at most `MOST_BYTES` bytes.
 ///
-/// It refuses with `TooManyWords` where the source gives no element, or with `Memory`.
+/// It refuses with `TooManyWords` where the source does not give all of these, or with `Memory`;
+/// the source then gave each element that was drawn.
+///
+/// ```
+/// use secret_bytes::{combine, deal};
+/// let mut shares = deal(alloc, b"key", 2, 3, rng)?;
+/// shares.truncate(2);
+/// combine(alloc, shares)?; // Combined { bytes: [107, 101, 121], wrong: [] }
+/// ```
 pub fn deal<G: Rng + CryptoRng>(
     alloc: Global,
     bytes: &[u8],
@@ -43,6 +50,8 @@ pub fn deal<G: Rng + CryptoRng>(
     requires enough { t ≤ n }
     ensures dealt { IfOk result (λ shares.
         AreDealtBytes bytes.now t n (G.stream rng.old) (G.stream rng.new) shares.items) }
+    ensures due { IfErr result (λ error. IsDueSampling (sample_count t (length bytes.now))
+        (G.stream rng.old) (G.stream rng.new) error) }
 {
     let deal = drawn(alloc, rng)?;
     let key = drawn(alloc, rng)?;
@@ -92,34 +101,40 @@ fn deal_all<G: Rng + CryptoRng>(
     rng: &mut G,
 ) -> Result<(), DealError>
     requires { 0 < t }
-    ensures { (deal : F) (n : ℕ) → AreRows t deal n [] rows.old
+    ensures dealt { (deal : F) (n : ℕ) → AreRows t deal n [] rows.old
         → IfOk result (λ _. (polynomials : List (List F))
         × AreSampled t (G.stream rng.old) (G.stream rng.new) elements.now polynomials
         × AreRows t deal n polynomials rows.new) }
+    ensures due { IfErr result (λ error. IsDueSampling (length elements.now * (t - 1))
+        (G.stream rng.old) (G.stream rng.new) error) }
 {
     for element in elements {
         let p = sampled(alloc, *element, t, rng)?;
-        push_values(rows, p.coefficients())?;
+        push_values(rows, &p)?;
     }
     Ok(())
 }
 
-/// The polynomial of t coefficients whose constant is the element.
+/// The polynomial of t coefficients whose constant is the element, and whose others are the next
+/// elements of the source.
 fn sampled<G: Rng + CryptoRng>(
     alloc: Global,
     element: F,
     t: u32,
     rng: &mut G,
-) -> Result<Poly<F>, DealError>
+) -> Result<Vec<F>, DealError>
     requires { 0 < t }
-    ensures { IfOk result (λ p.
-        IsSampled sample_of element t (G.stream rng.old) (G.stream rng.new) p) }
+    ensures sampled { IfOk result (λ p.
+        IsSampled sample_of element t (G.stream rng.old) (G.stream rng.new) p.items) }
+    ensures due { IfErr result (λ error.
+        IsDueSampling (t - 1) (G.stream rng.old) (G.stream rng.new) error) }
 {
-    match Poly::new_with_constant(alloc, rng, t - 1, element) {
-        Ok(p) => Ok(p),
-        Err(RandomError::Memory(e)) => Err(DealError::Memory(e)),
-        Err(RandomError::TooManyWords) => Err(DealError::TooManyWords),
+    let mut p = Vec::with_capacity(alloc, t as usize)?;
+    p.push(element)?;
+    for _drawn in 0..t - 1 {
+        p.push(drawn(alloc, rng)?)?;
     }
+    Ok(p)
 }
 
 /// Appends to each row the value of the polynomial at its point.

@@ -2,7 +2,10 @@
 
 ghost use Rattle.std.specs.Prelude.{◌≡◌, alloc_error};
 ghost use Rattle.secret_bytes.specs.declared.error.CombineError.TheVariants as combine;
+ghost use Rattle.secret_bytes.specs.declared.error.DealError.TheVariants as deal;
+ghost use Rattle.secret_bytes.specs.Deals.{refusal_of};
 
+use math_base::algebra::RandomError;
 use std::alloc::{AllocError, AllocFailed};
 use thiserror::Error;
 
@@ -18,22 +21,28 @@ pub enum DealError {
 }
 
 impl From<AllocError> for DealError {
+    ghost from_gives = { λ x e. e ≡ deal.Memory x };
+
     fn from(e: AllocError) -> DealError {
         DealError::Memory(e)
     }
 }
 
 impl<T: Drop> From<AllocFailed<T>> for DealError {
+    ghost from_gives = { λ _ e. e ≡ deal.Memory alloc_error };
+
     fn from(_e: AllocFailed<T>) -> DealError {
         DealError::Memory(AllocError)
     }
 }
 
-impl From<shared_secret::DealError> for DealError {
-    fn from(e: shared_secret::DealError) -> DealError {
+impl From<RandomError> for DealError {
+    ghost from_gives = { λ x e. e ≡ refusal_of x };
+
+    fn from(e: RandomError) -> DealError {
         match e {
-            shared_secret::DealError::Memory(e) => DealError::Memory(e),
-            _ => DealError::TooManyWords,
+            RandomError::Memory(e) => DealError::Memory(e),
+            RandomError::TooManyWords => DealError::TooManyWords,
         }
     }
 }

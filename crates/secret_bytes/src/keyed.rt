@@ -1,26 +1,28 @@
 //! Bytes, a key and a check as elements.
 
-ghost use Rattle.std.specs.Prelude.{◌≡◌, ◌<◌, ◌^◌, ℕ, List, length, Some, IfOk, IfSome, IfNone};
+ghost use Rattle.std.specs.Prelude.{◌≡◌, ◌<◌, ◌^◌, ℕ, List, length, Some, None};
+ghost use Rattle.std.specs.Prelude.{IfOk, IfErr, IfSome, IfNone};
 ghost use Rattle.math_base.specs.Elements.{sample_of};
+ghost use Rattle.secret_bytes.specs.declared.error.DealError.TheVariants.{TooManyWords};
 ghost use Rattle.secret_bytes.specs.Keyed.{AreKeyed, AreKeyedBy};
 
 use crate::check::{fits, key_check};
 use crate::elements::{bytes_of, elements_of};
 use crate::error::DealError;
-use math_base::algebra::{Mem, Random, RandomError};
+use math_base::algebra::{Mem, Random};
 use math_base::fields::goldilocks::F;
 use rand_core::{CryptoRng, Rng};
 use std::alloc::Global;
 
-/// An element of the source.
+/// An element of the source, or `TooManyWords` where the source gives none.
 pub(crate) fn drawn<G: Rng + CryptoRng>(alloc: Global, rng: &mut G) -> Result<F, DealError>
-    ensures { IfOk result (λ a. sample_of (G.stream rng.old) ≡ (Some a, G.stream rng.new)) }
+    ensures sampled { IfOk result
+        (λ a. sample_of (G.stream rng.old) ≡ (Some a, G.stream rng.new)) }
+    ensures refused { IfErr result (λ error.
+        (error ≡ TooManyWords) × (sample_of (G.stream rng.old) ≡ (None, G.stream rng.new))) }
 {
-    match F::random(alloc, rng) {
-        Ok(a) => Ok(a),
-        Err(RandomError::Memory(e)) => Err(DealError::Memory(e)),
-        Err(RandomError::TooManyWords) => Err(DealError::TooManyWords),
-    }
+    let a = F::random(alloc, rng)?;
+    Ok(a)
 }
 
 /// The elements of the bytes, of which there are fewer than 2^32, a key, and their check under it.

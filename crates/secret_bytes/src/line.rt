@@ -97,7 +97,14 @@ fn body_of(alloc: Global, share: &SecretShare) -> Mem<Vec<u8>>
     Ok(body)
 }
 
-/// The line of the share. It has below 2^32 values.
+/// Returns the line of the share. It has below 2^32 values.
+///
+/// ```
+/// use secret_bytes::{deal, line_of, share_in};
+/// let shares = deal(alloc, b"key", 2, 3, rng)?;
+/// let line = line_of(alloc, &shares[0])?;
+/// share_in(alloc, &line)?.index; // 1
+/// ```
 pub fn line_of(alloc: Global, share: &SecretShare) -> Mem<Vec<u8>>
     requires { length share.now.values.items < 2 ^ 32 }
     ensures { IfOk result (λ line. line.items ≡ line_spelling share.now) }
@@ -151,11 +158,16 @@ fn share_of_body(alloc: Global, body: &[u8]) -> Result<SecretShare, LineError>
     }
 }
 
-/// The share whose line the text is.
+/// Reads the share whose line the text is.
 ///
 /// A text that is the line of no share is refused: with `Mistyped` where it has the characters of a
 /// check, and these are not the check of what stands before them, else with `NoShare`; or with
 /// `Memory`.
+///
+/// ```
+/// use secret_bytes::share_in;
+/// share_in(alloc, b"S1"); // Err(NoShare)
+/// ```
 pub fn share_in(alloc: Global, text: &[u8]) -> Result<SecretShare, LineError>
     ensures taken { IfOk result (λ s. text.now ≡ line_spelling s) }
     ensures again { (s : SecretShare) → AdmitsShare (2 ^ 20) s → text.now ≡ line_spelling s

@@ -57,11 +57,18 @@ fn read_line(alloc: Global, line: &[u8], number: usize, lines: &mut Lines) -> Re
     Ok(())
 }
 
-/// The shares of the lines that are not blank, in order, and the numbers of these lines. White
-/// space around a share is passed over.
+/// Reads the shares of the lines that are not blank, in order, with the numbers of these lines.
+/// White space around a share is passed over.
 ///
 /// It refuses with the first line that is neither blank nor that of a share, and says why as
 /// `share_in` does, or with `Memory`.
+///
+/// ```
+/// use secret_bytes::{deal, read_lines, text_of};
+/// let text = text_of(alloc, &deal(alloc, b"key", 2, 3, rng)?)?;
+/// let Ok(lines) = read_lines(alloc, &text) else { return Ok(()) };
+/// lines.numbers; // [1, 2, 3]
+/// ```
 pub fn read_lines(alloc: Global, text: &[u8]) -> Result<Lines, LineFault>
     ensures lines { IfOk result
         (λ lines. AreReadAs text.now lines.shares.items lines.numbers.items) }
@@ -84,10 +91,17 @@ pub fn read_lines(alloc: Global, text: &[u8]) -> Result<Lines, LineFault>
     Ok(lines)
 }
 
-/// The lines of the shares, each with its end.
+/// Returns the lines of the shares, each with its end.
 ///
 /// It refuses with `NoShare` exactly where a share has more than `MOST_VALUES` values, or with
 /// `Memory`. What it writes, `read_lines` reads as these shares: see `laws::lines_are_read_back`.
+///
+/// ```
+/// use secret_bytes::{combine, deal, read_lines, text_of};
+/// let text = text_of(alloc, &deal(alloc, b"key", 2, 3, rng)?)?;
+/// let Ok(lines) = read_lines(alloc, &text) else { return Ok(()) };
+/// combine(alloc, lines.shares)?.bytes; // [107, 101, 121]
+/// ```
 pub fn text_of(alloc: Global, shares: &[SecretShare]) -> Result<Vec<u8>, LineError>
     ensures text { IfOk result (λ text. text.items ≡ lines_spelling shares.now) }
     ensures few { IfOk result (λ _. All HasLine shares.now) }

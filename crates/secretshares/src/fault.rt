@@ -51,7 +51,7 @@ pub enum Fault {
 }
 
 impl Fault {
-    /// The status that the program ends with: 2 for wrong words, 1 else.
+    /// The status that the program ends with: 2 for a usage error, 1 otherwise.
     pub fn status(&self) -> u8 {
         match self {
             Fault::Usage(_) => 2,

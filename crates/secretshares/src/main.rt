@@ -37,7 +37,7 @@ For example, any 3 of the 5 lines of the file shares give the secret back:
 T is at least 1, and N at most 255. Fewer than T shares say nothing of the secret
 but its length. Of M lines, at most (M - T) / 2 may be wrong, and are named.
 
-Status: 0 done, 1 refused, 2 wrong words.
+Status: 0 done, 1 refused, 2 usage error.
 ";
 
 /// What is said where the secret is read from a terminal.

@@ -1,7 +1,6 @@
 -- The words that are packed from bytes are those of the block.
-use Rattle.std.proofs.Common.{◌≡◌, ℕ, zero, suc, Bool, false, eqb, ◌-◌, ◌*◌, ◌/◌, ◌%◌, ◌^◌, ◌<◌, List, [], ◌∷◌, ◌++◌, length, take, drop, map, replicate, get_or, sym, ◌∙◌, ap, ap₂, subst, lit<, arith, append-nil, append_assoc, length-append}
-use Rattle.std.proofs.lemmas.Bool.{false≢true}
-use Rattle.std.proofs.lemmas.List.{get_or_default, length-replicate, take_all, take-append-drop}
+use Rattle.std.proofs.Common.{◌≡◌, ℕ, ◌-◌, ◌*◌, ◌/◌, ◌%◌, ◌^◌, ◌<◌, List, [], ◌∷◌, ◌++◌, length, take, drop, map, replicate, sym, ◌∙◌, ap, ap₂, subst, lit<, arith, append-nil, append_assoc, length-append}
+use Rattle.std.proofs.lemmas.List.{length-replicate, take_all, take-append-drop}
 use Rattle.std.proofs.lemmas.List.Elements.{All-append, All-drop, All-push, All-replicate}
 use Rattle.std.specs.Int.{from_le_bytes, w64}
 use Rattle.std.specs.List.{All}
@@ -10,15 +9,6 @@ use Rattle.math_numbers.specs.Bits.{bits, joined}
 use Rattle.math_numbers.proofs.BitLists.{joined-append, joined-are_bits}
 use Rattle.shard_blocks.specs.BlockWords.{words_of_bytes}
 use Rattle.shard_blocks.proofs.WordBytes.{bits_of_chunks, bits_of_word, bits_of_zeros, word_below, words_below, words_of_filled}
-
--- where each number that is read from a list is below 256, its items are
-pub all_bytes : (bytes : List ℕ) → ((k : ℕ) → get_or bytes k 0 < 256) → All (λ byte. byte < 256) bytes
-all_bytes bytes h k d l = subst (λ (x : ℕ). x < 256) (get_or_default bytes k 0 d l) (h k)
-
--- where a test says that a number is not zero
-pub some_of_test : (n : ℕ) (b : Bool) → b ≡ eqb n 0 → b ≡ false → 0 < n
-some_of_test zero b e f = absurd (false≢true (sym f ∙ e))
-some_of_test (suc n) b e f = omega arith
 
 -- the words of whole chunks of the bytes
 abbrev chunk_words : List ℕ → List ℕ

@@ -1,31 +1,12 @@
 -- Words that are put into bytes, the lowest byte first.
 use Rattle.std.proofs.Common.{◌≡◌, ℕ, ◌+◌, ◌*◌, ◌<◌, ◌≤◌, List, [], ◌∷◌, ◌++◌, length, take, drop, get_or, refl, sym, ◌∙◌, ap, ap₂, arith, append-nil}
-use Rattle.std.proofs.Math.ListN.{set}
 use Rattle.std.proofs.Math.Seq.{paste}
 use Rattle.std.proofs.lemmas.List.{drop_all, length-take-le, take_all, take_more}
 use Rattle.std.proofs.lemmas.List.Concat.{flat_map-append}
-use Rattle.std.proofs.lemmas.List.Edits.{paste_all, paste_more, paste_none, paste-paste}
+use Rattle.std.proofs.lemmas.List.Edits.{paste_all, paste-paste}
 use Rattle.std.specs.Int.{to_le_bytes, w64}
 use Rattle.std.specs.List.{flat_map}
 use Rattle.shard_blocks.proofs.UnpackedBytes.{length_unpacked}
-
-next_set : (d s x : List ℕ) (at j place : ℕ) → place ≡ at + j → x ≡ paste d at s j → at + j < length d → j < length s → set x place (get_or s j 0) ≡ paste d at s (j + 1)
-next_set d s x at j place p e h k = rw (p, e) (paste_more d at s j 0 h k)
-
--- eight bytes that are put one by one
-pub eight_put : (d s : List ℕ) (at : ℕ) → at + 8 ≤ length d → length s ≡ 8
-    → set (set (set (set (set (set (set (set d at (get_or s 0 0)) (at + 1) (get_or s 1 0)) (at + 2) (get_or s 2 0)) (at + 3) (get_or s 3 0)) (at + 4) (get_or s 4 0)) (at + 5) (get_or s 5 0)) (at + 6) (get_or s 6 0)) (at + 7) (get_or s 7 0)
-    ≡ take at d ++ (s ++ drop (at + 8) d)
-eight_put d s at room l =
-    let e0 = next_set d s d at 0 at (omega arith) (paste_none d at s) (omega (arith, room)) (omega (arith, l)) in
-    let e1 = next_set d s _ at 1 (at + 1) refl e0 (omega (arith, room)) (omega (arith, l)) in
-    let e2 = next_set d s _ at 2 (at + 2) refl e1 (omega (arith, room)) (omega (arith, l)) in
-    let e3 = next_set d s _ at 3 (at + 3) refl e2 (omega (arith, room)) (omega (arith, l)) in
-    let e4 = next_set d s _ at 4 (at + 4) refl e3 (omega (arith, room)) (omega (arith, l)) in
-    let e5 = next_set d s _ at 5 (at + 5) refl e4 (omega (arith, room)) (omega (arith, l)) in
-    let e6 = next_set d s _ at 6 (at + 6) refl e5 (omega (arith, room)) (omega (arith, l)) in
-    let e7 = next_set d s _ at 7 (at + 7) refl e6 (omega (arith, room)) (omega (arith, l)) in
-    e7 ∙ paste_all d at s 8 (sym l)
 
 abbrev bytes_for : List ℕ → List ℕ
 bytes_for words = flat_map (to_le_bytes w64) words

@@ -13,11 +13,18 @@ use math_base::algebra::Mem;
 use math_shards::shards::{Error, Shard, join, shard_width, split_source, split_source_rows};
 use std::alloc::Global;
 
-/// The shards of the bytes, one for each index below `total`, in the order of the indices. Any
+/// Cuts the bytes into shards, one for each index below `total`, in the order of the indices. Any
 /// `min` of them give the bytes back.
 ///
 /// `min` is at least 1, and at most `total`. Takes memory as `split` does: no list is made of the
 /// words of the bytes, which are read from these.
+///
+/// ```
+/// use shard_blocks::{join_block, split_block};
+/// let mut shards = split_block(alloc, b"data", 2, 5)?;
+/// shards.truncate(2);
+/// join_block(alloc, &shards)?; // [100, 97, 116, 97]
+/// ```
 pub fn split_block(alloc: Global, bytes: &[u8], min: u32, total: u32) -> Mem<Vec<Shard>>
     requires some { 1 ≤ min }
     requires within { min ≤ total }
@@ -51,8 +58,13 @@ pub fn split_block_rows(
     Ok(())
 }
 
-/// How many cells each shard has of a block of so many bytes, of which `min`, at least 1, give it
-/// back.
+/// Returns how many cells each shard has of a block of so many bytes, of which `min`, at least 1,
+/// give it back.
+///
+/// ```
+/// use shard_blocks::cells_for;
+/// cells_for(1000, 4); // 33
+/// ```
 pub fn cells_for(bytes: usize, min: u32) -> usize
     requires { 1 ≤ min }
     ensures { (block : List ℕ) → length block ≡ bytes
@@ -61,14 +73,21 @@ pub fn cells_for(bytes: usize, min: u32) -> usize
     shard_width(bytes.div_ceil(8) + 1, min)
 }
 
-/// The bytes of which each of the shards is one. There are no others, and a shard that is handed in
-/// twice counts once.
+/// Gives the bytes of the shards back: the only bytes of which each shard is one. A shard that is
+/// handed in twice counts once.
 ///
 /// It refuses as `join` does, and words that are those of no block with `Inconsistent`. Where more
 /// than `min` shards are there, damage to one is so found, and where just `min` are there it is
 /// not.
 ///
 /// Takes memory as `join` does: who takes shards from strangers bounds `total` first.
+///
+/// ```
+/// use shard_blocks::{join_block, split_block};
+/// let mut shards = split_block(alloc, b"data", 2, 5)?;
+/// shards.truncate(1);
+/// join_block(alloc, &shards); // Err(TooFew)
+/// ```
 pub fn join_block(alloc: Global, shards: &[Shard]) -> Result<Vec<u8>, Error>
     ensures ok { IfOk result (λ bytes. JoinToBlock bytes.items shards.now) }
     ensures found { (block : List ℕ) → JoinToBlock block shards.now

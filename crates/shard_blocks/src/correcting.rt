@@ -21,12 +21,20 @@ pub struct JoinedBlock {
     pub left_out: Vec<usize>,
 }
 
-/// The bytes of the block of the shards, however some of them are wrong, and which these are.
+/// Gives the bytes of the block back, however some of its shards are wrong, and says which these
+/// are.
 ///
 /// As `join_corrected` does for data: an index with unequal cells counts as missing, and of the m
 /// distinct indices that are left at most (m - `min`) / 2 have wrong shards. Where `join_block`
 /// answers a block, so does this, and leaves out none. It refuses as `join_corrected` does, and
 /// words that are those of no block with `Inconsistent`.
+///
+/// ```
+/// use shard_blocks::{join_block_corrected, split_block};
+/// let mut shards = split_block(alloc, b"data", 2, 5)?;
+/// shards[3].cells[0] = F::from(0);
+/// join_block_corrected(alloc, &shards)?.left_out; // [3]
+/// ```
 pub fn join_block_corrected(alloc: Global, shards: &[Shard]) -> Result<JoinedBlock, Error>
     ensures ok { IfOk result (λ j. AreCorrectedBlock j.bytes.items j.left_out.items shards.now) }
     ensures found { (block : List ℕ) → CorrectToBlock block shards.now

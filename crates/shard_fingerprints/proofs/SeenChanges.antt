@@ -2,12 +2,11 @@
 use Rattle.std.proofs.Common.{◌≡◌, ℕ, ◌-◌, ◌<◌, ◌≤◌, List, [], ◌∷◌, ◌++◌, length, get_or, refl, arith}
 use Rattle.std.specs.List.{All}
 use Rattle.math_theory.specs.Laws.{IsEquality, IsGroup, IsProduct, IsRing, IsField}
-use Rattle.math_theory.specs.ModuleLaws.{ring_is_module}
 use Rattle.math_theory.specs.Values.{value}
 use Rattle.math_theory.specs.Interpolation.{AreApart}
 use Rattle.math_theory.proofs.classes.RingUpToSame.{combine_same, combine2_same, ring_same}
 use Rattle.math_theory.proofs.polynomials.CarriedRoots.{agreement-same}
-use Rattle.math_theory.proofs.polynomials.Horner.{value_over-cons}
+use Rattle.math_theory.proofs.polynomials.CarriedValues.{value-cons}
 use Rattle.math_theory.proofs.rings.Normal.{◌⊕◌, ◌⊗◌, ◌⊖◌, 𝟘, 𝟙, v0, v1, v2, v3, v4}
 
 module _ {A : Type 0} {same : A → A → Type 0} {zero_of : A} {sum : A → A → A} {negative : A → A} {product : A → A → A} {one : A} {inverse : A → A}
@@ -15,16 +14,13 @@ module _ {A : Type 0} {same : A → A → Type 0} {zero_of : A} {sum : A → A �
   abbrev at : A → List A → A
   at r p = value zero_of sum product one r p
 
-  value-cons : (r a : A) (p : List A) → same (at r (a ∷ p)) (sum a (product (at r p) r))
-  value-cons r a p = value_over-cons E G (ring_is_module E G P L) r a p
-
   -- what is added to the value is as good as added to the first word
   pub added_first : (a d : A) (p : List A) (key : A) → same (sum (at key (a ∷ p)) d) (at key (sum a d ∷ p))
   added_first a d p key =
       let rest = product (at key p) key in
-      let front : same (sum (at key (a ∷ p)) d) (sum (sum a rest) d) = G.respects_sum _ _ _ _ (value-cons key a p) (E.reflexive d) in
+      let front : same (sum (at key (a ∷ p)) d) (sum (sum a rest) d) = G.respects_sum _ _ _ _ (value-cons E G P L key a p) (E.reflexive d) in
       let moved : same (sum (sum a rest) d) (sum (sum a d) rest) = ring_same E G P L (a ∷ d ∷ at key p ∷ key ∷ []) ((v0 ⊕ (v2 ⊗ v3)) ⊕ v1) ((v0 ⊕ v1) ⊕ (v2 ⊗ v3)) refl in
-      E.transitive _ _ _ front (E.transitive _ _ _ moved (E.symmetric _ _ (value-cons key (sum a d) p)))
+      E.transitive _ _ _ front (E.transitive _ _ _ moved (E.symmetric _ _ (value-cons E G P L key (sum a d) p)))
 
   -- what leaves a sum as it is, is zero
   pub adds_nothing : (a d : A) → same (sum a d) a → same d zero_of
@@ -49,9 +45,9 @@ module _ {A : Type 0} {same : A → A → Type 0} {zero_of : A} {sum : A → A �
   pub one_change : (before after : List A) (x y key : A) → ¬ (same key zero_of) → same (at key (before ++ x ∷ after)) (at key (before ++ y ∷ after)) → same x y
   one_change [] after x y key n h =
       let here : same (sum x (product (at key after) key)) (sum y (product (at key after) key)) =
-      E.transitive _ _ _ (E.symmetric _ _ (value-cons key x after)) (E.transitive _ _ _ h (value-cons key y after)) in
+      E.transitive _ _ _ (E.symmetric _ _ (value-cons E G P L key x after)) (E.transitive _ _ _ h (value-cons E G P L key y after)) in
       combine_same E G P L (x ∷ y ∷ at key after ∷ key ∷ []) v0 v1 𝟙 (v0 ⊕ (v2 ⊗ v3)) (v1 ⊕ (v2 ⊗ v3)) here refl
   one_change (c ∷ before) after x y key n h =
       one_change before after x y key n
       (below key c (at key (before ++ x ∷ after)) (at key (before ++ y ∷ after)) n
-      (E.transitive _ _ _ (E.symmetric _ _ (value-cons key c (before ++ x ∷ after))) (E.transitive _ _ _ h (value-cons key c (before ++ y ∷ after)))))
+      (E.transitive _ _ _ (E.symmetric _ _ (value-cons E G P L key c (before ++ x ∷ after))) (E.transitive _ _ _ h (value-cons E G P L key c (before ++ y ∷ after)))))

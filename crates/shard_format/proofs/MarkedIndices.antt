@@ -1,9 +1,9 @@
 -- Marks at the indices of shards, which are counted.
-use Rattle.std.proofs.Common.{◌≡◌, ◌∙◌, ◌+◌, ◌<◌, ◌≤◌, ℕ, Bool, false, true, cond, eqb, ◌||◌, inl, inr, List, [], ◌∷◌, ◌++◌, length, map, get_or, replicate, set, refl, sym, ap, arith}
+use Rattle.std.proofs.Common.{◌≡◌, ◌∙◌, ◌+◌, ◌<◌, ◌≤◌, ℕ, Bool, false, true, cond, eqb, ◌||◌, inl, inr, List, [], ◌∷◌, ◌++◌, length, map, get_or, set, refl, sym, ap, arith}
 use Rattle.std.specs.List.{list_any, range_with_len, count_by}
 use Rattle.std.proofs.lemmas.Bool.{cases_Bool, cases_eq, eq-eqb, ne_eqb}
 use Rattle.std.proofs.lemmas.Grind.{get_or-set_at}
-use Rattle.std.proofs.lemmas.List.{get_or-replicate, get_or-set_other, length-replicate}
+use Rattle.std.proofs.lemmas.List.{get_or-set_other}
 use Rattle.std.proofs.lemmas.List.Folds.{list_any-append}
 use Rattle.std.proofs.lemmas.List.FromFn.{fill_by_all}
 use Rattle.std.proofs.lemmas.List.Sums.{sum_by-cons}
@@ -13,10 +13,6 @@ use Rattle.shard_format.specs.Indices.{distinct_among}
 pub record AreMarks (n : ℕ) (indices : List ℕ) (marks : List Bool) : Type 0 where
   pub count : length marks ≡ n
   pub places : (i : ℕ) → i < n → get_or marks i false ≡ list_any (λ j. eqb j i) indices
-
--- of no indices no mark is set
-pub marks_none : (n : ℕ) → AreMarks n [] (replicate n false)
-marks_none n = record { count = length-replicate n false; places = λ i l. get_or-replicate n i false false l }
 
 -- a mark that is set is the one at its place
 pub mark_set : (marks : List Bool) (place i : ℕ) → place < length marks → get_or (set marks place true) i false ≡ (eqb place i || get_or marks i false)

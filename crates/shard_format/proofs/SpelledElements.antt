@@ -1,7 +1,6 @@
 -- Elements as bytes, a word each, the highest byte first.
-use Rattle.std.proofs.Common.{◌≡◌, ℕ, zero, suc, ◌+◌, ◌*◌, ◌/◌, ◌%◌, ◌<◌, Bool, false, eqb, List, [], ◌∷◌, ◌++◌, length, take, drop, map, get_or, refl, sym, ◌∙◌, ap, ap₂, arith}
+use Rattle.std.proofs.Common.{◌≡◌, ℕ, ◌+◌, ◌*◌, ◌/◌, ◌%◌, ◌<◌, List, [], ◌∷◌, ◌++◌, length, take, drop, map, get_or, refl, sym, ◌∙◌, ap, ap₂, arith}
 use Rattle.std.proofs.Math.Nat.{mod-eq_of_lt}
-use Rattle.std.proofs.lemmas.Bool.{false≢true}
 use Rattle.std.proofs.lemmas.List.{get_or-map, length-drop, length-map, map-append, take-append-drop, take_more}
 use Rattle.std.proofs.lemmas.Nat.{be_bytes_8, from_be_bytes-to_be_bytes_8}
 use Rattle.std.specs.Int.{from_be_bytes, to_be_bytes, w64}
@@ -75,8 +74,3 @@ word_spelled [] words i d l e = absurd (omega (arith, l, ap length e))
 word_spelled (x ∷ xs) words i d l e =
     let within : i < length (x ∷ xs) = omega (arith, l, ap length e, length-map (x ∷ xs) element_spelling) in
     (get_or (x ∷ xs) i x, ap (λ (ws : List (List ℕ)). get_or ws i d) e ∙ get_or-map element_spelling (x ∷ xs) i x d within)
-
--- where a test says that a number is not zero
-pub some_of_test : (n : ℕ) (b : Bool) → b ≡ eqb n 0 → b ≡ false → 0 < n
-some_of_test zero b e f = absurd (false≢true (sym f ∙ e))
-some_of_test (suc n) b e f = omega arith

@@ -41,19 +41,19 @@ is_of_split g h =
     && (number g.keys.first == number h.keys.first) && (number g.keys.second == number h.keys.second)
 
 -- how many of the headers are of the split of this one
-abbrev pub count_of : Header → List Header → ℕ
-count_of h headers = count_by (λ g. is_of_split g h) headers
+abbrev pub count_of_split : Header → List Header → ℕ
+count_of_split h headers = count_by (λ g. is_of_split g h) headers
 
 -- a split can have this header, and as many of the headers are of its split as give the file back
 pub record IsEnough (headers : List Header) (h : Header) : Type 0 where
   pub possible : IsPossible h
-  pub many : h.min ≤ count_of h headers
+  pub many : h.min ≤ count_of_split h headers
 
 -- this is one of the headers, of its split enough are there, and more than of each other split of which enough are there
 pub record IsMost (headers : List Header) (h : Header) : Type 0 where
   pub there : Contains headers h
   pub enough : IsEnough headers h
-  pub most : All (λ g. IsEnough headers g → ¬ (AreOfOneSplit g h) → count_of g headers < count_of h headers) headers
+  pub most : All (λ g. IsEnough headers g → ¬ (AreOfOneSplit g h) → count_of_split g headers < count_of_split h headers) headers
 
 -- these are two of the headers, of different splits, of both of which enough are there, equally many, and of no split of which enough are there more
 pub record AreTied (headers : List Header) (g h : Header) : Type 0 where
@@ -62,8 +62,8 @@ pub record AreTied (headers : List Header) (g h : Header) : Type 0 where
   pub first_enough : IsEnough headers g
   pub second_enough : IsEnough headers h
   pub apart : ¬ (AreOfOneSplit h g)
-  pub equal : count_of h headers ≡ count_of g headers
-  pub most : All (λ f. IsEnough headers f → count_of f headers ≤ count_of g headers) headers
+  pub equal : count_of_split h headers ≡ count_of_split g headers
+  pub most : All (λ f. IsEnough headers f → count_of_split f headers ≤ count_of_split g headers) headers
 
 -- where a header is taken, P holds of it
 abbrev pub IfTaken : Choice → (Header → Type 0) → Type 0
@@ -87,12 +87,12 @@ IfNoSplit choices.None P = P
 pub record IsCounted (headers : List Header) (c : Counted) : Type 0 where
   pub there : Contains headers c.header
   pub enough : IsEnough headers c.header
-  pub count : c.count ≡ count_of c.header headers
+  pub count : c.count ≡ count_of_split c.header headers
 
 -- it was counted, and of the splits of the headers that were seen, as far as enough are there, of none more are there
 pub record IsLargest (headers seen : List Header) (c : Counted) : Type 0 where
   pub counted : IsCounted headers c
-  pub most : All (λ g. IsEnough headers g → count_of g headers ≤ c.count) seen
+  pub most : All (λ g. IsEnough headers g → count_of_split g headers ≤ c.count) seen
 
 -- the same where one was counted; and where none was, of no split of the headers that were seen enough are there
 abbrev pub IsLargestOf : List Header → List Header → Option Counted → Type 0
@@ -100,7 +100,7 @@ IsLargestOf headers seen best = MatchOption best (All (λ g. ¬ (IsEnough header
 
 -- where one was counted, it was counted right
 abbrev pub IsRightCount : List Header → Option Counted → Type 0
-IsRightCount headers last = IfSome last (λ c. c.count ≡ count_of c.header headers)
+IsRightCount headers last = IfSome last (λ c. c.count ≡ count_of_split c.header headers)
 
 -- how many were counted, or none
 abbrev pub count_in : Option Counted → ℕ
@@ -112,4 +112,4 @@ pub record IsRival (headers : List Header) (c : Counted) (h : Header) : Type 0 w
   pub there : Contains headers h
   pub enough : IsEnough headers h
   pub apart : ¬ (AreOfOneSplit h c.header)
-  pub equal : count_of h headers ≡ c.count
+  pub equal : count_of_split h headers ≡ c.count

@@ -241,7 +241,7 @@ fn read_fingerprints(
 
 /// Reads a header up to its fingerprints.
 #[tactic(auto, unfolding(crate::specs::Headers::scan_words))]
-fn read_words(alloc: Global, input: &mut &[u8]) -> Result<Header, Error>
+fn read_header(alloc: Global, input: &mut &[u8]) -> Result<Header, Error>
     ensures taken { IfOk result (λ h. input.old.now ≡ words_spelling h ++ input.new.now) }
     ensures admitted { IfOk result AdmitsHeader }
     ensures stays { OnErr result (input.new ≡ input.old) }
@@ -282,7 +282,7 @@ impl Read for Header {
     #[tactic(auto, unfolding(crate::specs::Headers::scan_header))]
     fn read_cfg(alloc: Global, input: &mut &[u8], _cfg: &()) -> Result<Header, Error> {
         let mut rest = *input;
-        let header = read_words(alloc, &mut rest)?;
+        let header = read_header(alloc, &mut rest)?;
         read_fingerprints(alloc, &mut rest, &header.keys, &words_of(&header))?;
         *input = rest;
         Ok(header)

@@ -122,7 +122,7 @@ fn element_of(word: &[u8; 8]) -> Option<F>
 }
 
 /// Whether the bytes are those of elements, a word each, which then are in `elements`.
-fn are_elements(bytes: &[u8], elements: &mut Vec<F>) -> Mem<bool>
+fn read_elements(bytes: &[u8], elements: &mut Vec<F>) -> Mem<bool>
     ensures spelled { IfOk result
         (λ are. IsTrue are → bytes.now ≡ elements_spelling elements.new.items) }
     ensures none { IfOk result
@@ -179,7 +179,7 @@ pub fn is_record_of(
     let Some(words) = bytes.strip_prefix(&numbers) else {
         return Ok(false);
     };
-    if !are_elements(words, room)? {
+    if !read_elements(words, room)? {
         return Ok(false);
     }
     Ok(are_cells_that_fit(header, block, count as usize, room))

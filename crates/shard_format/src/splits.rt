@@ -1,7 +1,7 @@
 //! Which split the headers of some shard files belong to.
 
 ghost use Rattle.std.specs.Prelude.{◌≡◌, ◌↔◌, ◌<◌, ◌≤◌, ◌++◌, [], ◌∷◌, List, All, Contains, IsTrue, IfSome, IfNone, IsSomeAnd};
-ghost use Rattle.shard_format.specs.Splits.{AreOfOneSplit, AreTied, IfNoSplit, IfTaken, IfTied, IsEnough, IsLargestOf, IsMost, IsPossible, IsRightCount, IsRival, count_in, count_of};
+ghost use Rattle.shard_format.specs.Splits.{AreOfOneSplit, AreTied, IfNoSplit, IfTaken, IfTied, IsEnough, IsLargestOf, IsMost, IsPossible, IsRightCount, IsRival, count_in, count_of_split};
 
 use crate::header::Header;
 
@@ -17,8 +17,8 @@ pub enum Choice {
 }
 
 /// How many of the headers are of this one's split.
-fn count_of(split: &Header, headers: &[Header]) -> usize
-    ensures { result ≡ count_of split.now headers.now }
+fn count_of_split(split: &Header, headers: &[Header]) -> usize
+    ensures { result ≡ count_of_split split.now headers.now }
 {
     let mut count = 0;
     for header in headers {
@@ -76,16 +76,16 @@ fn is_more(best: &Option<Counted>, header: &Header, count: usize) -> bool
 /// counted last.
 fn known_count(last: &Option<Counted>, header: &Header, headers: &[Header]) -> usize
     requires { IsRightCount headers.now last.now }
-    ensures { result ≡ count_of header.now headers.now }
+    ensures { result ≡ count_of_split header.now headers.now }
 {
     match last {
         Some(counted) => {
             if header.is_of_split(&counted.header) {
                 return counted.count;
             }
-            count_of(header, headers)
+            count_of_split(header, headers)
         }
-        None => count_of(header, headers),
+        None => count_of_split(header, headers),
     }
 }
 

@@ -57,7 +57,7 @@ For example, any 6 of the 16 files photos.tar.0 to photos.tar.15 may be lost:
   shardfile split 10 16 photos.tar
   shardfile join photos.tar restored.tar
 
-Status: 0 done (check: all shards are there and fit), 1 refused, 2 wrong words.
+Status: 0 done (check: all shards are there and fit), 1 refused, 2 usage error.
 Nothing is hidden, and nothing is signed: who can write shards can forge them.
 ";
 

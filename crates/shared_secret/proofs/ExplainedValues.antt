@@ -1,8 +1,8 @@
 -- The polynomials with a given constant, given values at points other than zero, and given last coefficients, up to a type's own equality.
 use Rattle.std.proofs.Common.{◌≡◌, ℕ, zero, suc, ◌+◌, ◌<◌, ◌≤◌, List, [], ◌∷◌, ◌++◌, length, take, drop, get_or, refl, ap, arith, subst, sym, ◌∙◌}
-use Rattle.std.specs.List.{All, AllZip}
-use Rattle.std.proofs.lemmas.List.{take-append-drop, length-append, length-take-le, length-drop}
-use Rattle.std.proofs.lemmas.List.Elements.{All-from_get_or, length_all_zip}
+use Rattle.std.specs.List.{AllZip}
+use Rattle.std.proofs.lemmas.List.{take-append-drop, length-append, length-take-le}
+use Rattle.std.proofs.lemmas.List.Elements.{All-from_get_or}
 use Rattle.std.proofs.Math.Seq.{drop-append_seam}
 use Rattle.math_theory.specs.Coefficients.{HaveSameCoefficients}
 use Rattle.math_theory.specs.Interpolation.{AreApart}
@@ -13,9 +13,10 @@ use Rattle.math_theory.specs.Values.{value}
 use Rattle.math_theory.proofs.classes.RingUpToSame.{combine_same, combine2_same}
 use Rattle.math_theory.proofs.polynomials.BuiltPolynomials.{value-joined}
 use Rattle.math_theory.proofs.polynomials.CarriedRoots.{agreement-same}
+use Rattle.math_theory.proofs.polynomials.CarriedValues.{value-cons}
 use Rattle.math_theory.proofs.polynomials.ValuesRespect.{value_over-respects}
 use Rattle.math_theory.proofs.rings.Normal.{◌⊕◌, ◌⊗◌, ◌⊖◌, minus, 𝟙, v0, v1, v2, v3, v4}
-use Rattle.shared_secret.proofs.NestedPolynomials.{value-cons, through, length-through, value-through}
+use Rattle.shared_secret.proofs.NestedPolynomials.{through, length-through, value-through}
 
 module _ {A B : Type 0} (related : A → B → Type 0) where
   pub zip-append : (a b : List A) (c d : List B) → AllZip related a c → AllZip related b d → AllZip related (a ++ b) (c ++ d)
@@ -151,6 +152,6 @@ module _ {A : Type 0} {same : A → A → Type 0} {zero_of : A} {sum : A → A �
       subst (λ y. same (at x low) y) (target-at n secret last xs vs k l e) (value-through E G P L F xs ts d c k l) in
       let joined : same (at x (low ++ last)) (sum (less (product (less (get_or vs k zero_of) secret) (inverse x)) m) m) =
       E.transitive _ _ _ (value-joined E G P L x low last n (length-middle secret xs vs last e)) (G.respects_sum _ _ _ _ there (E.reflexive m)) in
-      E.transitive _ _ _ (value-cons E G P L F x secret (low ++ last))
+      E.transitive _ _ _ (value-cons E G P L x secret (low ++ last))
       (E.transitive _ _ _ (G.respects_sum _ _ _ _ (E.reflexive secret) (P.respects _ _ _ _ joined (E.reflexive x)))
       (at_point secret (get_or vs k zero_of) x (inverse x) m (F.inverts x (nonzero k l))))

@@ -1,13 +1,13 @@
 -- The polynomial through values at points that are apart, up to a type's own equality: for the first point x and its value v it is v plus X - x times
 -- the polynomial through (w - v) / (y - x) at each other point y with its value w.
-use Rattle.std.proofs.Common.{◌≡◌, ℕ, zero, suc, ◌<◌, List, [], ◌∷◌, length, get_or, refl, ap, arith, subst, sym}
+use Rattle.std.proofs.Common.{◌≡◌, ℕ, zero, suc, ◌<◌, List, [], ◌∷◌, length, get_or, refl, ap, arith, subst}
 use Rattle.math_theory.specs.Interpolation.{AreApart}
 use Rattle.math_theory.specs.Laws.{IsEquality, IsGroup, IsProduct, IsRing, IsField}
-use Rattle.math_theory.specs.ModuleLaws.{ring_is_module}
 use Rattle.math_theory.specs.Values.{value}
 use Rattle.math_theory.proofs.classes.CarriedRingLaws.{difference_zero-same}
 use Rattle.math_theory.proofs.classes.RingUpToSame.{ring_same, combine_same}
-use Rattle.math_theory.proofs.polynomials.Horner.{value_over-cons}
+use Rattle.math_theory.proofs.lists.Apart.{AreApart-tail}
+use Rattle.math_theory.proofs.polynomials.CarriedValues.{value-cons}
 use Rattle.math_theory.proofs.rings.Normal.{◌⊕◌, ◌⊗◌, ◌⊖◌, 𝟘, 𝟙, v0, v1, v2, v3, v4}
 
 module _ {A : Type 0} {same : A → A → Type 0} {zero_of : A} {sum : A → A → A} {negative : A → A} {product : A → A → A} {one : A} {inverse : A → A}
@@ -17,9 +17,6 @@ module _ {A : Type 0} {same : A → A → Type 0} {zero_of : A} {sum : A → A �
 
   abbrev less : A → A → A
   less a b = sum a (negative b)
-
-  pub value-cons : (r a : A) (p : List A) → same (at r (a ∷ p)) (sum a (product (at r p) r))
-  value-cons r a p = value_over-cons E G (ring_is_module E G P L) r a p
 
   -- v plus X - x times g
   abbrev nested : A → A → List A → List A
@@ -32,13 +29,13 @@ module _ {A : Type 0} {same : A → A → Type 0} {zero_of : A} {sum : A → A �
 
   value-nested : (r v x : A) (g : List A) → same (at r (nested v x g)) (sum v (product (less r x) (at r g)))
   value-nested r v x [] =
-      E.transitive _ _ _ (value-cons r v []) (ring_same E G P L (v ∷ r ∷ x ∷ []) (v0 ⊕ (𝟘 ⊗ v1)) (v0 ⊕ ((v1 ⊖ v2) ⊗ 𝟘)) refl)
+      E.transitive _ _ _ (value-cons E G P L r v []) (ring_same E G P L (v ∷ r ∷ x ∷ []) (v0 ⊕ (𝟘 ⊗ v1)) (v0 ⊕ ((v1 ⊖ v2) ⊗ 𝟘)) refl)
   value-nested r v x (c ∷ g) =
-      E.transitive _ _ _ (value-cons r (less v (product x c)) (nested c x g))
+      E.transitive _ _ _ (value-cons E G P L r (less v (product x c)) (nested c x g))
       (E.transitive _ _ _ (G.respects_sum _ _ _ _ (E.reflexive _) (P.respects _ _ _ _ (value-nested r c x g) (E.reflexive r)))
       (E.transitive _ _ _
       (ring_same E G P L (v ∷ x ∷ c ∷ r ∷ at r g ∷ []) ((v0 ⊖ (v1 ⊗ v2)) ⊕ ((v2 ⊕ ((v3 ⊖ v1) ⊗ v4)) ⊗ v3)) (v0 ⊕ ((v3 ⊖ v1) ⊗ (v2 ⊕ (v4 ⊗ v3)))) refl)
-      (G.respects_sum _ _ _ _ (E.reflexive v) (P.respects _ _ _ _ (E.reflexive _) (E.symmetric _ _ (value-cons r c g))))))
+      (G.respects_sum _ _ _ _ (E.reflexive v) (P.respects _ _ _ _ (E.reflexive _) (E.symmetric _ _ (value-cons E G P L r c g))))))
 
   -- (w - v) / (y - x) for each other point y with its value w
   abbrev quotients : A → A → List A → List A → List A
@@ -76,9 +73,6 @@ module _ {A : Type 0} {same : A → A → Type 0} {zero_of : A} {sum : A → A �
   apart-head : (x : A) (xs : List A) → AreApart same (x ∷ xs) → (k : ℕ) → k < length xs → ¬ (same (get_or xs k zero_of) x)
   apart-head x xs h k l s = h 0 (suc k) zero_of (omega arith) (omega arith) (E.symmetric _ _ s)
 
-  pub apart-tail : (x : A) (xs : List A) → AreApart same (x ∷ xs) → AreApart same xs
-  apart-tail x xs h = λ i j d l m. h (suc i) (suc j) d (omega arith) (omega arith)
-
   at_next : (x v y w : A) → ¬ (same y x) → same (sum v (product (less y x) (product (less w v) (inverse (less y x))))) w
   at_next x v y w h =
       let d = less y x in
@@ -96,6 +90,6 @@ module _ {A : Type 0} {same : A → A → Type 0} {zero_of : A} {sum : A → A �
       let y = get_or xs k zero_of in
       let below : k < length xs = omega arith in
       let next : same (at y (through xs q)) (product (less (get_or vs k zero_of) v) (inverse (less y x))) =
-      subst (λ c. same (at y (through xs q)) c) (quotient-at x v xs vs k below (omega arith)) (value-through xs q (apart-tail x xs h) (omega (arith, e, n)) k below) in
+      subst (λ c. same (at y (through xs q)) c) (quotient-at x v xs vs k below (omega arith)) (value-through xs q (AreApart-tail same x xs h) (omega (arith, e, n)) k below) in
       E.transitive _ _ _ (value-nested y v x (through xs q))
       (E.transitive _ _ _ (G.respects_sum _ _ _ _ (E.reflexive v) (P.respects _ _ _ _ (E.reflexive (less y x)) next)) (at_next x v y (get_or vs k zero_of) (apart-head x xs h k below)))

@@ -8,6 +8,10 @@ use Rattle.math_theory.specs.Sums.{weighted_sum}
 use Rattle.math_base.specs.Members.{RingOf, SpaceOf, value}
 use Rattle.math_base.specs.Polynomials.{AreWeightsAt, value_in_ring}
 use Rattle.math_base.specs.Samples.{samples}
+use Rattle.math_base.specs.declared.algebra.RandomError.{RandomError}
+use Rattle.math_base.specs.declared.algebra.RandomError.TheVariants as random
+use Rattle.shared_secret.specs.declared.error.DealError.{DealError}
+use Rattle.shared_secret.specs.declared.error.DealError.TheVariants as deal
 use Rattle.shared_secret.specs.declared.shares.Share.{Share}
 
 -- the point of an index: the index-fold sum of one
@@ -52,6 +56,11 @@ pub record IsSampled {A : Type 0} (sample : Stream → Option A × Stream) (secr
   pub count : length p ≡ t
   pub constant : slice_get p 0 ≡ Some secret
   pub others : samples sample (t - 1) before ≡ (Some (drop 1 p), after)
+
+-- a refused sample as a refused deal
+abbrev pub refusal_of : RandomError → DealError
+refusal_of (random.Memory e) = deal.Memory e
+refusal_of random.TooManyWords = deal.TooManyWords
 
 -- the shares of the polynomial p with the indices 1 to n in order, none of whose points is zero
 pub record AreDealt {A : Type 0} (R : RingOf A) (n : ℕ) (p : List A) (shares : List (Share A)) : Type 0 where

@@ -25,6 +25,14 @@ use std::alloc::Global;
 /// whose index it can't take: with `ZeroIndex` where the index has the point zero, and with
 /// `RepeatedIndex` where it has the point of an index before it; or with `Memory`. By
 /// `laws::refusals_exclude` no two of these are due.
+///
+/// ```
+/// use shared_secret::{combine, deal};
+/// let mut shares = deal(alloc, F::from(4), 2, 3, rng)?;
+/// shares.truncate(2);
+/// combine(alloc, 2, &shares)?; // 4
+/// combine(alloc, 3, &shares); // Err(TooFewShares)
+/// ```
 pub fn combine<F: Field>(alloc: Global, t: u32, shares: &[Share<F>]) -> Result<F, CombineError>
     ensures combinable { IfOk result (λ _. AreCombinable F.Ring t shares.now) }
     ensures combined { IfOk result (λ secret. IsCombined F.Ring shares.now secret) }

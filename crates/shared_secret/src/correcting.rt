@@ -29,6 +29,13 @@ pub struct Corrected<F: Drop> {
 /// then answered.
 ///
 /// It refuses as `combine` does.
+///
+/// ```
+/// use shared_secret::{combine_corrected, deal};
+/// let mut shares = deal(alloc, F::from(4), 2, 4, rng)?;
+/// shares[1].value = F::from(0);
+/// combine_corrected(alloc, 2, &shares)?; // Some(Corrected { secret: 4, wrong: [1] })
+/// ```
 pub fn combine_corrected<F: Field>(
     alloc: Global,
     t: u32,

@@ -8,7 +8,7 @@ ghost use Rattle.shared_secret.specs.declared.error.DealError.TheVariants.{TooMa
 
 use crate::error::DealError;
 use crate::shares::Share;
-use math_base::algebra::{CryptoGroup, Field, Random, RandomError};
+use math_base::algebra::{CryptoGroup, Field, Random};
 use math_poly::poly::Poly;
 use rand_core::{CryptoRng, Rng};
 use std::alloc::Global;
@@ -21,6 +21,14 @@ use std::alloc::Global;
 /// It refuses with `TooManyWords` where one of these samples is refused, with `TooManyShares` where
 /// the point of one of the indices is zero, which only a field of characteristic at most n has, or
 /// with `Memory`.
+///
+/// ```
+/// use shared_secret::{combine, deal};
+/// let mut shares = deal(alloc, F::from(4), 2, 3, rng)?;
+/// shares[0].value; // 5
+/// shares.swap_remove(0);
+/// combine(alloc, 2, &shares)?; // 4
+/// ```
 pub fn deal<F: Field + Random, G: Rng + CryptoRng>(
     alloc: Global,
     secret: F,
@@ -86,16 +94,21 @@ fn sampled<F: Field + Random, G: Rng + CryptoRng>(
         → samples F.sample (t - 1) (G.stream rng.old) ≡ (None, G.stream rng.new)) }
     ensures shares { IfErr result (λ error. ¬ (error ≡ TooManyShares)) }
 {
-    match Poly::new_with_constant(alloc, rng, t - 1, secret) {
-        Ok(p) => Ok(p),
-        Err(RandomError::Memory(error)) => Err(DealError::Memory(error)),
-        Err(RandomError::TooManyWords) => Err(DealError::TooManyWords),
-    }
+    let p = Poly::new_with_constant(alloc, rng, t - 1, secret)?;
+    Ok(p)
 }
 
-/// The shares of the indices 1 to n of a polynomial: its values at their points.
+/// Makes the shares of the indices 1 to n of a polynomial: its values at their points.
 ///
 /// It refuses with `TooManyShares` where the point of one of the indices is zero, or with `Memory`.
+///
+/// ```
+/// use shared_secret::shares_of;
+/// let p = Poly::from_coefficients(vec![in alloc; F::from(4), F::from(6)]?);
+/// let shares = shares_of(alloc, &p, 3)?;
+/// shares[2].index; // 3
+/// shares[2].value; // 22
+/// ```
 pub fn shares_of<F: Field>(alloc: Global, p: &Poly<F>, n: u32) -> Result<Vec<Share<F>>, DealError>
     ensures dealt { IfOk result (λ shares. AreDealt F.Ring n p.now shares.items) }
     ensures points { IfErr result (λ error. error ≡ TooManyShares → HasZeroPoint F.Ring n) }

@@ -3,7 +3,9 @@
 ghost use Rattle.std.specs.Prelude.{◌≡◌, alloc_error};
 ghost use Rattle.shared_secret.specs.declared.error.CombineError.TheVariants as combine;
 ghost use Rattle.shared_secret.specs.declared.error.DealError.TheVariants as deal;
+ghost use Rattle.shared_secret.specs.Shares.{refusal_of};
 
+use math_base::algebra::RandomError;
 use std::alloc::{AllocError, AllocFailed};
 use thiserror::Error;
 
@@ -34,6 +36,17 @@ impl<T: Drop> From<AllocFailed<T>> for DealError {
 
     fn from(_e: AllocFailed<T>) -> DealError {
         DealError::Memory(AllocError)
+    }
+}
+
+impl From<RandomError> for DealError {
+    ghost from_gives = { λ x e. e ≡ refusal_of x };
+
+    fn from(e: RandomError) -> DealError {
+        match e {
+            RandomError::Memory(e) => DealError::Memory(e),
+            RandomError::TooManyWords => DealError::TooManyWords,
+        }
     }
 }
 

@@ -16,10 +16,15 @@ pub struct Share<F: Drop> {
     pub value: F,
 }
 
-/// The point of an index: the index-fold sum of one.
+/// Returns the point of an index: the index-fold sum of one.
 ///
 /// Where the multiples of one repeat after p, as they do in a field of characteristic p, the
 /// indices i and i + p have one point, and p has the point zero.
+///
+/// ```
+/// use shared_secret::point;
+/// point::<F>(alloc, 3)?; // 3
+/// ```
 pub fn point<R: Ring>(alloc: Global, index: u32) -> Mem<R>
     ensures ok { IfOk result (λ x. R.same x (point R.Ring index)) }
     ensures never { IsTrue R.NEVER_REFUSES → IsOk result }

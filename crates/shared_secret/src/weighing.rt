@@ -26,9 +26,17 @@ pub struct Weights<F: Drop> {
     pub further: Vec<Vec<F>>,
 }
 
-/// The weights of the shares, of which the indices alone count.
+/// Returns the weights of the shares, of which the indices alone count.
 ///
 /// It refuses as `combine` does.
+///
+/// ```
+/// use shared_secret::{deal, weigh};
+/// let shares = deal(alloc, F::from(4), 2, 3, rng)?;
+/// let weights = weigh(alloc, 2, &shares)?;
+/// weights.secret; // [2, 18446744069414584320]
+/// weights.further; // [[18446744069414584320, 2]]
+/// ```
 pub fn weigh<F: Field>(
     alloc: Global,
     t: u32,

@@ -21,6 +21,13 @@ use std::marker::Model;
 /// Gives the value of a polynomial at one point from its values at others.
 ///
 /// It makes its weights once, from the points.
+///
+/// ```
+/// let points = vec![in alloc; ('a', F::from(1)), ('b', F::from(2))]?;
+/// let interpolator = Interpolator::new(alloc, points)?;
+/// let values = vec![in alloc; ('a', F::from(10)), ('b', F::from(16))]?;
+/// interpolator.interpolate(alloc, &Map::try_from_iter(alloc, values)?)?; // Some(4)
+/// ```
 #[derive(Debug, Drop)]
 pub struct Interpolator<I: Ord + Drop, F: Drop> {
     weights: Map<I, F>,
@@ -36,6 +43,12 @@ impl<I: Ord + Drop, F: Drop> Model for Interpolator<I, F> {
 impl<I: Ord + Drop, F: Field> Interpolator<I, F> {
     /// Makes the interpolator for the value at zero, which is the constant coefficient. It is that
     /// of `at`.
+    ///
+    /// ```
+    /// let points = vec![in alloc; ('a', F::from(1)), ('b', F::from(2))]?;
+    /// let interpolator = Interpolator::new(alloc, points)?;
+    /// interpolator.weights().values(); // [2, 18446744069414584320]
+    /// ```
     pub fn new<P: IntoIterator<Item = (I, F)> + Drop>(alloc: Global, pairs: P) -> Mem<Self>
     where
         P::IntoIter: Drop,
@@ -56,6 +69,12 @@ impl<I: Ord + Drop, F: Field> Interpolator<I, F> {
     /// polynomial of at most as many coefficients give its value at x. If a point is the same as x,
     /// the first such key, in the order of the keys, has weight one and every other key zero.
     /// Otherwise, if two points are the same, all weights are zero. No pairs give no weights.
+    ///
+    /// ```
+    /// let points = vec![in alloc; ('a', F::from(1)), ('b', F::from(2))]?;
+    /// let interpolator = Interpolator::at(alloc, points, &F::from(3))?;
+    /// interpolator.weights().values(); // [18446744069414584320, 2]
+    /// ```
     pub fn at<P: IntoIterator<Item = (I, F)> + Drop>(alloc: Global, pairs: P, x: &F) -> Mem<Self>
     where
         P::IntoIter: Drop,
@@ -82,6 +101,14 @@ impl<I: Ord + Drop, F: Field> Interpolator<I, F> {
     /// It is `None` exactly if the keys of `evals` are not those of the weights. If the values are
     /// those of a polynomial of at most as many coefficients as points, the sum is its value at the
     /// point that the weights are for.
+    ///
+    /// ```
+    /// let interpolator = Interpolator::new(alloc, vec![in alloc; ('a', F::from(1))]?)?;
+    /// let values = Map::from_parts(vec![in alloc; 'a']?, vec![in alloc; F::from(4)]?);
+    /// interpolator.interpolate(alloc, &values)?; // Some(4)
+    /// let others = Map::from_parts(vec![in alloc; 'b']?, vec![in alloc; F::from(4)]?);
+    /// interpolator.interpolate(alloc, &others)?; // None
+    /// ```
     pub fn interpolate<K: Space<F>>(&self, alloc: Global, evals: &Map<I, K>) -> Mem<Option<K>>
         ensures keys { IfOk result
             (λ answer. IsSome answer ↔ HaveEqualKeys I.cmp evals.now self.now) }

@@ -35,6 +35,12 @@ impl<F: Ring, G: Space<F>> Synthetic<F, G> {
     /// Gives the free generators of index 0, 1, and so on, each in an `Ok` and with weight one.
     ///
     /// It ends after index `u32::MAX`, and after an `Err`.
+    ///
+    /// ```
+    /// let mut generators = Synthetic::<F, F>::generators(alloc);
+    /// let Some(x) = generators.next() else { return Ok(()) };
+    /// x?.max_free_index(); // Some(0)
+    /// ```
     pub fn generators(alloc: Global) -> Generators<F, G>
         ensures { (items : _) (last : _) (rest : _)
             → YieldsThen ⟦<Generators<F, G> as Iterator>⟧.next_gives result items last rest
@@ -48,6 +54,11 @@ impl<F: Ring, G: Space<F>> Synthetic<F, G> {
     }
 
     /// Makes the free generators of the indices below N, each with weight one. N is at most 2^32.
+    ///
+    /// ```
+    /// let [x, y] = Synthetic::<F, F>::generators_array::<2>(alloc)?;
+    /// x.sub(alloc, &y)?.eval(alloc, &[F::from(6), F::from(4)])?; // 2
+    /// ```
     pub fn generators_array<const N: usize>(alloc: Global) -> Mem<[Self; N]>
         requires { N ≤ 2 ^ 32 }
         ensures { IfOk result (λ cs.

@@ -28,6 +28,13 @@ use std::ops::{Add, AddAssign, Mul, MulAssign, Neg, Sub, SubAssign};
 pub const MODULUS: u64 = 0xffff_ffff_0000_0001;
 
 /// An element of the Goldilocks field: a number from 0 to P - 1.
+///
+/// ```
+/// F::from(4) + F::from(6); // 10
+/// F::from(1) - F::from(2); // 18446744069414584320
+/// F::from(4) * F::from(6); // 24
+/// F::from(MODULUS + 5); // 5
+/// ```
 #[derive(Clone, Copy, PartialEq, Eq)]
 pub struct F {
     value: u64,
@@ -108,6 +115,10 @@ impl F {
     }
 
     /// Returns a x + b y, reduced once.
+    ///
+    /// ```
+    /// F::sum_of_products(F::from(2), F::from(3), F::from(4), F::from(5)); // 26
+    /// ```
     pub fn sum_of_products(a: F, x: F, b: F, y: F) -> F
         ensures { number result ≡ (number a * number x + number b * number y) % P }
     {
@@ -162,6 +173,11 @@ impl F {
     ///
     /// By Fermat's little theorem the power P - 1 of an element other than zero is one, so its
     /// power P - 2 is its inverse. The power P - 2 of zero is zero.
+    ///
+    /// ```
+    /// F::from(2).inv() * F::from(6); // 3
+    /// F::from(0).inv(); // 0
+    /// ```
     pub fn inv(self) -> F
         ensures power { number result ≡ power_mod P (number self) (P - 2) }
         ensures inverts { number self ≢ 0 → number self * number result % P ≡ 1 }
@@ -173,6 +189,10 @@ impl F {
     /// Returns the half: the element whose double is this one.
     ///
     /// It halves an even number. To an odd one it first adds P, which is odd.
+    ///
+    /// ```
+    /// F::from(6).div_2(); // 3
+    /// ```
     pub fn div_2(self) -> F
         ensures { (number result + number result) % P ≡ number self }
     {
@@ -189,6 +209,10 @@ impl F {
     }
 
     /// Returns the product with 2^48, which is the root of unity of order four: a shift by 48 bits.
+    ///
+    /// ```
+    /// F::from(3).times_two_to_the_48(); // 844424930131968
+    /// ```
     pub fn times_two_to_the_48(self) -> F
         ensures { number result ≡ number self * 2 ^ 48 % P }
     {
@@ -198,6 +222,12 @@ impl F {
     /// Returns the root of unity of order exactly 2^lg, or `None` for lg above 32.
     ///
     /// It is `ROOT_OF_UNITY` squared 32 - lg times.
+    ///
+    /// ```
+    /// F::root_of_unity(1); // Some(18446744069414584320)
+    /// F::root_of_unity(2); // Some(281474976710656)
+    /// F::root_of_unity(33); // None
+    /// ```
     pub fn root_of_unity(lg: u8) -> Option<F>
         ensures range { IsSome result ↔ (lg ≤ 32) }
         ensures value { IfSome result (λ r. number r ≡ root lg) }
@@ -219,6 +249,10 @@ impl F {
     }
 
     /// Returns the number as eight bytes, lowest first.
+    ///
+    /// ```
+    /// F::from(258).to_le_bytes(); // [2, 1, 0, 0, 0, 0, 0, 0]
+    /// ```
     pub fn to_le_bytes(&self) -> [u8; 8]
         ensures { result ≡ to_le_bytes w64 (number self.now) }
     {

@@ -26,6 +26,13 @@ fn decode_exactly<T: Read + Drop>(alloc: Global, bytes: &[u8], cfg: &T::Cfg) -> 
 ///
 /// It refuses with the first fault from left to right. If memory runs out before that, it refuses
 /// with `Memory`; if bytes are left after a value, with `ExtraData` and their number.
+///
+/// ```
+/// let bytes = [1, 0, 0, 0, 0, 0, 0, 1, 44];
+/// let cfg = (LengthRange::at_most(10), ());
+/// decode::<Vec<F>>(alloc, &bytes, &cfg)?; // [300]
+/// decode::<Vec<F>>(alloc, &bytes[..8], &cfg); // Err(EndOfBuffer)
+/// ```
 pub fn decode<T: Read + Drop>(alloc: Global, bytes: &[u8], cfg: &T::Cfg) -> Result<T, Error>
     // The bytes are the spelling of the value that is read.
     ensures taken { IfOk result (λ v. T.admits cfg.now v × (bytes.now ≡ T.spelling v)) }

@@ -77,6 +77,12 @@ fn split_length(bytes: &[u8]) -> Result<(u32, &[u8]), Error>
 /// It refuses at the first byte that is wrong, and leaves `input` where it was. The fault is
 /// `EndOfBuffer` if no byte remains, and `InvalidVarint` if the fifth byte is above 15 or the last
 /// of several is zero. It never answers `Memory`.
+///
+/// ```
+/// let mut input: &[u8] = &[172, 2, 7];
+/// read_len(alloc, &mut input)?; // 300
+/// input; // [7]
+/// ```
 pub fn read_len(_alloc: Global, input: &mut &[u8]) -> Result<u32, Error>
     ensures taken { IfOk result (λ n. input.old.now ≡ length_spelling n ++ input.new.now) }
     ensures stays { OnErr result (input.new ≡ input.old) }
@@ -108,6 +114,12 @@ fn write_groups(n: u32, more: u32, out: &mut Vec<u8>) -> Mem<()>
 /// Writes the length `n` at the end of `out`.
 ///
 /// If memory runs out, it refuses, and leaves the items of `out` as they were.
+///
+/// ```
+/// let mut out = Vec::new(alloc);
+/// write_len(alloc, 300, &mut out)?;
+/// out; // [172, 2]
+/// ```
 pub fn write_len(alloc: Global, n: u32, out: &mut Vec<u8>) -> Mem<()>
     ensures ok { OnOk result (out.new.items ≡ out.old.items ++ length_spelling n) }
     ensures err { OnErr result (out.new.items ≡ out.old.items) }
@@ -132,6 +144,10 @@ fn count_groups(n: usize, more: u32) -> usize
 /// Returns the number of bytes that the length `n` is written in, from 1 to 5.
 ///
 /// A number of 2^32 or more is no length, and counts as 5.
+///
+/// ```
+/// len_size(300); // 2
+/// ```
 pub fn len_size(n: usize) -> usize
     ensures count { result ≡ length (length_spelling n) }
     ensures few { result ≤ 5 }

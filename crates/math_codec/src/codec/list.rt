@@ -70,6 +70,12 @@ fn read_items<'a, T: Read + Drop>(
 ///
 /// Once it has read an item, it makes room for at most four items and twice as many as it has read.
 /// So a large length alone takes no memory.
+///
+/// ```
+/// let mut input: &[u8] = &[1, 0, 0, 0, 0, 0, 0, 1, 44, 7];
+/// read_list::<F>(alloc, &mut input, LengthRange::exact(1), &())?; // [300]
+/// input; // [7]
+/// ```
 #[tactic(auto, unfolding(crate::specs::Lists::scan_list, crate::specs::Lengths::length_in_front))]
 pub fn read_list<T: Read + Drop>(
     alloc: Global,
@@ -148,6 +154,12 @@ fn write_items<T: Write>(alloc: Global, items: &[T], out: &mut Vec<u8>) -> Mem<(
 /// Writes a list of fewer than 2^32 items at the end of `out`.
 ///
 /// If memory runs out, it refuses, and leaves the items of `out` as they were.
+///
+/// ```
+/// let mut out = Vec::new(alloc);
+/// write_list(alloc, &[F::from(300)], &mut out)?;
+/// out; // [1, 0, 0, 0, 0, 0, 0, 1, 44]
+/// ```
 pub fn write_list<T: Write>(alloc: Global, items: &[T], out: &mut Vec<u8>) -> Mem<()>
     requires number { length items.now < 2 ^ 32 }
     requires each { All T.fits items.now }
@@ -169,6 +181,10 @@ impl<T: Write> Write for Vec<T> {
 }
 
 /// Returns the number of bytes that a list is written in, which has to fit.
+///
+/// ```
+/// list_size(&[F::from(5), F::from(6)]); // 17
+/// ```
 pub fn list_size<T: EncodeSize>(items: &[T]) -> usize
     requires { length (list_spelling T.spelling items.now) < 2 ^ 64 }
     ensures { result ≡ length (list_spelling T.spelling items.now) }

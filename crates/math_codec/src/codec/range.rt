@@ -14,6 +14,10 @@ pub struct LengthRange {
 
 impl LengthRange {
     /// Makes the range of the lengths from `low` to `high`. It has none if `low` is above `high`.
+    ///
+    /// ```
+    /// LengthRange::new(2, 4).contains(4); // true
+    /// ```
     pub fn new(low: u32, high: u32) -> LengthRange
         ensures low { result.low ≡ low }
         ensures high { result.high ≡ high }
@@ -22,6 +26,10 @@ impl LengthRange {
     }
 
     /// Makes the range of the length `n` alone.
+    ///
+    /// ```
+    /// LengthRange::exact(3).contains(2); // false
+    /// ```
     pub fn exact(n: u32) -> LengthRange
         ensures low { result.low ≡ n }
         ensures high { result.high ≡ n }
@@ -30,6 +38,10 @@ impl LengthRange {
     }
 
     /// Makes the range of the lengths from 0 to `n`.
+    ///
+    /// ```
+    /// LengthRange::at_most(3).contains(0); // true
+    /// ```
     pub fn at_most(n: u32) -> LengthRange
         ensures low { result.low ≡ 0 }
         ensures high { result.high ≡ n }
@@ -38,6 +50,10 @@ impl LengthRange {
     }
 
     /// Returns the lengths of the range without 0.
+    ///
+    /// ```
+    /// LengthRange::at_most(3).nonzero().contains(0); // false
+    /// ```
     pub fn nonzero(self) -> LengthRange
         ensures { result ≡ nonzero self }
     {

@@ -34,6 +34,12 @@ pub trait Read: Encoding + Sized {
     ///
     /// It refuses with the first fault from left to right, or with `Memory` if memory runs out
     /// before that. It then leaves `input` where it was.
+    ///
+    /// ```
+    /// let mut input: &[u8] = &[0, 0, 0, 0, 0, 0, 1, 44, 7];
+    /// F::read_cfg(alloc, &mut input, &())?; // 300
+    /// input; // [7]
+    /// ```
     fn read_cfg(alloc: Global, input: &mut &[u8], cfg: &Self::Cfg) -> Result<Self, Error>
         ensures taken { IfOk result
             (λ v. admits cfg.now v × (input.old.now ≡ Self.spelling v ++ input.new.now)) }

@@ -14,6 +14,12 @@ pub trait Write: Encoding {
     /// Writes the bytes of the value at the end of `out`.
     ///
     /// If memory runs out, it refuses, and leaves the items of `out` as they were.
+    ///
+    /// ```
+    /// let mut out = Vec::new(alloc);
+    /// F::from(300).write(alloc, &mut out)?;
+    /// out; // [0, 0, 0, 0, 0, 0, 1, 44]
+    /// ```
     fn write(&self, alloc: Global, out: &mut Vec<u8>) -> Mem<()>
         requires { fits self.now }
         ensures ok { OnOk result (out.new.items ≡ out.old.items ++ Self.spelling self.now) }
@@ -23,6 +29,10 @@ pub trait Write: Encoding {
 /// A type whose values know how many bytes they are written in.
 pub trait EncodeSize: Encoding {
     /// Returns the number of bytes that the value is written in, which has to fit.
+    ///
+    /// ```
+    /// F::from(300).encode_size(); // 8
+    /// ```
     fn encode_size(&self) -> usize
         requires { length (Self.spelling self.now) < 2 ^ 64 }
         ensures { result ≡ length (Self.spelling self.now) };

@@ -17,6 +17,13 @@ use std::collections::BTreeMap;
 use std::marker::Model;
 
 /// Pairs of a key and a value, in the strictly rising order of the keys.
+///
+/// ```
+/// let map = Map::from_iter_dedup(alloc, vec![in alloc; ('b', 4), ('a', 6), ('b', 8)]?)?;
+/// map.keys(); // ['a', 'b']
+/// map.values(); // [6, 4]
+/// map.len(); // 2
+/// ```
 #[derive(Debug, Drop)]
 pub struct Map<I: Ord + Drop, V: Drop> {
     keys: Vec<I>,
@@ -68,6 +75,12 @@ impl<I: Ord + Drop, V: Drop> Map<I, V> {
     /// Makes the map of the pairs, with the first pair of each key.
     ///
     /// It refuses if memory runs out.
+    ///
+    /// ```
+    /// let map = Map::from_iter_dedup(alloc, vec![in alloc; ('b', 4), ('a', 6), ('b', 8)]?)?;
+    /// map.get(&'b'); // Some(4)
+    /// map.is_empty(); // false
+    /// ```
     pub fn from_iter_dedup<P: IntoIterator<Item = (I, V)>>(alloc: Global, pairs: P) -> Mem<Self>
     where
         P::IntoIter: Drop,
@@ -87,6 +100,11 @@ impl<I: Ord + Drop, V: Drop> Map<I, V> {
     ///
     /// It refuses with `DuplicateKey` at the first pair whose key occurred before, and then asks
     /// for no more pairs. It refuses with `Memory` if memory runs out.
+    ///
+    /// ```
+    /// let pairs = vec![in alloc; ('b', 4), ('a', 6), ('b', 8)]?;
+    /// Map::try_from_iter(alloc, pairs); // Err(DuplicateKey)
+    /// ```
     pub fn try_from_iter<P: IntoIterator<Item = (I, V)>>(
         alloc: Global,
         pairs: P,
@@ -114,6 +132,11 @@ impl<I: Ord + Drop, V: Drop> Map<I, V> {
 
     /// Makes the map of the same keys with these values, in the order of the keys. There are as
     /// many values as keys.
+    ///
+    /// ```
+    /// let map = Map::try_from_iter(alloc, vec![in alloc; ('b', 4), ('a', 6)]?)?;
+    /// map.with_values(vec![in alloc; 1, 2]?).get(&'b'); // Some(2)
+    /// ```
     pub fn with_values<W: Drop>(self, values: Vec<W>) -> Map<I, W>
         requires { length values.items ≡ length self }
         ensures { result ≡ zip (keys_of self) values.items }
@@ -140,6 +163,11 @@ impl<I: Ord + Drop, V: Drop> Map<I, V> {
     }
 
     /// Makes the map of these keys and values, key by key. The keys strictly rise.
+    ///
+    /// ```
+    /// let map = Map::from_parts(vec![in alloc; 'a', 'b']?, vec![in alloc; 6, 4]?);
+    /// map.get(&'a'); // Some(6)
+    /// ```
     pub fn from_parts(keys: Vec<I>, values: Vec<V>) -> Self
         requires rise { IsStrictlySortedBy I.cmp keys.items }
         requires count { length values.items ≡ length keys.items }
@@ -149,6 +177,11 @@ impl<I: Ord + Drop, V: Drop> Map<I, V> {
     }
 
     /// Returns the keys, which strictly rise, and the values, in the order of their keys.
+    ///
+    /// ```
+    /// let map = Map::try_from_iter(alloc, vec![in alloc; ('b', 4), ('a', 6)]?)?;
+    /// map.into_parts(); // (['a', 'b'], [6, 4])
+    /// ```
     pub fn into_parts(self) -> (Vec<I>, Vec<V>)
         ensures keys { result.0.items ≡ keys_of self }
         ensures values { result.1.items ≡ values_of self }
@@ -158,6 +191,11 @@ impl<I: Ord + Drop, V: Drop> Map<I, V> {
     }
 
     /// Returns the values alone, in the order of their keys.
+    ///
+    /// ```
+    /// let map = Map::try_from_iter(alloc, vec![in alloc; ('b', 4), ('a', 6)]?)?;
+    /// map.into_values(); // [6, 4]
+    /// ```
     pub fn into_values(self) -> Vec<V>
         ensures { result.items ≡ values_of self }
     {
@@ -165,6 +203,12 @@ impl<I: Ord + Drop, V: Drop> Map<I, V> {
     }
 
     /// Returns the value at a key, by O(log n) comparisons.
+    ///
+    /// ```
+    /// let map = Map::try_from_iter(alloc, vec![in alloc; ('b', 4), ('a', 6)]?)?;
+    /// map.get(&'b'); // Some(4)
+    /// map.get(&'c'); // None
+    /// ```
     pub fn get(&self, key: &I) -> Option<&V>
         ensures { option_copied result ≡ value_at I.cmp key.now self.now }
     {

@@ -17,6 +17,14 @@ use std::collections::{BTreeMap, BTreeSet};
 use std::marker::Model;
 
 /// Pairs of a key and a value, in the strictly rising order of the keys. No two values are equal.
+///
+/// ```
+/// let map = BiMap::try_from_iter(alloc, vec![in alloc; ('b', 4), ('a', 6)]?)?;
+/// map.get(&'b'); // Some(4)
+/// map.get_key(&4); // Some('b')
+/// map.keys(); // ['a', 'b']
+/// map.values(); // [6, 4]
+/// ```
 #[derive(Debug, Drop)]
 pub struct BiMap<I: Ord + Drop, V: Ord + Drop> {
     pairs: Map<I, V>,
@@ -75,6 +83,11 @@ impl<I: Ord + Drop, V: Ord + Drop> BiMap<I, V> {
     /// It takes all pairs, and then looks at them in the order in which they came. It refuses at
     /// the first pair whose key or value occurred before: with `DuplicateKey` for the key,
     /// otherwise with `DuplicateValue`. It refuses with `Memory` if memory runs out.
+    ///
+    /// ```
+    /// let pairs = vec![in alloc; ('b', 4), ('a', 4)]?;
+    /// BiMap::try_from_iter(alloc, pairs); // Err(DuplicateValue)
+    /// ```
     pub fn try_from_iter<P: IntoIterator<Item = (I, V)>>(
         alloc: Global,
         pairs: P,
@@ -161,6 +174,13 @@ impl<I: Ord + Drop, V: Ord + Drop> BiMap<I, V> {
     }
 
     /// Returns the pairs as a sorted map.
+    ///
+    /// ```
+    /// let map = BiMap::try_from_iter(alloc, vec![in alloc; ('b', 4), ('a', 6)]?)?;
+    /// map.len(); // 2
+    /// map.is_empty(); // false
+    /// map.into_map().into_values(); // [6, 4]
+    /// ```
     pub fn into_map(self) -> Map<I, V>
         ensures pairs { result ≡ self }
         ensures differ { ValuesDiffer V.cmp self }

@@ -17,6 +17,7 @@ ghost use Rattle.std.specs.Prelude.{
   ◌<◌,
   ◌≤◌,
   ◌^◌,
+  ◌⊎◌,
   ℕ,
   List,
   [],
@@ -25,6 +26,8 @@ ghost use Rattle.std.specs.Prelude.{
   IfOk,
   IfSome,
   IfNone,
+  OnOk,
+  OnErr,
   length,
   not,
   slice_index_or,
@@ -34,9 +37,15 @@ ghost use Rattle.math_theory.specs.Recovery.{count_true, filled_places};
 ghost use Rattle.math_transforms.specs.CountedWork.{AddsWithin};
 ghost use Rattle.math_transforms.specs.DomainValues.{HasDomain};
 ghost use Rattle.math_transforms.specs.Matrices.{cell_of, IsOfSize};
+ghost use Rattle.math_ntt.specs.AddedWork.{AddsUpTo};
 ghost use Rattle.math_ntt.specs.CorrectedRows.{AreWithinRadius, IsCorrected};
 ghost use Rattle.math_ntt.specs.NarrowedRows.{IsNarrowed, IsNear};
-ghost use Rattle.math_ntt.specs.RecoveredRows.{AreRecovered, IsExactWork};
+ghost use Rattle.math_ntt.specs.RecoveredRows.{
+  AddsRecovery,
+  AreRecovered,
+  IsExactWork,
+  IsRefusedWork,
+};
 
 use super::evaluations::EvaluationVector;
 use super::matrix::Matrix;
@@ -59,16 +68,35 @@ pub struct Corrected<F: Drop> {
 }
 
 impl<F: FieldNTT> EvaluationVector<F> {
-    /// In each column the polynomial with N coefficients, N being the number of rows, whose
+    /// Recovers the polynomials from the filled rows, though some of these are wrong, and says
+    /// which.
+    ///
+    /// In each column it is the polynomial with N coefficients, N being the number of rows, whose
     /// coefficients from `count` on are zero and which has the cells of all filled rows but some as
-    /// its values, and these wrong rows. They are the same rows for all columns, and at most
-    /// (m - count) / 2 of the m filled ones: then these are the only such polynomials. It answers
-    /// `None` exactly where there are none. Where more rows are wrong, that may be so, or the rows
-    /// may fit other polynomials, which are then answered.
+    /// its values. These wrong rows are the same for all columns, and at most (m - count) / 2 of
+    /// the m filled ones: then these are the only such polynomials. It answers `None` exactly where
+    /// there are none. Where more rows are wrong, that may be so, or the rows may fit other
+    /// polynomials, which are then answered.
+    ///
+    /// In each column it is the polynomial with N coefficients, N being the number of rows, whose
+    /// coefficients from `count` on are zero and which has the cells of all filled rows but some as
+    /// its values. These wrong rows are the same for all columns, and at most (m - count) / 2 of
+    /// the m filled ones: then these are the only such polynomials. It answers `None` exactly where
+    /// there are none. Where more rows are wrong, that may be so, or the rows may fit other
+    /// polynomials, which are then answered.
     ///
     /// lg N is at most `F::MAX_LG_ROOT_ORDER`, and `count` is at most the number of filled rows.
     /// Takes memory for a copy of the cells beside that of `recover`, and for a column that is
     /// wrong for some lists of m elements.
+    ///
+    /// ```
+    /// let cells = vec![in alloc; F::from(4), F::from(4), F::from(6), F::from(4)]?;
+    /// let filled = VanishingPoints::all_non_vanishing(alloc, 2)?;
+    /// let values = EvaluationVector::from_parts(Matrix::from_cells(4, 1, cells), filled);
+    /// let Some(corrected) = values.correct(alloc, 1)? else { return Ok(()) };
+    /// corrected.wrong; // [2]
+    /// corrected.polynomials.data().into_cells(); // [4, 0, 0, 0]
+    /// ```
     pub fn correct(self, alloc: Global, count: usize) -> Mem<Option<Corrected<F>>>
         requires domain { HasDomain F.MAX_LG_ROOT_ORDER self.matrix.rows }
         requires count { count ≤ count_true self.filled }
@@ -84,12 +112,24 @@ impl<F: FieldNTT> EvaluationVector<F> {
         Ok(out)
     }
 
-    /// As `correct`, and adds the work of the transforms: that of at most (m - count) / 2 + 1
-    /// recoveries of m filled rows, whatever the outcome, and exactly that of one recovery where no
-    /// row is wrong.
+    /// Does what `correct` does, and adds the work of the transforms. That is the work of at most
+    /// (m - count) / 2 + 1 recoveries of m filled rows, whatever the outcome, and exactly that of
+    /// one recovery where no row is wrong.
+    ///
+    /// A call that is not refused adds at least the work of one recovery. A refused one does so
+    /// too, unless its first recovery was refused: then it adds what a refused recovery does.
     ///
     /// At entry `work` has at most 2^127 butterflies and at most 2^127 root products. A count that
     /// comes to 2^128 stays at 2^128 - 1.
+    ///
+    /// ```
+    /// let mut values = EvaluationVector::empty(alloc, 1, 1)?;
+    /// values.fill_row(alloc, 1, &[F::from(4)])?;
+    /// let mut work = Work::new();
+    /// let Some(corrected) = values.correct_counted(alloc, 1, &mut work)? else { return Ok(()) };
+    /// corrected.wrong; // []
+    /// work.butterflies(); // 6
+    /// ```
     pub fn correct_counted(
         self,
         alloc: Global,
@@ -108,11 +148,17 @@ impl<F: FieldNTT> EvaluationVector<F> {
             → ¬ (AreWithinRadius F.Ring (F.root lg) self count a))) }
         ensures most { (lg : ℕ) → self.matrix.rows ≡ 2 ^ lg
             → let recoveries = (count_true self.filled - count) / 2 + 1 in
-            AddsWithin (recoveries * (self.matrix.rows * lg * (3 * lg + 3 * self.matrix.cols + 2)))
+            AddsUpTo
+            (recoveries * (self.matrix.rows * lg * (3 * lg + 3 * self.matrix.cols + 2)) / 2)
             (recoveries * (128 * self.matrix.rows))
             work.old work.new }
         ensures exact { IfOk result (λ answer. IfSome answer (λ c. c.wrong.items ≡ []
             → (lg : ℕ) → self.matrix.rows ≡ 2 ^ lg → IsExactWork lg self work.old work.new)) }
+        ensures least { OnOk result ((lg : ℕ) → self.matrix.rows ≡ 2 ^ lg
+            → AddsRecovery lg self work.old work.new) }
+        ensures refused { OnErr result ((lg : ℕ) → self.matrix.rows ≡ 2 ^ lg
+            → IsRefusedWork lg self work.old work.new
+            ⊎ AddsRecovery lg self work.old work.new) }
     {
         let EvaluationVector { matrix, filled } = self;
         let lg = lg_of(matrix.rows);
@@ -151,6 +197,11 @@ fn without_wrong_rows<F: FieldNTT>(
     ensures exact { IfOk result (λ answer. IfSome answer (λ c. c.wrong.items ≡ []
         → (l : ℕ) → matrix.now.rows ≡ 2 ^ l
         → IsExactWork l (record { matrix = matrix.now; filled = filled }) work.old work.new)) }
+    ensures least { OnOk result ((l : ℕ) → matrix.now.rows ≡ 2 ^ l
+        → AddsRecovery l (record { matrix = matrix.now; filled = filled }) work.old work.new) }
+    ensures refused { OnErr result ((l : ℕ) → matrix.now.rows ≡ 2 ^ l
+        → IsRefusedWork l (record { matrix = matrix.now; filled = filled }) work.old work.new
+        ⊎ AddsRecovery l (record { matrix = matrix.now; filled = filled }) work.old work.new) }
 {
     let rows = filled.non_vanishing_indices(alloc)?;
     let most = (rows.len() - count) / 2;
@@ -194,6 +245,9 @@ fn recovered_copy<F: FieldNTT>(
         (128 * 2 ^ lg) work.old work.new }
     ensures exact { IfOk result (λ _. work.old.butterflies ≤ 2 ^ 127
         → work.old.root_products ≤ 2 ^ 127 → IsExactWork lg
+        (record { matrix = matrix.now; filled = filled.now }) work.old work.new) }
+    ensures refused { OnErr result (work.old.butterflies ≤ 2 ^ 127
+        → work.old.root_products ≤ 2 ^ 127 → IsRefusedWork lg
         (record { matrix = matrix.now; filled = filled.now }) work.old work.new) }
 {
     let mut cells = copies(alloc, &matrix.cells)?;
@@ -274,7 +328,7 @@ fn narrowed<F: FieldNTT>(
     let Some(decoded) = decode(alloc, &points, &values, count)? else {
         return Ok(None);
     };
-    let left = without(alloc, lg, &rows, &decoded.wrong)?;
+    let left = rows_left(alloc, lg, &rows, &decoded.wrong)?;
     Ok(Some(left))
 }
 
@@ -301,7 +355,7 @@ fn cells_at<F: Object>(
 }
 
 /// 2^lg rows, of which those are filled that stand in the list, but not at a place that is wrong.
-fn without(alloc: Global, lg: u8, rows: &[usize], wrong: &[usize]) -> Mem<VanishingPoints>
+fn rows_left(alloc: Global, lg: u8, rows: &[usize], wrong: &[usize]) -> Mem<VanishingPoints>
     requires small { lg < 64 }
     requires rows { All (λ row. row < 2 ^ lg) rows.now }
     ensures size { IfOk result (λ out. length out ≡ 2 ^ lg) }

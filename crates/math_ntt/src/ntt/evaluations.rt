@@ -34,6 +34,13 @@ use std::marker::Model;
 /// Values of polynomials at the points of a domain of a power of two of points, one polynomial a
 /// column: row i holds the value of each at point i, which is power i of the root. Some rows are
 /// filled, and the others are to be recovered.
+///
+/// ```
+/// let mut values = EvaluationVector::empty(alloc, 2, 1)?;
+/// values.fill_row(alloc, 0, &[F::from(7)])?;
+/// values.fill_row(alloc, 2, &[F::from(3)])?;
+/// values.recover(alloc)?.data().into_cells(); // [5, 2, 0, 0]
+/// ```
 #[derive(Debug, Drop)]
 pub struct EvaluationVector<F: Drop> {
     pub(super) matrix: Matrix<F>,
@@ -54,9 +61,15 @@ impl<F: Drop> Model for EvaluationVector<F> {
 }
 
 impl<F: Additive> EvaluationVector<F> {
-    /// 2^lg_rows rows of `cols` cells, each of which is zero. No row is filled.
+    /// Makes 2^lg_rows rows of `cols` cells, each of which is zero. No row is filled.
     ///
     /// `lg_rows` is below 64, and the number of cells below 2^64.
+    ///
+    /// ```
+    /// let values = EvaluationVector::<F>::empty(alloc, 1, 2)?;
+    /// values.row(1); // [0, 0]
+    /// values.filled_rows(); // 0
+    /// ```
     pub fn empty(alloc: Global, lg_rows: usize, cols: usize) -> Mem<Self>
         requires small { lg_rows < 64 }
         requires fits { 2 ^ lg_rows * cols < 2 ^ 64 }
@@ -76,6 +89,13 @@ impl<F: Additive> EvaluationVector<F> {
     /// counts as filled: each copy is made before the first cell is written.
     ///
     /// `row` is below the number of rows, and `data` has no more items than there are columns.
+    ///
+    /// ```
+    /// let mut values = EvaluationVector::empty(alloc, 1, 2)?;
+    /// values.fill_row(alloc, 1, &[F::from(4), F::from(6)])?;
+    /// values.row(1); // [4, 6]
+    /// values.is_filled(0); // false
+    /// ```
     pub fn fill_row(&mut self, alloc: Global, row: usize, data: &[F]) -> Mem<()>
         requires row { row < self.old.matrix.rows }
         requires few { length «data».now ≤ self.old.matrix.cols }
@@ -93,8 +113,16 @@ impl<F: Additive> EvaluationVector<F> {
 }
 
 impl<F: Drop> EvaluationVector<F> {
-    /// The rows of the matrix as values, of which those are filled whose truth value is `true`. The
+    /// Takes the rows of the matrix as values. Those are filled whose truth value is `true`. The
     /// number of rows is a power of two, and there is a truth value for each.
+    ///
+    /// ```
+    /// let cells = vec![in alloc; F::from(7), F::from(3)]?;
+    /// let filled = VanishingPoints::all_non_vanishing(alloc, 1)?;
+    /// let values = EvaluationVector::from_parts(Matrix::from_cells(2, 1, cells), filled);
+    /// values.filled_rows(); // 2
+    /// values.data().into_cells(); // [7, 3]
+    /// ```
     pub fn from_parts(matrix: Matrix<F>, filled: VanishingPoints) -> Self
         requires power { IsPowerOfTwo matrix.rows }
         requires count { length filled ≡ matrix.rows }
@@ -104,14 +132,14 @@ impl<F: Drop> EvaluationVector<F> {
         EvaluationVector { matrix, filled }
     }
 
-    /// The matrix of the cells, of filled rows and of others.
+    /// Returns the matrix of the cells, of filled rows and of others.
     pub fn data(self) -> Matrix<F>
         ensures { result ≡ self.matrix }
     {
         self.matrix
     }
 
-    /// Row i of the cells, whether it is filled or not; i is below the number of rows.
+    /// Returns row i of the cells, whether it is filled or not; i is below the number of rows.
     pub fn row(&self, i: usize) -> &[F]
         requires { i < self.now.matrix.rows }
         ensures row { result.now ≡ row_of self.now.matrix i }
@@ -120,7 +148,7 @@ impl<F: Drop> EvaluationVector<F> {
         self.matrix.row(i)
     }
 
-    /// Whether row i is filled; i is below the number of rows.
+    /// Returns whether row i is filled; i is below the number of rows.
     pub fn is_filled(&self, i: usize) -> bool
         requires { i < self.now.matrix.rows }
         ensures { slice_get self.now.filled i ≡ Some result }
@@ -128,7 +156,7 @@ impl<F: Drop> EvaluationVector<F> {
         self.filled.get(i as u64)
     }
 
-    /// How many distinct rows are filled.
+    /// Returns how many distinct rows are filled.
     pub fn filled_rows(&self) -> usize
         ensures { result ≡ count_true self.now.filled }
     {
@@ -137,8 +165,14 @@ impl<F: Drop> EvaluationVector<F> {
 }
 
 impl<F: Object> EvaluationVector<F> {
-    /// Whether both have as many rows, as many columns, in each place the same cell, and the same
-    /// rows are filled. Where calls on cells are never refused, neither is this one.
+    /// Returns whether both have as many rows, as many columns, in each place the same cell, and
+    /// the same rows are filled. Where calls on cells are never refused, neither is this one.
+    ///
+    /// ```
+    /// let mut values = EvaluationVector::empty(alloc, 1, 1)?;
+    /// values.fill_row(alloc, 1, &[F::from(4)])?;
+    /// values.equals(alloc, &EvaluationVector::empty(alloc, 1, 1)?)?; // false
+    /// ```
     pub fn equals(&self, alloc: Global, other: &Self) -> Mem<bool>
         ensures ok { IfOk result
             (λ answer. IsTrue answer ↔ AreSameEvaluations F.same self.now other.now) }

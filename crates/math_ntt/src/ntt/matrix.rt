@@ -42,6 +42,14 @@ use std::marker::Model;
 use std::ops::{Index, IndexMut};
 
 /// A matrix of any numbers of rows and of columns, zero among them. Its cells lie row by row.
+///
+/// ```
+/// let m = Matrix::from_cells(1, 3, vec![in alloc; F::from(4), F::from(6), F::from(8)]?);
+/// m.rows(); // 1
+/// m.cols(); // 3
+/// m.row(0); // [4, 6, 8]
+/// m[(0, 2)]; // 8
+/// ```
 #[derive(Drop)]
 pub struct Matrix<F: Drop> {
     pub(super) rows: usize,
@@ -63,9 +71,14 @@ impl<F: Drop> Model for Matrix<F> {
 }
 
 impl<F: Additive> Matrix<F> {
-    /// The matrix whose cells are the items of `data`, row by row. Where there are fewer items than
-    /// cells, the further cells are zero. No more items than cells are asked for, so `data` need
-    /// not end. The number of cells is below 2^64.
+    /// Makes the matrix whose cells are the items of `data`, row by row. Where there are fewer
+    /// items than cells, the further cells are zero. No more items than cells are asked for, so
+    /// `data` need not end. The number of cells is below 2^64.
+    ///
+    /// ```
+    /// let m = Matrix::init(alloc, 2, 2, vec![in alloc; F::from(4), F::from(6), F::from(8)]?)?;
+    /// m.row(1); // [8, 0]
+    /// ```
     pub fn init<P: IntoIterator<Item = F>>(
         alloc: Global,
         rows: usize,
@@ -90,12 +103,24 @@ impl<F: Additive> Matrix<F> {
         Ok(Matrix { rows, cols, cells })
     }
 
-    /// The product: the cell in row i and column k is the sum over j of the cell in row i and
+    /// Multiplies the matrices.
+    ///
+    /// The cell in row i and column k of the product is the sum over j of the cell in row i and
+    /// column j of this matrix times the cell in row j and column k of `other`.
+    ///
+    /// The cell in row i and column k of the product is the sum over j of the cell in row i and
     /// column j of this matrix times the cell in row j and column k of `other`.
     ///
     /// Row i of the product is the sum of the rows of `other`, row j scaled by cell j of row i
     /// here. So both matrices are read along their rows. This matrix has as many columns as `other`
     /// has rows, and the number of cells of the product is below 2^64.
+    ///
+    /// ```
+    /// let cells = vec![in alloc; F::from(1), F::from(2), F::from(3), F::from(4)]?;
+    /// let m = Matrix::from_cells(2, 2, cells);
+    /// let v = Matrix::from_cells(2, 1, vec![in alloc; F::from(5), F::from(6)]?);
+    /// m.mul(alloc, &v)?.into_cells(); // [17, 39]
+    /// ```
     pub fn mul(&self, alloc: Global, other: &Self) -> Mem<Self>
     where
         F: Ring,
@@ -119,7 +144,7 @@ impl<F: Additive> Matrix<F> {
 }
 
 impl<F: Drop> Matrix<F> {
-    /// The matrix whose cells are these, row by row; there are as many as rows times columns.
+    /// Makes the matrix whose cells are these, row by row; there are as many as rows times columns.
     pub fn from_cells(rows: usize, cols: usize, cells: Vec<F>) -> Self
         requires { length cells.items ≡ rows * cols }
         ensures size { IsOfSize result rows cols }
@@ -128,28 +153,28 @@ impl<F: Drop> Matrix<F> {
         Matrix { rows, cols, cells }
     }
 
-    /// The cells, row by row.
+    /// Returns the cells, row by row.
     pub fn into_cells(self) -> Vec<F>
         ensures { result.items ≡ self.cells }
     {
         self.cells
     }
 
-    /// The number of rows.
+    /// Returns the number of rows.
     pub fn rows(&self) -> usize
         ensures { result ≡ self.now.rows }
     {
         self.rows
     }
 
-    /// The number of columns.
+    /// Returns the number of columns.
     pub fn cols(&self) -> usize
         ensures { result ≡ self.now.cols }
     {
         self.cols
     }
 
-    /// Row i, which has as many cells as there are columns; i is below the number of rows.
+    /// Returns row i, which has as many cells as there are columns; i is below the number of rows.
     pub fn row(&self, i: usize) -> &[F]
         requires { i < self.now.rows }
         ensures row { result.now ≡ row_of self.now i }
@@ -159,7 +184,14 @@ impl<F: Drop> Matrix<F> {
         &self.cells[from..from + self.cols]
     }
 
-    /// The rows in their order, each of as many cells as there are columns.
+    /// Gives the rows in their order, each of as many cells as there are columns.
+    ///
+    /// ```
+    /// let m = Matrix::from_cells(2, 1, vec![in alloc; F::from(4), F::from(6)]?);
+    /// let mut rows = m.iter();
+    /// rows.next(); // Some([4])
+    /// rows.next(); // Some([6])
+    /// ```
     pub fn iter(&self) -> Rows<'_, F>
         ensures rows { result ≡ rows_of self.now }
         ensures count { length result ≡ self.now.rows }
@@ -177,7 +209,13 @@ impl<F: Drop> Matrix<F> {
     ghost use Rattle.std.specs.Borrow.{sem};
     ghost use Rattle.math_ntt.specs.MatrixLends.{lends_row};
 
-    /// Row i, to be written; i is below the number of rows.
+    /// Returns row i, to be written; i is below the number of rows.
+    ///
+    /// ```
+    /// let mut m = Matrix::from_cells(1, 2, vec![in alloc; F::from(4), F::from(6)]?);
+    /// m.row_mut(0)[1] = F::from(8);
+    /// m.into_cells(); // [4, 8]
+    /// ```
     pub fn row_mut(&mut self, i: usize) -> &mut [F]
         requires { i < self.old.rows }
         ensures* writes_back { sem 𝓛 (lends_row F.row self.entry i result) }
@@ -220,7 +258,7 @@ impl<F: Drop> IndexMut<(usize, usize)> for Matrix<F> {
 }
 
 impl<F: Object> Matrix<F> {
-    /// A matrix that equals this one.
+    /// Returns a matrix that equals this one.
     pub fn clone(&self, alloc: Global) -> Mem<Self>
         ensures { IfOk result (λ copy. AreSame F.same copy self.now) }
     {
@@ -232,8 +270,13 @@ impl<F: Object> Matrix<F> {
         })
     }
 
-    /// Whether both have as many rows, as many columns, and in each place the same cell. Where
-    /// calls on cells are never refused, neither is this one.
+    /// Returns whether both have as many rows, as many columns, and in each place the same cell.
+    /// Where calls on cells are never refused, neither is this one.
+    ///
+    /// ```
+    /// let m = Matrix::from_cells(1, 2, vec![in alloc; F::from(4), F::from(6)]?);
+    /// m.equals(alloc, &m.clone(alloc)?)?; // true
+    /// ```
     pub fn equals(&self, alloc: Global, other: &Self) -> Mem<bool>
         ensures ok { IfOk result (λ answer. IsTrue answer ↔ AreSame F.same self.now other.now) }
         ensures never { IsTrue F.NEVER_REFUSES → IsOk result }

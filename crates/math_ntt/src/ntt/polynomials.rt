@@ -5,6 +5,7 @@ ghost use Rattle.std.specs.Prelude.{
   ◌↔◌,
   ◌+◌,
   ◌*◌,
+  ◌/◌,
   ◌<◌,
   ◌≤◌,
   ◌^◌,
@@ -16,6 +17,7 @@ ghost use Rattle.std.specs.Prelude.{
   IfOk,
   IfSome,
   OnOk,
+  OnErr,
   length,
   min,
   replicate,
@@ -23,9 +25,9 @@ ghost use Rattle.std.specs.Prelude.{
 };
 ghost use Rattle.std.specs.Int.{IsNextPowerOfTwo, IsPowerOfTwo};
 ghost use Rattle.std.specs.Iterator.{YieldsFirstRef, item_count};
-ghost use Rattle.math_transforms.specs.CountedWork.{AddsAtMost};
 ghost use Rattle.math_transforms.specs.DomainValues.{HasDomain, AreValuesOnDomain};
 ghost use Rattle.math_transforms.specs.Matrices.{rows_of, IsOfSize, AreSame};
+ghost use Rattle.math_ntt.specs.AddedWork.{AddsUpTo};
 ghost use Rattle.math_ntt.specs.PolynomialRows.{AreEnough, FitsPadded, HaveSamePolynomials};
 
 use super::evaluations::EvaluationVector;
@@ -40,6 +42,12 @@ use std::marker::Model;
 
 /// Polynomials with the same number of coefficients, a power of two, one polynomial a column: row i
 /// holds coefficient i of each. The last coefficients may be zero.
+///
+/// ```
+/// let m = Matrix::from_cells(2, 1, vec![in alloc; F::from(5), F::from(2)]?);
+/// let polynomials = PolynomialVector::from_matrix(m);
+/// polynomials.evaluate(alloc)?.data().into_cells(); // [7, 3]
+/// ```
 #[derive(Debug, Drop)]
 pub struct PolynomialVector<F: Drop> {
     pub(super) coefficients: Matrix<F>,
@@ -58,12 +66,24 @@ impl<F: Drop> Model for PolynomialVector<F> {
 }
 
 impl<F: Additive> Matrix<F> {
-    /// The polynomials whose coefficients are the columns of this matrix, from the constant
-    /// upwards, filled up with zeros to N rows, where N is the least power of two that is
+    /// Makes the polynomials whose coefficients are the columns of this matrix, from the constant
+    /// upwards.
+    ///
+    /// They are filled up with zeros to N rows, where N is the least power of two that is
+    /// `min_coefficients` or more. Where `min_coefficients` is 0, or less than the number of rows,
+    /// it is `None`.
+    ///
+    /// They are filled up with zeros to N rows, where N is the least power of two that is
     /// `min_coefficients` or more. Where `min_coefficients` is 0, or less than the number of rows,
     /// it is `None`.
     ///
     /// Where it is `Some`, N and N times the number of columns have to be below 2^64.
+    ///
+    /// ```
+    /// let m = Matrix::from_cells(1, 2, vec![in alloc; F::from(4), F::from(6)]?);
+    /// let Some(polynomials) = m.as_polynomials(alloc, 2)? else { return Ok(()) };
+    /// polynomials.data().into_cells(); // [4, 6, 0, 0]
+    /// ```
     pub fn as_polynomials(
         &self,
         alloc: Global,
@@ -93,8 +113,13 @@ impl<F: Additive> Matrix<F> {
 }
 
 impl<F: Drop> PolynomialVector<F> {
-    /// The polynomials whose coefficients are the columns of the matrix, from the constant upwards.
-    /// The number of rows is a power of two.
+    /// Makes the polynomials whose coefficients are the columns of the matrix, from the constant
+    /// upwards. The number of rows is a power of two.
+    ///
+    /// ```
+    /// let m = Matrix::from_cells(2, 1, vec![in alloc; F::from(4), F::from(6)]?);
+    /// PolynomialVector::from_matrix(m).data().into_cells(); // [4, 6]
+    /// ```
     pub fn from_matrix(coefficients: Matrix<F>) -> Self
         requires { IsPowerOfTwo coefficients.rows }
         ensures { result ≡ coefficients }
@@ -102,15 +127,23 @@ impl<F: Drop> PolynomialVector<F> {
         PolynomialVector { coefficients }
     }
 
-    /// The matrix of the coefficients: row i holds coefficient i of each polynomial.
+    /// Returns the matrix of the coefficients: row i holds coefficient i of each polynomial.
     pub fn data(self) -> Matrix<F>
         ensures { result ≡ self }
     {
         self.coefficients
     }
 
-    /// The rows of the coefficients from the constants upwards, n rows or all where they are fewer.
-    /// Each row has one coefficient a polynomial.
+    /// Gives the rows of the coefficients from the constants upwards, n rows or all where they are
+    /// fewer. Each row has one coefficient a polynomial.
+    ///
+    /// ```
+    /// let m = Matrix::from_cells(2, 1, vec![in alloc; F::from(4), F::from(6)]?);
+    /// let polynomials = PolynomialVector::from_matrix(m);
+    /// let mut rows = polynomials.coefficients_up_to(1);
+    /// rows.next(); // Some([4])
+    /// rows.next(); // None
+    /// ```
     pub fn coefficients_up_to(&self, n: usize) -> CoefficientRows<'_, F>
         ensures rows { result ≡ take n (rows_of self.now) }
         ensures count { length result ≡ min n self.now.rows }
@@ -129,7 +162,7 @@ impl<F: Drop> PolynomialVector<F> {
 }
 
 impl<F: Object> PolynomialVector<F> {
-    /// Polynomials that equal these.
+    /// Returns polynomials that equal these.
     pub fn clone(&self, alloc: Global) -> Mem<Self>
         ensures { IfOk result (λ copy. AreSame F.same copy self.now) }
     {
@@ -137,8 +170,15 @@ impl<F: Object> PolynomialVector<F> {
         Ok(PolynomialVector { coefficients })
     }
 
-    /// Whether both have as many polynomials, as many coefficients of each, and in each place the
-    /// same coefficient. Where calls on coefficients are never refused, neither is this one.
+    /// Returns whether both have as many polynomials, as many coefficients of each, and in each
+    /// place the same coefficient. Where calls on coefficients are never refused, neither is this
+    /// one.
+    ///
+    /// ```
+    /// let m = Matrix::from_cells(2, 1, vec![in alloc; F::from(4), F::from(6)]?);
+    /// let polynomials = PolynomialVector::from_matrix(m);
+    /// polynomials.equals(alloc, &polynomials.clone(alloc)?)?; // true
+    /// ```
     pub fn equals(&self, alloc: Global, other: &Self) -> Mem<bool>
         ensures ok { IfOk result (λ answer. IsTrue answer ↔ AreSame F.same self.now other.now) }
         ensures never { IsTrue F.NEVER_REFUSES → IsOk result }
@@ -148,12 +188,19 @@ impl<F: Object> PolynomialVector<F> {
 }
 
 impl<F: FieldNTT> PolynomialVector<F> {
-    /// The values of the polynomials at the powers of the root of order N, where N is the number of
-    /// rows: in each column cell j is the value of that column's polynomial at power j. All rows
+    /// Evaluates the polynomials at the powers of the root of order N, where N is the number of
+    /// rows. In each column cell j is the value of that column's polynomial at power j. All rows
     /// are filled.
     ///
     /// lg N is at most `F::MAX_LG_ROOT_ORDER`. Takes memory for a table of N elements and for a
     /// bitmap of N bits; the values stand where the coefficients stood.
+    ///
+    /// ```
+    /// let m = Matrix::from_cells(2, 1, vec![in alloc; F::from(5), F::from(2)]?);
+    /// let values = PolynomialVector::from_matrix(m).evaluate(alloc)?;
+    /// values.row(0); // [7]
+    /// values.row(1); // [3]
+    /// ```
     pub fn evaluate(self, alloc: Global) -> Mem<EvaluationVector<F>>
         requires domain { HasDomain F.MAX_LG_ROOT_ORDER self.rows }
         ensures size { IfOk result (λ v. IsOfSize v.matrix self.rows self.cols) }
@@ -165,10 +212,20 @@ impl<F: FieldNTT> PolynomialVector<F> {
         Ok(out)
     }
 
-    /// As `evaluate`, and adds the work that was done: with c columns c N lg N / 2 butterflies, or
-    /// at most so many where it is refused, and no root product.
+    /// Does what `evaluate` does, and adds the work that was done. That is c N lg N / 2 butterflies
+    /// for c columns, or at most so many where it is refused, and no root product.
     ///
-    /// At entry `work` has at most 2^127 butterflies.
+    /// At entry `work` has at most 2^127 butterflies. The memory for the table and the bitmap is
+    /// taken before the first butterfly: where calls on elements are never refused, a call that is
+    /// refused adds nothing.
+    ///
+    /// ```
+    /// let m = Matrix::init(alloc, 4, 1, vec![in alloc; F::from(5), F::from(2)]?)?;
+    /// let mut work = Work::new();
+    /// let values = PolynomialVector::from_matrix(m).evaluate_counted(alloc, &mut work)?;
+    /// values.row(2); // [3]
+    /// work.butterflies(); // 4
+    /// ```
     pub fn evaluate_counted(self, alloc: Global, work: &mut Work) -> Mem<EvaluationVector<F>>
         requires domain { HasDomain F.MAX_LG_ROOT_ORDER self.rows }
         requires room { work.old.butterflies ≤ 2 ^ 127 }
@@ -178,14 +235,15 @@ impl<F: FieldNTT> PolynomialVector<F> {
         ensures counted { OnOk result ((lg : ℕ) → self.rows ≡ 2 ^ lg
             → 2 * work.new.butterflies ≡ 2 * work.old.butterflies + self.cols * self.rows * lg) }
         ensures bounded { (lg : ℕ) → self.rows ≡ 2 ^ lg
-            → AddsAtMost (self.cols * self.rows * lg) work.old work.new }
+            → AddsUpTo (self.cols * self.rows * lg / 2) 0 work.old work.new }
+        ensures unbegun { IsTrue F.NEVER_REFUSES → OnErr result (work.new ≡ work.old) }
     {
         let mut matrix = self.coefficients;
         let cols = matrix.cols;
         let lg = lg_of(matrix.rows);
         let table = evaluation_table(alloc, lg)?;
-        evaluate_rows(alloc, &mut matrix.cells, cols, lg, &table, work)?;
         let filled = VanishingPoints::all_non_vanishing(alloc, u32::from(lg))?;
+        evaluate_rows(alloc, &mut matrix.cells, cols, lg, &table, work)?;
         Ok(EvaluationVector { matrix, filled })
     }
 }

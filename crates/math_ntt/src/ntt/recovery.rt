@@ -14,7 +14,22 @@
 //! what has the cells as its values: then there is no polynomial that vanishes, and each is one
 //! interpolation.
 
-ghost use Rattle.std.specs.Prelude.{◌≡◌, ◌+◌, ◌*◌, ◌<◌, ◌≤◌, ◌^◌, ℕ, IfOk, OnOk, length};
+ghost use Rattle.std.specs.Prelude.{
+  ◌≡◌,
+  ◌+◌,
+  ◌*◌,
+  ◌/◌,
+  ◌<◌,
+  ◌≤◌,
+  ◌^◌,
+  ◌⊎◌,
+  ℕ,
+  IfOk,
+  IsTrue,
+  OnOk,
+  OnErr,
+  length,
+};
 ghost use Rattle.std.specs.List.{All};
 ghost use Rattle.math_theory.specs.Recovery.{count_true};
 ghost use Rattle.math_transforms.specs.CosetValues.{AreMovedValues};
@@ -23,12 +38,14 @@ ghost use Rattle.math_transforms.specs.DomainValues.{matrix_of, AreValuesAtPower
 ghost use Rattle.math_transforms.specs.Matrices.{IsOfSize};
 ghost use Rattle.math_transforms.specs.MissingPoints.{count_false};
 ghost use Rattle.math_transforms.specs.RootTrees.{IsTreeOf};
+ghost use Rattle.math_ntt.specs.AddedWork.{AddsInOrder, AddsUpTo};
 ghost use Rattle.math_ntt.specs.RecoveredRows.{
   AreDivided,
   AreQuotientsOfValues,
   AreRecovered,
   AreOnlyRecovered,
   IsExactWork,
+  IsRefusedWork,
 };
 
 use super::evaluations::EvaluationVector;
@@ -50,12 +67,25 @@ use math_transforms::work::Work;
 use std::alloc::Global;
 
 impl<F: FieldNTT> EvaluationVector<F> {
-    /// In each column the polynomial with N coefficients, N being the number of rows, that has the
-    /// cells of the filled rows as its values, and whose coefficients from the number of filled
-    /// rows on are zero. It is the only one.
+    /// Recovers the polynomials from the filled rows.
+    ///
+    /// In each column it is the polynomial with N coefficients, N being the number of rows, that
+    /// has the cells of the filled rows as its values, and whose coefficients from the number of
+    /// filled rows on are zero. It is the only one.
+    ///
+    /// In each column it is the polynomial with N coefficients, N being the number of rows, that
+    /// has the cells of the filled rows as its values, and whose coefficients from the number of
+    /// filled rows on are zero. It is the only one.
     ///
     /// lg N is at most `F::MAX_LG_ROOT_ORDER`. Takes memory for about five columns of cells: the
     /// coefficients stand where the cells stood.
+    ///
+    /// ```
+    /// let mut values = EvaluationVector::empty(alloc, 2, 1)?;
+    /// values.fill_row(alloc, 0, &[F::from(7)])?;
+    /// values.fill_row(alloc, 2, &[F::from(3)])?;
+    /// values.recover(alloc)?.data().into_cells(); // [5, 2, 0, 0]
+    /// ```
     pub fn recover(self, alloc: Global) -> Mem<PolynomialVector<F>>
         requires domain { HasDomain F.MAX_LG_ROOT_ORDER self.matrix.rows }
         ensures size { IfOk result (λ v. IsOfSize v self.matrix.rows self.matrix.cols) }
@@ -67,13 +97,26 @@ impl<F: FieldNTT> EvaluationVector<F> {
         Ok(out)
     }
 
-    /// As `recover`, and adds the work that was done.
+    /// Does what `recover` does, and adds the work that was done.
     ///
     /// At entry `work` has at most 2^127 butterflies and at most 2^127 root products. Whatever the
     /// outcome, at most N lg N (3 lg N + 3 c + 2) / 2 butterflies and 128 N root products are
     /// added, c being the number of columns. Where no row or all rows are filled, c N lg N / 2
-    /// butterflies are, and no root product. Where v rows are missing, some and not all, and lg N
-    /// is at most 8, N lg N (3 c + 3) / 2 butterflies are, and v (v + 1) / 2 root products.
+    /// butterflies are, and no root product. Where v rows are missing, some and not all,
+    /// N lg N (3 c + 3) / 2 butterflies are at least; and where lg N is at most 8, just these, and
+    /// v (v + 1) / 2 root products.
+    ///
+    /// A refused call adds no more than one that succeeds, and with lg N at most 8 no butterfly
+    /// before all root products. Where no row or all rows are filled, and calls on elements are
+    /// never refused, it adds nothing: its own memory is taken before the first butterfly.
+    ///
+    /// ```
+    /// let mut values = EvaluationVector::empty(alloc, 1, 1)?;
+    /// values.fill_row(alloc, 1, &[F::from(4)])?;
+    /// let mut work = Work::new();
+    /// values.recover_counted(alloc, &mut work)?.data().into_cells(); // [4, 0]
+    /// work.butterflies(); // 6
+    /// ```
     pub fn recover_counted(self, alloc: Global, work: &mut Work) -> Mem<PolynomialVector<F>>
         requires domain { HasDomain F.MAX_LG_ROOT_ORDER self.matrix.rows }
         requires room { work.old.butterflies ≤ 2 ^ 127 }
@@ -82,11 +125,16 @@ impl<F: FieldNTT> EvaluationVector<F> {
         ensures fits { IfOk result (λ v. AreRecovered F.Ring F.root self v) }
         ensures only { IfOk result (λ v. AreOnlyRecovered F.Ring F.root self v) }
         ensures most { (lg : ℕ) → self.matrix.rows ≡ 2 ^ lg
-            → AddsWithin (self.matrix.rows * lg * (3 * lg + 3 * self.matrix.cols + 2))
+            → AddsUpTo (self.matrix.rows * lg * (3 * lg + 3 * self.matrix.cols + 2) / 2)
             (128 * self.matrix.rows)
             work.old work.new }
         ensures exact { IfOk result (λ _. (lg : ℕ) → self.matrix.rows ≡ 2 ^ lg
             → IsExactWork lg self work.old work.new) }
+        ensures refused { OnErr result ((lg : ℕ) → self.matrix.rows ≡ 2 ^ lg
+            → IsRefusedWork lg self work.old work.new) }
+        ensures unbegun { IsTrue F.NEVER_REFUSES
+            → (count_true self.filled ≡ 0) ⊎ (count_false self.filled ≡ 0)
+            → OnErr result (work.new ≡ work.old) }
     {
         let mut matrix = self.matrix;
         let lg = lg_of(matrix.rows);
@@ -129,6 +177,12 @@ pub(super) fn recovered_cells<F: FieldNTT>(
     ensures exact { OnOk result (IsExactWork lg
         (record { matrix = matrix_of (2 ^ lg) cols cells.old; filled = points.now }) work.old
         work.new) }
+    ensures refused { OnErr result (IsRefusedWork lg
+        (record { matrix = matrix_of (2 ^ lg) cols cells.old; filled = points.now }) work.old
+        work.new) }
+    ensures unbegun { IsTrue F.NEVER_REFUSES
+        → (count_true points.now ≡ 0) ⊎ (count_false points.now ≡ 0)
+        → OnErr result (work.new ≡ work.old) }
 {
     let filled = points.count_non_vanishing() as usize;
     if filled == 0 {
@@ -174,6 +228,7 @@ fn interpolated<F: FieldNTT>(
     ensures counted { OnOk result
         (2 * work.new.butterflies ≡ 2 * work.old.butterflies + cols * 2 ^ lg * lg) }
     ensures bounded { AddsAtMost (cols * 2 ^ lg * lg) work.old work.new }
+    ensures unbegun { IsTrue F.NEVER_REFUSES → OnErr result (work.new ≡ work.old) }
 {
     let table = interpolation_table(alloc, lg)?;
     interpolate_rows(alloc, cells, cols, lg, &table, work)?;
@@ -210,6 +265,7 @@ fn moved_to_coset<F: FieldNTT>(
     ensures counted { OnOk result (2 * work.new.butterflies
         ≡ 2 * work.old.butterflies + (cols + cols + 2) * 2 ^ lg * lg) }
     ensures bounded { AddsAtMost ((cols + cols + 2) * 2 ^ lg * lg) work.old work.new }
+    ensures refused { OnErr result (work.old.butterflies < work.new.butterflies) }
 {
     move_rows(alloc, vanishing, 1, lg, interpolation, coset, work)?;
     move_rows(alloc, cells, cols, lg, interpolation, coset, work)?;
@@ -252,7 +308,7 @@ fn quotients_from_coset<F: FieldNTT>(
 
 /// The coefficients in each column of f V divided by V: the values of f V on the domain are the
 /// cells times those of V, both are moved to the coset, and there divided. The trees of the domain
-/// become those of the coset.
+/// become those of the coset. Where it is refused, one butterfly or more is counted.
 fn divided<F: FieldNTT>(
     alloc: Global,
     cells: &mut [F],
@@ -278,6 +334,7 @@ fn divided<F: FieldNTT>(
     ensures counted { OnOk result (2 * work.new.butterflies
         ≡ 2 * work.old.butterflies + (3 * cols + 3) * 2 ^ lg * lg) }
     ensures bounded { AddsAtMost ((3 * cols + 3) * 2 ^ lg * lg) work.old work.new }
+    ensures refused { OnErr result (work.old.butterflies < work.new.butterflies) }
 {
     reverse_rows(cells, cols, lg);
     evaluate_below(alloc, vanishing, 1, lg, 1, true, evaluation, work)?;
@@ -328,6 +385,10 @@ fn recovered<F: FieldNTT>(
         ≡ 2 * work.old.butterflies + 2 ^ lg * lg * (3 * cols + 3)) }
     ensures root_products { OnOk result (lg ≤ 8 → 2 * work.new.root_products
         ≡ 2 * work.old.root_products + count_false points.now * (count_false points.now + 1)) }
+    ensures no_fewer { OnOk result (2 * work.old.butterflies + 2 ^ lg * lg * (3 * cols + 3)
+        ≤ 2 * work.new.butterflies) }
+    ensures refused { OnErr result (lg ≤ 8 → AddsInOrder (2 ^ lg * lg * (3 * cols + 3))
+        (count_false points.now * (count_false points.now + 1)) work.old work.new) }
 {
     let mut evaluation = evaluation_table(alloc, lg)?;
     let mut interpolation = interpolation_table(alloc, lg)?;

@@ -15,6 +15,11 @@ use std::alloc::Global;
 
 impl<K: Drop> Poly<K> {
     /// Makes the polynomial of f's answers at the coefficients, each in its place.
+    ///
+    /// ```
+    /// let p = Poly::from_coefficients(vec![in alloc; F::from(4), F::from(6)]?);
+    /// p.translate(alloc, |c: &F| -> Mem<F> { Ok(*c + F::from(1)) })?; // Poly(5 + 7 X^1)
+    /// ```
     pub fn translate<L: Drop, F: Fn(&K) -> Mem<L>>(&self, alloc: Global, f: F) -> Mem<Poly<L>>
         requires { F.IsAlwaysCallable f }
         ensures count { IfOk result (λ p. length p ≡ length self.now) }
@@ -44,6 +49,11 @@ impl<K: Additive> Poly<K> {
     /// none.
     ///
     /// If calls on coefficients are never refused, neither is this one.
+    ///
+    /// ```
+    /// let p = Poly::from_coefficients(vec![in alloc; F::from(4), F::from(6), F::from(0)]?);
+    /// p.degree_exact(alloc)?; // 1
+    /// ```
     pub fn degree_exact(&self, alloc: Global) -> Mem<u32>
         ensures ok { IfOk result (λ n. HasDegree K.same K.zero self.now n) }
         ensures never { IsTrue K.NEVER_REFUSES → IsOk result }
@@ -210,6 +220,12 @@ impl<K: Additive> Additive for Poly<K> {
     }
 
     /// The sum, with as many stored coefficients as the one that stored more.
+    ///
+    /// ```
+    /// let p = Poly::from_coefficients(vec![in alloc; F::from(4), F::from(6)]?);
+    /// let q = Poly::from_coefficients(vec![in alloc; F::from(1)]?);
+    /// p.add(alloc, &q)?; // Poly(5 + 6 X^1)
+    /// ```
     fn add(self, alloc: Global, rhs: &Self) -> Mem<Self>
         ensures ok { IfOk result (λ answer. HaveSameCoefficients K.same K.zero answer
             (polynomial_sum K.sum self rhs.now)) }
@@ -255,6 +271,11 @@ impl<K: Additive> Additive for Poly<K> {
     /// The n-fold sum, n being the number that the limbs write, the lowest limb first. It is zero,
     /// with one stored coefficient, where they write 0; else it stores as many coefficients as this
     /// one.
+    ///
+    /// ```
+    /// let p = Poly::from_coefficients(vec![in alloc; F::from(4), F::from(6)]?);
+    /// p.scale(alloc, &[3])?; // Poly(12 + 18 X^1)
+    /// ```
     fn scale(&self, alloc: Global, bits_le: &[u64]) -> Mem<Self>
         ensures ok { IfOk result (λ answer. HaveSameCoefficients K.same K.zero answer
             (multiple (K.zero ∷ []) (polynomial_sum K.sum) self.now

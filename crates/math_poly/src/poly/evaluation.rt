@@ -12,6 +12,11 @@ use std::alloc::Global;
 
 impl<K: Drop> Poly<K> {
     /// Returns the value at r: the sum of coefficient i scaled by r to the power i.
+    ///
+    /// ```
+    /// let p = Poly::from_coefficients(vec![in alloc; F::from(4), F::from(6), F::from(8)]?);
+    /// p.eval(alloc, &F::from(5))?; // 234
+    /// ```
     pub fn eval<R: Ring>(&self, alloc: Global, r: &R) -> Mem<K>
     where
         K: Space<R>,
@@ -34,6 +39,11 @@ impl<K: Drop> Poly<K> {
     /// weighted by r to the power i.
     ///
     /// It takes memory for as many powers as there are coefficients.
+    ///
+    /// ```
+    /// let p = Poly::from_coefficients(vec![in alloc; F::from(4), F::from(6), F::from(8)]?);
+    /// p.eval_msm(alloc, &F::from(5))?; // 234
+    /// ```
     pub fn eval_msm<R: Ring>(&self, alloc: Global, r: &R) -> Mem<K>
     where
         K: Space<R>,
@@ -50,6 +60,11 @@ impl<K: Drop> Poly<K> {
     /// The sum over the pairs (w, b) of the value at b scaled by w is the sum of coefficient i
     /// weighted by the sum of w b^i. So it first sums the weights of all points, one sum for each
     /// coefficient, and then calls `msm` once.
+    ///
+    /// ```
+    /// let p = Poly::from_coefficients(vec![in alloc; F::from(4), F::from(6), F::from(8)]?);
+    /// p.lin_comb_eval(alloc, &[(F::from(1), F::from(5)), (F::from(10), F::from(0))])?; // 274
+    /// ```
     pub fn lin_comb_eval<R: Ring>(&self, alloc: Global, pairs: &[(R, R)]) -> Mem<K>
     where
         K: Space<R>,

@@ -14,6 +14,10 @@ impl<K: Random + Drop> Poly<K> {
     /// most 2^32 - 2.
     ///
     /// It refuses with `TooManyWords` if one of these samples is refused, or with `Memory`.
+    ///
+    /// ```
+    /// Poly::<F>::new(alloc, rng, 2)?; // Poly(1 + 2 X^1 + 3 X^2)
+    /// ```
     pub fn new<G: Rng + CryptoRng>(
         alloc: Global,
         rng: &mut G,
@@ -35,6 +39,10 @@ impl<K: Random + Drop> Poly<K> {
     /// samples, upwards. `degree` is at most 2^32 - 2.
     ///
     /// It refuses with `TooManyWords` if one of these samples is refused, or with `Memory`.
+    ///
+    /// ```
+    /// Poly::new_with_constant(alloc, rng, 2, F::from(9))?; // Poly(9 + 1 X^1 + 2 X^2)
+    /// ```
     pub fn new_with_constant<G: Rng + CryptoRng>(
         alloc: Global,
         rng: &mut G,

@@ -28,6 +28,10 @@ impl<K: EncodeSize + Drop> EncodeSize for Poly<K> {
 impl<K: MaxEncodeSize + Drop> Poly<K> {
     /// Returns the greatest number of bytes of a polynomial with at most n stored coefficients:
     /// those of the length n, and n times those of a coefficient.
+    ///
+    /// ```
+    /// Poly::<F>::max_encode_size(3); // 25
+    /// ```
     pub fn max_encode_size(n: usize) -> usize
         requires count { n < 2 ^ 32 }
         requires fits { length (length_spelling n) + n * K.MAX_ENCODE_SIZE < 2 ^ 64 }

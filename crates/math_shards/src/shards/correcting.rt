@@ -38,7 +38,7 @@ pub struct Joined {
     pub left_out: Vec<usize>,
 }
 
-/// The data of the shards, however some of them are wrong, and which these are.
+/// Gives the data of the shards back, however some of them are wrong, and says which these are.
 ///
 /// An index with unequal cells counts as missing, and of its shards those of the data are not left
 /// out in the end. Of the m distinct indices that are left at most (m - `min`) / 2 have wrong
@@ -53,6 +53,12 @@ pub struct Joined {
 /// taken for several times N rows of as many cells as a shard has, where N is `total` rounded up to
 /// a power of two. The cells of two shards are then compared where these have one index, for which
 /// each shard's index is read for each shard.
+///
+/// ```
+/// let mut shards = split(alloc, &[4, 6, 8], 2, 5)?;
+/// shards[3].cells[0] = F::from(0);
+/// join_corrected(alloc, &shards)?; // Joined { words: [4, 6, 8], left_out: [3] }
+/// ```
 pub fn join_corrected(alloc: Global, shards: &[Shard]) -> Result<Joined, Error>
     ensures ok { IfOk result (λ j. AreCorrected j.words.items j.left_out.items shards.now) }
     ensures found { (words : List ℕ) → CorrectTo words shards.now

@@ -26,8 +26,8 @@ use math_ntt::ntt::EvaluationVector;
 use math_transforms::transform::lg_of;
 use std::alloc::{AllocError, Global};
 
-/// The data of which each of the shards is one. There are no others, and a shard that is handed in
-/// twice counts once.
+/// Gives the data of the shards back: the only data of which each shard is one. A shard that is
+/// handed in twice counts once.
 ///
 /// It refuses, in this order: no shard at all with `TooFew`; the first shard, as they are handed
 /// in, whose `min`, `total` or number of cells is not that of the first one, or not 1 <= `min` <=
@@ -46,6 +46,14 @@ use std::alloc::{AllocError, Global};
 /// is taken to tell which refusal is due. Who takes shards from strangers bounds `total` first.
 /// Nothing is allocated by a number that a shard claims of its data before the cells are seen to be
 /// so many.
+///
+/// ```
+/// let mut shards = split(alloc, &[4, 6, 8], 2, 5)?;
+/// shards.swap_remove(0);
+/// join(alloc, &shards)?; // [4, 6, 8]
+/// shards.truncate(1);
+/// join(alloc, &shards); // Err(TooFew)
+/// ```
 pub fn join(alloc: Global, shards: &[Shard]) -> Result<Vec<u64>, Error>
     ensures ok { IfOk result (λ words. JoinTo words.items shards.now) }
     ensures found { (words : List ℕ) → JoinTo words shards.now

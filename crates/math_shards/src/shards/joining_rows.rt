@@ -33,9 +33,17 @@ fn word_row<'a>(index: u32, cells: &'a [u64], i: usize, cols: usize) -> WordRow<
     }
 }
 
-/// The shards whose cells the words are: row i holds the cells of the shard with index
+/// Makes the shards whose cells the words are: row i holds the cells of the shard with index
 /// `indices[i]`, each as the number of an element, below P. All have these numbers, and `cols`
 /// cells.
+///
+/// ```
+/// let mut cells = [0; 8];
+/// split_rows(alloc, &[4, 6], 1, 2, &mut cells)?;
+/// let shards = shards_of_rows(alloc, &[0, 1], 1, 2, &cells, 4)?;
+/// shards[1].index; // 1
+/// join(alloc, &shards)?; // [4, 6]
+/// ```
 pub fn shards_of_rows(
     alloc: Global,
     indices: &[u32],
@@ -103,6 +111,14 @@ fn are_below(numbers: &[u32], bound: u32) -> bool
 /// below P; a row has `cols` words. It refuses as `join` does, and then, and where there is no
 /// room, nothing is written. It takes memory for as many elements as `min` rows have words, for the
 /// weights or the transforms of a strip, and beside further rows for a strip of a coset.
+///
+/// ```
+/// let mut cells = [0; 8];
+/// split_rows(alloc, &[4, 6], 1, 2, &mut cells)?;
+/// let mut out = [0; 2];
+/// join_rows(alloc, &[1], 1, 2, &cells[4..], 4, &mut out)?; // Some(2)
+/// out; // [4, 6]
+/// ```
 pub fn join_rows(
     alloc: Global,
     indices: &[u32],

@@ -3,7 +3,7 @@
 //! Let k rows of distinct indices be there, as many as give the data back. The cells of a column
 //! are the values of one polynomial of k coefficients at the points of these indices, and its
 //! coefficients are written over them. Two ways lead there. By weights each coefficient takes k
-//! products. By transforms (`math_cosets`) it takes some products for each row and level of the
+//! products. By transforms (`math_restoring`) it takes some products for each row and level of the
 //! domain, so that is the faster way where k is large.
 
 ghost use Rattle.std.specs.Prelude.{◌≡◌, ◌*◌, ◌<◌, ◌≤◌, ◌^◌, ℕ, All, length, map};
@@ -12,14 +12,14 @@ ghost use Rattle.std.specs.Int.{IsNextPowerOfTwo};
 ghost use Rattle.math_base.specs.declared.fields.goldilocks.F.{F};
 ghost use Rattle.math_transforms.specs.DomainValues.{matrix_of};
 ghost use Rattle.math_transforms.specs.Matrices.{IsOfSize, MatrixOf};
-ghost use Rattle.math_cosets.specs.Restored.{AreDistinct, HaveCellsAsValues};
+ghost use Rattle.math_restoring.specs.Restored.{AreDistinct, HaveCellsAsValues};
 ghost use Rattle.math_shards.specs.Fitting.{HasValuesOf, distinct_among};
 
 use super::rows::Row;
 use super::weighing::{chosen, put_weighed};
 use math_base::algebra::Mem;
 use math_base::fields::goldilocks::F;
-use math_cosets::restoring::put_restored;
+use math_restoring::restoring::put_restored;
 use math_transforms::transform::{lg_of, size_of};
 use std::alloc::Global;
 

@@ -33,14 +33,20 @@ use math_base::fields::goldilocks::F;
 use math_transforms::transform::{evaluation_table, size_of};
 use std::alloc::Global;
 
-/// The shards of the data, one for each index below `total`, in the order of the indices. Any `min`
-/// of them give the data back.
+/// Cuts the data into shards, one for each index below `total`, in the order of the indices. Any
+/// `min` of them give the data back.
 ///
 /// `min` is at least 1, and at most `total`. A shard has as many cells as the number of elements
 /// that the data and their count pack to, divided by `min` and rounded up. Beside the shards it
 /// takes memory for a table of N elements and for N rows of some columns, where N is `total`
 /// rounded up to a power of two: eight columns, or as many as make up 2^15 cells where these are
 /// more, or those of a shard where these are fewer.
+///
+/// ```
+/// let mut shards = split(alloc, &[4, 6, 8], 2, 5)?;
+/// shards.truncate(2);
+/// join(alloc, &shards)?; // [4, 6, 8]
+/// ```
 pub fn split(alloc: Global, data: &[u64], min: u32, total: u32) -> Mem<Vec<Shard>>
     requires some { 1 ≤ min }
     requires within { min ≤ total }
@@ -49,7 +55,13 @@ pub fn split(alloc: Global, data: &[u64], min: u32, total: u32) -> Mem<Vec<Shard
     split_source(alloc, &source_of(data), min, total)
 }
 
-/// The shards of data that lie in any form, as `split` has them of words.
+/// Cuts data that lie in any form into shards, as `split` does with words.
+///
+/// ```
+/// let source = Source { first: Some(4), words: &[[6, 0, 0, 0, 0, 0, 0, 0]], last: None };
+/// let shards = split_source(alloc, &source, 1, 2)?;
+/// join(alloc, &shards)?; // [4, 6]
+/// ```
 pub fn split_source<W: Word>(
     alloc: Global,
     source: &Source<'_, W>,
@@ -79,6 +91,12 @@ pub fn split_source<W: Word>(
 /// N is `total` rounded up to a power of two: eight columns, or as many as make up 2^15 cells where
 /// these are more, or those of a shard where these are fewer. Where that is refused nothing is
 /// written.
+///
+/// ```
+/// let mut cells = [0; 8];
+/// split_rows(alloc, &[4, 6], 1, 2, &mut cells)?;
+/// join(alloc, &shards_of_rows(alloc, &[1], 1, 2, &cells[4..], 4)?)?; // [4, 6]
+/// ```
 pub fn split_rows(alloc: Global, data: &[u64], min: u32, total: u32, cells: &mut [u64]) -> Mem<()>
     requires some { 1 ≤ min }
     requires within { min ≤ total }
@@ -90,6 +108,13 @@ pub fn split_rows(alloc: Global, data: &[u64], min: u32, total: u32, cells: &mut
 }
 
 /// Writes the shards of data that lie in any form over words, or over bytes, as `split_rows` does.
+///
+/// ```
+/// let source = Source { first: None, words: &[4_u64, 6], last: None };
+/// let mut cells = [0_u64; 8];
+/// split_source_rows(alloc, &source, 1, 2, &mut cells)?;
+/// join(alloc, &shards_of_rows(alloc, &[1], 1, 2, &cells[4..], 4)?)?; // [4, 6]
+/// ```
 pub fn split_source_rows<W: Word, R: Room>(
     alloc: Global,
     source: &Source<'_, W>,

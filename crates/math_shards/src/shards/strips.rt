@@ -57,9 +57,13 @@ pub(super) struct Layout {
     pub(super) lg: u8,
 }
 
-/// How many cells each shard has of so many words of data, of which `min` give these back.
+/// Returns how many cells each shard has of so many words of data, of which `min` give these back.
 ///
 /// `min` is at least 1, and there are fewer than 2^63 words.
+///
+/// ```
+/// shard_width(100, 4); // 26
+/// ```
 pub fn shard_width(words: usize, min: u32) -> usize
     requires some { 1 ≤ min }
     requires few { words < 2 ^ 63 }

@@ -19,7 +19,7 @@ ghost use Rattle.math_base.specs.Elements.{residue, sum, product};
 ghost use Rattle.math_transforms.specs.DomainValues.{matrix_of};
 ghost use Rattle.math_transforms.specs.Matrices.{column_of, row_of};
 ghost use Rattle.math_shards.specs.Joining.{HoldsShards, IsSound};
-ghost use Rattle.math_cosets.specs.Restored.{AreDistinct, HaveCellsAsValues};
+ghost use Rattle.math_restoring.specs.Restored.{AreDistinct, HaveCellsAsValues};
 ghost use Rattle.math_shards.specs.Weights.{AreChosen, AreCoefficients};
 ghost use Rattle.math_shards.specs.Weights.{AreUnitShards, AreWeightsOf};
 

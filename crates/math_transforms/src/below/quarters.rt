@@ -92,6 +92,7 @@ fn turn_four<F: FieldNTT, const FORWARD: bool>(
         a.old b.old c.old d.old a.new b.new c.new d.new) }
     ensures counted { OnOk result (work.new.butterflies ≡ work.old.butterflies + 4) }
     ensures bounded { AddsAtMost 8 work.old work.new }
+    ensures refused { OnErr result (work.old.butterflies < work.new.butterflies) }
     ensures never { IsTrue F.NEVER_REFUSES → IsOk result }
 {
     if FORWARD {

@@ -4,7 +4,7 @@
 //! coset leads from these to the values on it. The rows of values are in bit-reversed order in both,
 //! so that no row changes its place.
 
-ghost use Rattle.std.specs.Prelude.{◌≡◌, ◌+◌, ◌*◌, ◌<◌, ◌≤◌, ◌^◌, OnOk, length};
+ghost use Rattle.std.specs.Prelude.{◌≡◌, ◌+◌, ◌*◌, ◌<◌, ◌≤◌, ◌^◌, OnOk, OnErr, length};
 ghost use Rattle.math_transforms.specs.CosetValues.{AreMovedValues};
 ghost use Rattle.math_transforms.specs.CountedWork.{AddsAtMost};
 ghost use Rattle.math_transforms.specs.RootTrees.{IsTreeOf};
@@ -18,7 +18,8 @@ use std::alloc::Global;
 /// values that the same polynomials have at the shift times these powers. Both are in bit-reversed
 /// order.
 ///
-/// Adds cols 2^lg lg butterflies. Where it is refused, the cells have some values.
+/// Adds cols 2^lg lg butterflies. Where it is refused, the cells have some values, and one butterfly
+/// or more is counted.
 pub fn move_rows<F: FieldNTT>(
     alloc: Global,
     cells: &mut [F],
@@ -42,6 +43,7 @@ pub fn move_rows<F: FieldNTT>(
     ensures counted { OnOk result (2 * work.new.butterflies
         ≡ 2 * work.old.butterflies + (cols + cols) * 2 ^ lg * lg) }
     ensures bounded { AddsAtMost ((cols + cols) * 2 ^ lg * lg) work.old work.new }
+    ensures refused { OnErr result (work.old.butterflies < work.new.butterflies) }
 {
     interpolate_below(alloc, cells, cols, lg, 1, true, interpolation, work)?;
     evaluate_below(alloc, cells, cols, lg, 1, false, coset, work)?;

@@ -17,6 +17,14 @@ use std::num::NonZeroU32;
 impl<I: Ord + Drop, F: FieldNTT> Interpolator<I, F> {
     /// Makes the interpolator for the value at zero over roots of unity. It is that of
     /// `roots_of_unity_at`.
+    ///
+    /// ```
+    /// let indices = BiMap::try_from_iter(alloc, vec![in alloc; ('a', 1), ('b', 4)]?)?;
+    /// let Some(total) = NonZeroU32::new(4) else { return Ok(()) };
+    /// let interpolator = Interpolator::<char, F>::roots_of_unity(alloc, total, indices)?;
+    /// interpolator.weights().keys(); // ['a']
+    /// interpolator.weights().values(); // [1]
+    /// ```
     pub fn roots_of_unity(alloc: Global, total: NonZeroU32, points: BiMap<I, u32>) -> Mem<Self>
         requires { HasDomainOf F.MAX_LG_ROOT_ORDER total.value }
         ensures keys { IfOk result (λ m. keys_of m ≡ keys_of (pairs_below total.value points)) }
@@ -36,6 +44,13 @@ impl<I: Ord + Drop, F: FieldNTT> Interpolator<I, F> {
     /// N is at most `F::MAX_LG_ROOT_ORDER`. Keys whose index is `total` or more are dropped. The
     /// points of the others differ, so their weights are the only ones for the value at x. It takes
     /// time in O(N log N).
+    ///
+    /// ```
+    /// let indices = BiMap::try_from_iter(alloc, vec![in alloc; ('a', 1), ('b', 0)]?)?;
+    /// let Some(total) = NonZeroU32::new(2) else { return Ok(()) };
+    /// let interpolator = Interpolator::roots_of_unity_at(alloc, total, indices, &F::from(1))?;
+    /// interpolator.weights().values(); // [0, 1]
+    /// ```
     pub fn roots_of_unity_at(
         alloc: Global,
         total: NonZeroU32,

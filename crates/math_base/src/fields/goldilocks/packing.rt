@@ -184,6 +184,13 @@ impl F {
     /// the row into pieces of 63, the last filled with zeros. Each piece is the number of an
     /// element. So n words give 64 n / 63 elements, rounded up. After its first `None` it does not
     /// ask `inner` again.
+    ///
+    /// ```
+    /// let mut elements = F::stream_from_u64s(7..8);
+    /// elements.next(); // Some(7)
+    /// elements.next(); // Some(0)
+    /// elements.next(); // None
+    /// ```
     pub fn stream_from_u64s<I: Iterator<Item = u64> + Drop>(inner: I) -> WordsToElements<I>
         ensures all { GivesAll (words_to_elements_steps I.next_gives) result
             I.next_gives inner elements_of }
@@ -208,6 +215,14 @@ impl F {
     /// bit 63 of an element. So n elements give 63 n / 64 words, rounded up. Packed words come
     /// back, with one zero word after them if 63 does not divide their number. After its first
     /// `None` it does not ask `inner` again.
+    ///
+    /// ```
+    /// let mut words = F::stream_to_u64s(F::stream_from_u64s(7..9));
+    /// words.next(); // Some(7)
+    /// words.next(); // Some(8)
+    /// words.next(); // Some(0)
+    /// words.next(); // None
+    /// ```
     pub fn stream_to_u64s<I: Iterator<Item = F> + Drop>(inner: I) -> ElementsToWords<I>
         ensures all { GivesAll (elements_to_words_steps I.next_gives) result
             I.next_gives inner words_of }
@@ -225,7 +240,11 @@ impl F {
         }
     }
 
-    /// The number of elements that this many bits pack to: a 63rd of it, rounded up.
+    /// Returns the number of elements that this many bits pack to: a 63rd of it, rounded up.
+    ///
+    /// ```
+    /// F::bits_to_elements(64); // 2
+    /// ```
     pub const fn bits_to_elements(bits: usize) -> usize
         ensures { result ≡ piece_count 63 bits }
     {

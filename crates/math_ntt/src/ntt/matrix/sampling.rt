@@ -11,10 +11,14 @@ use rand_core::{CryptoRng, Rng};
 use std::alloc::Global;
 
 impl<F: Random + Drop> Matrix<F> {
-    /// The matrix whose cells are the next samples of the source, row by row. The number of cells
-    /// is below 2^64.
+    /// Samples a matrix: its cells are the next samples of the source, row by row. The number of
+    /// cells is below 2^64.
     ///
     /// It refuses with `TooManyWords` where one of these samples is refused, or with `Memory`.
+    ///
+    /// ```
+    /// Matrix::<F>::rand(alloc, rng, 2, 2)?.into_cells(); // [1, 2, 3, 4]
+    /// ```
     pub fn rand<G: Rng + CryptoRng>(
         alloc: Global,
         rng: &mut G,

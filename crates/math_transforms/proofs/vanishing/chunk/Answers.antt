@@ -90,3 +90,9 @@ returns-clause-vanishes g c =
     let root = rw c.in-Some.is at c.in_ok-root.ensures.ok in
     VanishesAt-product E G P R F.Field.field (g.F.FieldNTT.root c.args.lg) c.in-Some.root (every c.args.start c.args.stride (2 ^ c.args.lg) c.args.points.now) _ root
     (λ r. rw c.size_of-count.ensures at (c.in_ok-product.ensures.values r))
+
+pub returns-in_err-product-clause-no_more : goal.returns-in_err-product-clause-no_more
+returns-in_err-product-clause-no_more g c = rw c.size_of-count.ensures at c.in_err-product.ensures.no_more
+
+pub returns-clause-no_more : goal.returns-clause-no_more
+returns-clause-no_more g c = rw c.size_of-count.ensures at c.in_ok-product.ensures.no_more

@@ -53,3 +53,18 @@ returns-in_ok-all-in-Somewhere-clause-exact g c = λ small.
     let whole = every-whole c.args.points.now (2 ^ c.args.lg) c.requires.points in
     let few : count_false c.args.points.now < 2 ^ c.args.lg = omega (arith, count_both c.args.points.now) in
     (rw whole at c.in_ok-piece.ensures.exact) (search rules) few
+
+pub returns-in_err-piece-clause-no_more : goal.returns-in_err-piece-clause-no_more
+returns-in_err-piece-clause-no_more g c = λ small. (rw (every-whole c.args.points.now (2 ^ c.args.lg) c.requires.points) at c.in_err-piece.ensures.no_more) (search rules)
+
+pub returns-in_err-one-in-Nowhere-clause-no_more : goal.returns-in_err-one-in-Nowhere-clause-no_more
+returns-in_err-one-in-Nowhere-clause-no_more g c = λ small. (rw (every-whole c.args.points.now (2 ^ c.args.lg) c.requires.points) at c.in_ok-piece.ensures.no_more) (search rules)
+
+pub returns-in_ok-one-in-Nowhere-clause-no_more : goal.returns-in_ok-one-in-Nowhere-clause-no_more
+returns-in_ok-one-in-Nowhere-clause-no_more g c = λ small. (rw (every-whole c.args.points.now (2 ^ c.args.lg) c.requires.points) at c.in_ok-piece.ensures.no_more) (search rules)
+
+pub returns-in_err-all-in-Somewhere-clause-no_more : goal.returns-in_err-all-in-Somewhere-clause-no_more
+returns-in_err-all-in-Somewhere-clause-no_more g c = λ small. (rw (every-whole c.args.points.now (2 ^ c.args.lg) c.requires.points) at c.in_ok-piece.ensures.no_more) (search rules)
+
+pub returns-in_ok-all-in-Somewhere-clause-no_more : goal.returns-in_ok-all-in-Somewhere-clause-no_more
+returns-in_ok-all-in-Somewhere-clause-no_more g c = λ small. (rw (every-whole c.args.points.now (2 ^ c.args.lg) c.requires.points) at c.in_ok-piece.ensures.no_more) (search rules)

@@ -1,7 +1,7 @@
 use Rattle.std.proofs.Common.{◌≡◌, ◌∙◌, ◌++◌, ◌∷◌, [], ap, append_assoc, refl, subst, arith}
 use Rattle.math_base.specs.Elements.{same}
 use Rattle.secret_bytes.specs.KeyChecks.{check_at}
-use Rattle.secret_bytes.proofs.PackedBytes.{all_bytes}
+use Rattle.math_numbers.proofs.ByteLists.{all_bytes}
 use Rattle.secret_bytes.proofs.keyed.keyed.Goals as goal
 
 pub returns : goal.returns

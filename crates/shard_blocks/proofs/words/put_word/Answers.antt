@@ -1,5 +1,5 @@
 use Rattle.std.proofs.Common.{List, ℕ, ◌++◌, ◌+◌, take, drop, length, ◌≡◌, ◌∙◌, ap}
-use Rattle.shard_blocks.proofs.PutWords.{eight_put}
+use Rattle.math_numbers.proofs.ByteLists.{eight_put}
 use Rattle.shard_blocks.proofs.words.put_word.Goals as goal
 
 pub returns : goal.returns

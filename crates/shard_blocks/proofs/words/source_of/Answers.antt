@@ -3,7 +3,8 @@ use Rattle.std.proofs.lemmas.Bool.{eqb-true}
 use Rattle.std.proofs.lemmas.List.{append-nil}
 use Rattle.std.specs.Int.{from_le_bytes, w64}
 use Rattle.std.specs.Simd.{first_chunks}
-use Rattle.shard_blocks.proofs.PackedBytes.{all_bytes, packed_rest, packed_whole, some_of_test}
+use Rattle.math_numbers.proofs.ByteLists.{all_bytes, some_of_test}
+use Rattle.shard_blocks.proofs.PackedBytes.{packed_rest, packed_whole}
 use Rattle.shard_blocks.proofs.words.source_of.Goals as goal
 use Rattle.shard_blocks.proofs.words.source_of.Goals.{then-is_empty, else-is_empty}
 

@@ -22,7 +22,7 @@ returns c =
     let elements = c.deref-2.result.now in
     let numbers = c.deref.ensures.value ∙ c.in_ok-numbers.ensures in
     let stripped = rw c.in-Some.is at (strip_prefix_is Decides-eqb bytes front c.strip_prefix.result c.strip_prefix.ensures.cases) in
-    let spelled = c.in_ok-are_elements.ensures.spelled c.if-not-branch.false ∙ ap elements_spelling (sym c.deref-2.ensures.value) in (
+    let spelled = c.in_ok-read_elements.ensures.spelled c.if-not-branch.false ∙ ap elements_spelling (sym c.deref-2.ensures.value) in (
       λ fits. record_made h c.args.block c.args.count bytes front words elements numbers stripped spelled (c.are_cells_that_fit.ensures.0 fits),
       λ r. c.are_cells_that_fit.ensures.1 (elements_fit h c.args.block c.args.count bytes front words elements numbers stripped spelled r),
     )

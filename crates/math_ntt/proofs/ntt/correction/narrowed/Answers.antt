@@ -67,8 +67,8 @@ returns-in_default-clause-none g c =
     (rw (c.deref.ensures.value, c.deref-2.ensures.value) at c.in_ok-points.ensures.cells) (rw (c.deref-3.ensures.value, c.deref-4.ensures.value) at c.in_ok-values.ensures.cells) in
     narrowed-none R F.Object.equality F.Additive.group F.Multiplicative.commutes F.Ring.ring w e c.args.column xs vs stand c.args.count (rw (c.in_default.is, c.deref-5.ensures.value, c.deref-6.ensures.value) at c.in_ok-decoded.ensures.none)
 
-pub without-requires-clause-rows : goal.without-requires-clause-rows
-without-requires-clause-rows g c =
+pub rows_left-requires-clause-rows : goal.rows_left-requires-clause-rows
+rows_left-requires-clause-rows g c =
     rw c.deref-7.ensures.value (rows-below c.args.filled.now (2 ^ c.args.lg) c.in_ok-rows.rows.items c.in_ok-rows.ensures c.requires.marks)
 
 pub returns-clause-some : goal.returns-clause-some

@@ -1,14 +1,15 @@
-use Rattle.std.proofs.Common.{◌≡◌, ◌∙◌, ◌+◌, ◌*◌, ◌^◌, ◌<◌, ◌≤◌, length, sym, ap, arith}
+use Rattle.std.proofs.Common.{◌≡◌, ◌∙◌, ◌+◌, ◌*◌, ◌^◌, ◌<◌, ◌≤◌, inl, inr, length, sym, ap, arith}
 use Rattle.math_theory.specs.Recovery.{count_true}
 use Rattle.math_base.proofs.Members.{ring_members}
 use Rattle.math_transforms.proofs.PowersOfTwo.{power_of_two-same}
 use Rattle.math_transforms.proofs.PresentIndices.{length-places}
 use Rattle.math_ntt.specs.Evaluations.{EvaluationsOf}
 use Rattle.math_ntt.specs.NarrowedRows.{IsNarrowed}
-use Rattle.math_ntt.proofs.CopiedRecoveries.{adds-once, adds-more, adds-few}
+use Rattle.math_ntt.proofs.CopiedRecoveries.{adds-once, adds-more, adds-few, refused-none, recovery-then}
 use Rattle.math_ntt.proofs.CorrectionStates.{IsLong, state-begun, state-within, state-none_near, state-none_few, state-unchanged, state-fewer, state-next, state-corrected}
 use Rattle.math_ntt.proofs.CorrectionSteps.{with_rows}
 use Rattle.math_ntt.proofs.NarrowedColumns.{rows-below}
+use Rattle.math_ntt.proofs.AddedWork.{on-err}
 use Rattle.math_ntt.proofs.ntt.correction.without_wrong_rows.Goals as goal
 
 pub overflow_sub-most : goal.overflow_sub-most
@@ -212,6 +213,7 @@ loop-polynomials-preserved g c =
       work = adds-more (2 ^ lg * lg * (3 * lg + 3 * e.matrix.cols + 2)) (128 * 2 ^ lg) (count_true e.filled) (count_true left) (count_true less) c.args.work.now c.loop-polynomials.work
           c.recovered_copy-in-Some.new.work fewer (state-within R root lg e count left v s) c.loop-polynomials.invariant.work c.in_ok-polynomials-2.ensures.most;
       exact = λ same. absurd (omega (arith, same, fewer, state-within R root lg e count left v s));
+      least = recovery-then lg e _ _ _ _ _ c.loop-polynomials.invariant.least c.in_ok-polynomials-2.ensures.most;
     }
 
 pub loop-polynomials-init : goal.loop-polynomials-init
@@ -226,6 +228,12 @@ loop-polynomials-init g c =
       state = state-begun R root lg e count c.in_ok-polynomials.polynomials c.requires.count c.in_ok-polynomials.ensures.size c.in_ok-polynomials.ensures.fits;
       work = adds-once (2 ^ lg * lg * (3 * lg + 3 * e.matrix.cols + 2)) (128 * 2 ^ lg) (count_true e.filled) c.args.work.now c.recovered_copy.new.work c.in_ok-polynomials.ensures.most;
       exact = λ same. c.in_ok-polynomials.ensures.exact;
+      least = record {
+        after = c.recovered_copy.new.work;
+        first = c.in_ok-polynomials.ensures.exact c.requires.room c.requires.product_room;
+        butterflies = omega arith;
+        root_products = omega arith;
+      };
     }
 
 pub rows_dropped-requires : goal.rows_dropped-requires
@@ -260,3 +268,32 @@ returns-clause-exact g c none l f =
     let s = c.loop-polynomials.invariant.state in
     rw (← power_of_two-same c.args.lg l (sym c.requires.rows ∙ f))
     (c.loop-polynomials.invariant.exact (state-unchanged R root lg e count left v c.in_ok-wrong.wrong.items s (rw (c.deref.ensures.value, c.in_ok-rows.ensures) at c.in_ok-wrong.ensures) (ap length none)) c.requires.room c.requires.product_room)
+
+pub returns-in_err-rows-clause-refused : goal.returns-in_err-rows-clause-refused
+returns-in_err-rows-clause-refused g c = on-err c.from_residual.result (λ l f. inl (refused-none _ _ _))
+
+pub returns-in_err-polynomials-clause-refused : goal.returns-in_err-polynomials-clause-refused
+returns-in_err-polynomials-clause-refused g c = on-err c.from_residual-in_err-polynomials.result (λ l f.
+    rw (← power_of_two-same c.args.lg l (sym c.requires.rows ∙ f)) (inl (c.in_err-polynomials.ensures.refused c.requires.room c.requires.product_room)))
+
+pub returns-in_err-column-clause-refused : goal.returns-in_err-column-clause-refused
+returns-in_err-column-clause-refused g c = on-err c.from_residual-in_err-column.result (λ l f. rw (← power_of_two-same c.args.lg l (sym c.requires.rows ∙ f)) (inr c.loop-polynomials.invariant.least))
+
+pub returns-in_err-less-clause-refused : goal.returns-in_err-less-clause-refused
+returns-in_err-less-clause-refused g c = on-err c.from_residual-in_err-less.result (λ l f. rw (← power_of_two-same c.args.lg l (sym c.requires.rows ∙ f)) (inr c.loop-polynomials.invariant.least))
+
+pub returns-in_err-wrong-clause-refused : goal.returns-in_err-wrong-clause-refused
+returns-in_err-wrong-clause-refused g c = on-err c.from_residual-in_err-wrong.result (λ l f. rw (← power_of_two-same c.args.lg l (sym c.requires.rows ∙ f)) (inr c.loop-polynomials.invariant.least))
+
+pub returns-in_err-polynomials-2-clause-refused : goal.returns-in_err-polynomials-2-clause-refused
+returns-in_err-polynomials-2-clause-refused g c = on-err c.from_residual-in_err-polynomials-2.result (λ l f.
+    rw (← power_of_two-same c.args.lg l (sym c.requires.rows ∙ f)) (inr (recovery-then _ _ _ _ _ _ _ c.loop-polynomials.invariant.least c.in_err-polynomials-2.ensures.most)))
+
+pub returns-in_default-2-clause-least : goal.returns-in_default-2-clause-least
+returns-in_default-2-clause-least g c l f = rw (← power_of_two-same c.args.lg l (sym c.requires.rows ∙ f)) c.loop-polynomials.invariant.least
+
+pub returns-then-len-count_non_vanishing-clause-least : goal.returns-then-len-count_non_vanishing-clause-least
+returns-then-len-count_non_vanishing-clause-least g c l f = rw (← power_of_two-same c.args.lg l (sym c.requires.rows ∙ f)) c.loop-polynomials.invariant.least
+
+pub returns-clause-least : goal.returns-clause-least
+returns-clause-least g c l f = rw (← power_of_two-same c.args.lg l (sym c.requires.rows ∙ f)) c.loop-polynomials.invariant.least

@@ -4,7 +4,7 @@ use Rattle.math_base.specs.Members.{RingOf}
 use Rattle.math_transforms.specs.CountedWork.{AddsWithin}
 use Rattle.math_base.proofs.Members.{ring_members}
 use Rattle.math_ntt.specs.Evaluations.{EvaluationsOf}
-use Rattle.math_ntt.specs.RecoveredRows.{IsExactWork}
+use Rattle.math_ntt.specs.RecoveredRows.{AddsRecovery, IsExactWork}
 use Rattle.math_ntt.proofs.CorrectionStates.{IsState}
 use Rattle.math_ntt.proofs.ntt.correction.without_wrong_rows.Given as goal
 
@@ -18,6 +18,7 @@ invariant-loop-polynomials g l =
       state : IsState R g.F.FieldNTT.root l.lg e l.count l.left l.polynomials;
       work : AddsWithin (recoveries * (2 ^ l.lg * l.lg * (3 * l.lg + 3 * e.matrix.cols + 2))) (recoveries * (128 * 2 ^ l.lg)) l.fn.work l.work;
       exact : count_true l.left ≡ count_true e.filled → l.fn.work.butterflies ≤ 2 ^ 127 → l.fn.work.root_products ≤ 2 ^ 127 → IsExactWork l.lg e l.fn.work l.work;
+      least : AddsRecovery l.lg e l.fn.work l.work;
     }
 
 abbrev pub decreases-loop-polynomials : goal.decreases-loop-polynomials

@@ -1,7 +1,9 @@
-use Rattle.std.proofs.Common.{◌≡◌, ◌∙◌, ◌+◌, ◌*◌, ◌^◌, length, arith}
+use Rattle.std.proofs.Common.{◌≡◌, ◌≢◌, ◌∙◌, ◌^◌, length, arith}
 use Rattle.math_base.proofs.Members.{ring_members}
+use Rattle.math_transforms.proofs.SomeCells.{some-cells}
 use Rattle.math_transforms.proofs.TreeEntries.{root-tree, tree-ones}
 use Rattle.math_ntt.proofs.RecoverySteps.{products-on_domain, values-again, values-in_order}
+use Rattle.math_ntt.proofs.AddedWork.{on-err}
 use Rattle.math_ntt.proofs.ntt.recovery.divided.Goals as goal
 
 pub evaluate_below-requires-clause-tree : goal.evaluate_below-requires-clause-tree
@@ -58,3 +60,24 @@ returns-clause-divided g c =
       same_values = values-again R E G P L F.Field.field root lg order v values divisor.polynomials size in_order divisor.values;
       quotients = c.in_ok-quotients_from_coset.ensures.quotients moved.polynomials divisor.polynomials size moved.multiples divisor.multiples;
     }
+
+pub returns-in_err-multiply_rows-clause-refused : goal.returns-in_err-multiply_rows-clause-refused
+returns-in_err-multiply_rows-clause-refused g c = on-err c.from_residual-in_err-multiply_rows.result (omega (arith, some-cells 1 c.args.lg (let h : 1 ≢ 0 = omega arith in h) (omega arith), c.in_ok-evaluate_below.ensures.counted))
+
+pub returns-in_err-shift-clause-refused : goal.returns-in_err-shift-clause-refused
+returns-in_err-shift-clause-refused g c = on-err c.from_residual-in_err-shift.result (omega (arith, some-cells 1 c.args.lg (let h : 1 ≢ 0 = omega arith in h) (omega arith), c.in_ok-evaluate_below.ensures.counted))
+
+pub returns-in_err-start_at-clause-refused : goal.returns-in_err-start_at-clause-refused
+returns-in_err-start_at-clause-refused g c = on-err c.from_residual-in_err-start_at.result (omega (arith, some-cells 1 c.args.lg (let h : 1 ≢ 0 = omega arith in h) (omega arith), c.in_ok-evaluate_below.ensures.counted))
+
+pub returns-in_err-moved_to_coset-clause-refused : goal.returns-in_err-moved_to_coset-clause-refused
+returns-in_err-moved_to_coset-clause-refused g c = on-err c.from_residual-in_err-moved_to_coset.result (omega (arith, some-cells 1 c.args.lg (let h : 1 ≢ 0 = omega arith in h) (omega arith), c.in_ok-evaluate_below.ensures.counted, c.in_err-moved_to_coset.ensures.bounded.no_fewer))
+
+pub returns-in_err-back-clause-refused : goal.returns-in_err-back-clause-refused
+returns-in_err-back-clause-refused g c = on-err c.from_residual-in_err-back.result (omega (arith, some-cells 1 c.args.lg (let h : 1 ≢ 0 = omega arith in h) (omega arith), c.in_ok-evaluate_below.ensures.counted, c.in_ok-moved_to_coset.ensures.bounded.no_fewer))
+
+pub returns-in_err-start_at-2-clause-refused : goal.returns-in_err-start_at-2-clause-refused
+returns-in_err-start_at-2-clause-refused g c = on-err c.from_residual-in_err-start_at-2.result (omega (arith, some-cells 1 c.args.lg (let h : 1 ≢ 0 = omega arith in h) (omega arith), c.in_ok-evaluate_below.ensures.counted, c.in_ok-moved_to_coset.ensures.bounded.no_fewer))
+
+pub returns-in_err-quotients_from_coset-clause-refused : goal.returns-in_err-quotients_from_coset-clause-refused
+returns-in_err-quotients_from_coset-clause-refused g c = on-err c.from_residual-in_err-quotients_from_coset.result (omega (arith, some-cells 1 c.args.lg (let h : 1 ≢ 0 = omega arith in h) (omega arith), c.in_ok-evaluate_below.ensures.counted, c.in_ok-moved_to_coset.ensures.bounded.no_fewer, c.in_err-quotients_from_coset.ensures.bounded.no_fewer))

@@ -1,4 +1,4 @@
-use Rattle.std.proofs.Common.{◌≡◌, ◌∙◌, ◌+◌, ◌*◌, ◌^◌, ◌<◌, length, arith}
+use Rattle.std.proofs.Common.{◌≡◌, ◌∙◌, ◌^◌, ◌<◌, length, arith}
 use Rattle.std.proofs.lemmas.List.{get_or_default}
 use Rattle.math_theory.proofs.domains.MergedPieces.{root-inverse}
 use Rattle.math_base.proofs.Members.{ring_members}
@@ -35,7 +35,7 @@ returns-clause-quotients g c = λ p v e at_cells at_divisors nonzero.
     let divisors = c.args.divisors.now in
     let long : length divisors ≡ n = c.requires.divisors in
     let many : length c.in_ok-inverses.inverses.items ≡ n = c.in_ok-inverses.ensures.count ∙ long in
-    let half = c.in_ok-numerator.ensures in
+    let half = c.in_ok-numerator.ensures.inverse in
     let inverted = c.in_ok-inverses.ensures.each
     (λ k d l z. let b : k < n = omega (arith, l, long) in
     nonzero-values R E G P L F.Field.field root lg order shift c.in_ok-numerator.numerator v divisors e half at_divisors nonzero k b (rw (get_or_default divisors k d g.F.Additive.zero l) at z)) in

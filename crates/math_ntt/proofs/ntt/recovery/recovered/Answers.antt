@@ -10,6 +10,7 @@ use Rattle.math_transforms.proofs.MatrixRows.{length-column}
 use Rattle.math_transforms.proofs.MissingPlaces.{count_both}
 use Rattle.math_transforms.proofs.PowersOfTwo.{power_of_two-same}
 use Rattle.math_transforms.proofs.TreeCounts.{within-part, within-transforms}
+use Rattle.math_ntt.proofs.AddedWork.{in_order-none, on-err}
 use Rattle.math_ntt.proofs.RecoveryCounts.{whole-bound, whole-room}
 use Rattle.math_ntt.proofs.ntt.recovery.recovered.Goals as goal
 
@@ -63,3 +64,24 @@ returns-clause-fits g c = λ m k e b.
     (length-column zero cells k) long (length-column zero product k) (length-column zero quotient k) c.requires.some (omega (arith, count_both points, c.requires.points)) (omega arith) (omega arith) vanishes on_domain
     (λ i l. rw (column-cell zero n c.args.cols k i c.args.cells.now l b) (products i k l b))
     (λ i l. let every : 1 * i ≡ i = omega arith in rw every (quotients i k l b)))
+
+pub returns-in_err-evaluation-clause-refused : goal.returns-in_err-evaluation-clause-refused
+returns-in_err-evaluation-clause-refused g c = on-err c.from_residual.result (λ small. in_order-none _ _ _)
+
+pub returns-in_err-interpolation-clause-refused : goal.returns-in_err-interpolation-clause-refused
+returns-in_err-interpolation-clause-refused g c = on-err c.from_residual-in_err-interpolation.result (λ small. in_order-none _ _ _)
+
+pub returns-in_err-vanishing-clause-refused : goal.returns-in_err-vanishing-clause-refused
+returns-in_err-vanishing-clause-refused g c = on-err c.from_residual-in_err-vanishing.result (λ small.
+    let none = c.in_err-vanishing.ensures.butterflies small in
+    record { no_more = omega (arith, none); no_more_products = c.in_err-vanishing.ensures.no_more small; in_order = λ begun. absurd (omega (arith, begun, none)) })
+
+pub returns-in_err-divided-clause-refused : goal.returns-in_err-divided-clause-refused
+returns-in_err-divided-clause-refused g c = on-err c.from_residual-in_err-divided.result (λ small.
+    let none = c.in_ok-vanishing.ensures.butterflies small in
+    let all = c.in_ok-vanishing.ensures.exact small in
+    let bound = c.in_err-divided.ensures.bounded in
+    record { no_more = omega (arith, none, bound.no_more); no_more_products = omega (arith, all, bound.root_products); in_order = λ begun. omega (arith, all, bound.root_products) })
+
+pub returns-clause-no_fewer : goal.returns-clause-no_fewer
+returns-clause-no_fewer g c = omega (arith, c.in_ok-vanishing.ensures.bounded.no_fewer, c.in_ok-divided.ensures.counted)

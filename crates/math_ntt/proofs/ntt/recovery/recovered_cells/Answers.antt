@@ -10,7 +10,9 @@ use Rattle.math_transforms.proofs.DomainSteps.{column-cell}
 use Rattle.math_transforms.proofs.MatrixRows.{length-column}
 use Rattle.math_transforms.proofs.MissingPlaces.{count_both, all_missing}
 use Rattle.math_transforms.proofs.PowersOfTwo.{power_of_two-same}
+use Rattle.math_ntt.proofs.CopiedRecoveries.{refused-none}
 use Rattle.math_ntt.proofs.RecoveryCounts.{some_levels}
+use Rattle.math_ntt.proofs.AddedWork.{on-err}
 use Rattle.math_ntt.proofs.ntt.recovery.recovered_cells.Goals as goal
 
 pub recovered-requires-clause-many : goal.recovered-requires-clause-many
@@ -31,6 +33,7 @@ returns-clause-exact g c =
         | inr all ↦ absurd (omega (arith, all, count_both points))
       ];
       some = λ some missing small. (c.in_ok-recovered.ensures.butterflies small, c.in_ok-recovered.ensures.root_products small);
+      no_fewer = λ some missing. c.in_ok-recovered.ensures.no_fewer;
     }
 
 pub returns-then-filled-size_of-clause-exact : goal.returns-then-filled-size_of-clause-exact
@@ -42,6 +45,7 @@ returns-then-filled-size_of-clause-exact g c =
     record {
       none_or_all = λ h. (c.in_ok-interpolated-2.ensures.counted, bound.root_products);
       some = λ some missing small. absurd (omega (arith, missing, count_both points));
+      no_fewer = λ some missing. absurd (omega (arith, missing, count_both points));
     }
 
 pub returns-then-filled-size_of-clause-fits : goal.returns-then-filled-size_of-clause-fits
@@ -80,3 +84,41 @@ returns-then-filled-eq0-clause-fits g c = λ m k e b.
     (column_of zero out k) c.args.points.now
     (length-column zero cells k) (length-column zero out k) (λ j l. rw none (get_or-replicate n j false false l))
     (λ i l. E.transitive _ _ _ (E.symmetric _ _ (c.in_ok-interpolated.ensures.values i k l b)) (c.in_ok-zeros.ensures (i * cols + k) zero (omega (arith, long, mul-add-lt i cols k n l b)))))
+
+pub returns-in_err-zeros-clause-refused : goal.returns-in_err-zeros-clause-refused
+returns-in_err-zeros-clause-refused g c = on-err c.from_residual.result (refused-none _ _ _)
+
+pub returns-in_err-interpolated-clause-refused : goal.returns-in_err-interpolated-clause-refused
+returns-in_err-interpolated-clause-refused g c = on-err c.from_residual-in_err-interpolated.result (
+    let filled = c.count_non_vanishing-filled.ensures in
+    record { none_or_all = λ h. c.in_err-interpolated.ensures.bounded; some = λ some missing small. absurd (omega (arith, some)) })
+
+pub returns-in_err-interpolated-2-clause-refused : goal.returns-in_err-interpolated-2-clause-refused
+returns-in_err-interpolated-2-clause-refused g c = on-err c.from_residual-in_err-interpolated-2.result (
+    let points = c.args.points.now in
+    let filled = c.count_non_vanishing-filled.ensures in
+    let size = c.size_of.ensures in
+    record { none_or_all = λ h. c.in_err-interpolated-2.ensures.bounded; some = λ some missing small. absurd (omega (arith, missing, count_both points)) })
+
+pub returns-in_err-recovered-clause-refused : goal.returns-in_err-recovered-clause-refused
+returns-in_err-recovered-clause-refused g c = on-err c.from_residual-in_err-recovered.result (
+    let points = c.args.points.now in
+    let filled = c.count_non_vanishing-filled.ensures in
+    let size = c.size_of.ensures in
+    record {
+      none_or_all = λ h. elim h [
+        | inl none ↦ absurd (omega (arith, none))
+        | inr all ↦ absurd (omega (arith, all, count_both points))
+      ];
+      some = λ some missing small. c.in_err-recovered.ensures.refused small;
+    })
+
+pub returns-in_err-recovered-clause-unbegun : goal.returns-in_err-recovered-clause-unbegun
+returns-in_err-recovered-clause-unbegun g c never h =
+    let points = c.args.points.now in
+    let filled = c.count_non_vanishing-filled.ensures in
+    let size = c.size_of.ensures in
+    elim h [
+      | inl none ↦ absurd (omega (arith, none))
+      | inr all ↦ absurd (omega (arith, all, count_both points))
+    ]

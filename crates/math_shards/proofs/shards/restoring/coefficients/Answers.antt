@@ -4,7 +4,7 @@ use Rattle.std.specs.List.{All}
 use Rattle.math_base.specs.declared.fields.goldilocks.F.{F}
 use Rattle.math_transforms.specs.DomainValues.{matrix_of}
 use Rattle.math_shards.specs.Fitting.{HasValuesOf}
-use Rattle.math_cosets.specs.Restored.{HaveCellsAsValues}
+use Rattle.math_restoring.specs.Restored.{HaveCellsAsValues}
 use Rattle.math_shards.proofs.ChosenRows.{below-kept, chosen_among, chosen_count}
 use Rattle.math_shards.proofs.JoinedShards.{domain_is_small}
 use Rattle.math_shards.proofs.PutCoefficients.{written-back}

@@ -2,7 +2,7 @@ use Rattle.std.proofs.Common.{◌≤◌, ◌^◌, ℕ, List, subst, arith}
 use Rattle.std.specs.Int.{IsNextPowerOfTwo}
 use Rattle.std.specs.List.{All}
 use Rattle.math_transforms.proofs.PresentIndices.{lg-only}
-use Rattle.math_cosets.specs.Restored.{HaveCellsAsValues}
+use Rattle.math_restoring.specs.Restored.{HaveCellsAsValues}
 use Rattle.math_shards.proofs.CosetSizes.{least_lg}
 use Rattle.math_shards.proofs.JoinedShards.{domain_is_small}
 use Rattle.math_shards.proofs.shards.restoring.put_coefficients.Goals as goal

@@ -1,6 +1,6 @@
 use Rattle.std.proofs.Common.{◌≡◌, ◌∙◌, ◌+◌, ◌<◌, ◌^◌, false, length, get_or, refl, sym, ap, true≢false, arith}
 use Rattle.math_theory.specs.Recovery.{count_true}
-use Rattle.math_cosets.proofs.FilledPoints.{count_true-none, count_true-set}
+use Rattle.math_restoring.proofs.FilledPoints.{count_true-none, count_true-set}
 use Rattle.math_shards.proofs.GatheredShards.{holds_none, holds_more, holds_all}
 use Rattle.math_shards.proofs.UnitShards.{index-new}
 use Rattle.math_shards.proofs.shards.weighing.filled_rows.Goals as goal

@@ -1,12 +1,15 @@
-use Rattle.std.proofs.Common.{◌≡◌, ◌∙◌, ℕ, ◌+◌, ◌*◌, ◌^◌, ◌++◌, length, take, drop, ap, sym, subst}
+use Rattle.std.proofs.Common.{◌≡◌, ◌∙◌, ℕ, ◌+◌, ◌*◌, ◌/◌, ◌^◌, ◌++◌, ◌⊎◌, IsTrue, length, take, drop, ap, sym, subst}
+use Rattle.math_theory.specs.Recovery.{count_true}
+use Rattle.math_transforms.specs.MissingPoints.{count_false}
 use Rattle.math_base.proofs.WholeWrites.{take-written}
 use Rattle.math_transforms.specs.Matrices.{MatrixOf}
 use Rattle.math_ntt.specs.Evaluations.{EvaluationsOf}
 use Rattle.math_transforms.specs.DomainValues.{matrix_of}
-use Rattle.math_ntt.specs.RecoveredRows.{AreOnlyRecovered, IsExactWork}
-use Rattle.math_transforms.specs.CountedWork.{AddsWithin}
+use Rattle.math_ntt.specs.RecoveredRows.{AreOnlyRecovered, IsExactWork, IsRefusedWork}
+use Rattle.math_ntt.specs.AddedWork.{AddsUpTo}
 use Rattle.math_base.proofs.Members.{ring_members}
-use Rattle.math_ntt.proofs.RecoveredWholes.{evaluations, most-at_any, exact-at_any, only-recovered}
+use Rattle.math_ntt.proofs.RecoveredWholes.{evaluations, most-at_any, at_any, only-recovered}
+use Rattle.math_ntt.proofs.AddedWork.{on-err}
 use Rattle.math_ntt.proofs.ntt.evaluations.EvaluationVector.recover_counted.Goals as goal
 
 pub returns-in_err-recovered_cells-clause-most : goal.returns-in_err-recovered_cells-clause-most
@@ -15,7 +18,7 @@ returns-in_err-recovered_cells-clause-most g c =
     let self_is : evaluations inner.rows inner.cols inner.cells.items c.self.inside.filled ≡ c.args.self =
     ap (λ m. record { matrix = m; filled = c.self.inside.filled }) c.matrix.view_is ∙ c.self.view_is in
     subst (λ (e : EvaluationsOf g.row.F.Denot). (m : ℕ) → e.matrix.rows ≡ 2 ^ m
-    → AddsWithin (e.matrix.rows * m * (3 * m + 3 * e.matrix.cols + 2)) (128 * e.matrix.rows) c.args.work.now c.recovered_cells.new.work)
+    → AddsUpTo (e.matrix.rows * m * (3 * m + 3 * e.matrix.cols + 2) / 2) (128 * e.matrix.rows) c.args.work.now c.recovered_cells.new.work)
     self_is (most-at_any inner.rows inner.cols c.lg_of-lg.result _ _ c.lg_of-lg.ensures.value c.in_err-recovered_cells.ensures.most)
 
 pub returns-clause-most : goal.returns-clause-most
@@ -24,7 +27,7 @@ returns-clause-most g c =
     let self_is : evaluations inner.rows inner.cols inner.cells.items c.self.inside.filled ≡ c.args.self =
     ap (λ m. record { matrix = m; filled = c.self.inside.filled }) c.matrix.view_is ∙ c.self.view_is in
     subst (λ (e : EvaluationsOf g.row.F.Denot). (m : ℕ) → e.matrix.rows ≡ 2 ^ m
-    → AddsWithin (e.matrix.rows * m * (3 * m + 3 * e.matrix.cols + 2)) (128 * e.matrix.rows) c.args.work.now c.recovered_cells.new.work)
+    → AddsUpTo (e.matrix.rows * m * (3 * m + 3 * e.matrix.cols + 2) / 2) (128 * e.matrix.rows) c.args.work.now c.recovered_cells.new.work)
     self_is (most-at_any inner.rows inner.cols c.lg_of-lg.result _ _ c.lg_of-lg.ensures.value c.in_ok-recovered_cells.ensures.most)
 
 pub returns-clause-exact : goal.returns-clause-exact
@@ -33,8 +36,22 @@ returns-clause-exact g c =
     let self_is : evaluations inner.rows inner.cols inner.cells.items c.self.inside.filled ≡ c.args.self =
     ap (λ m. record { matrix = m; filled = c.self.inside.filled }) c.matrix.view_is ∙ c.self.view_is in
     subst (λ (e : EvaluationsOf g.row.F.Denot). (m : ℕ) → e.matrix.rows ≡ 2 ^ m → IsExactWork m e c.args.work.now c.recovered_cells.new.work)
-    self_is (exact-at_any inner.rows inner.cols c.lg_of-lg.result inner.cells.items c.self.inside.filled _ _ c.lg_of-lg.ensures.value
+    self_is (at_any (λ m e. IsExactWork m e c.args.work.now c.recovered_cells.new.work) inner.rows inner.cols c.lg_of-lg.result inner.cells.items c.self.inside.filled c.lg_of-lg.ensures.value
     (rw c.deref_mut.ensures.value at c.in_ok-recovered_cells.ensures.exact))
+
+pub returns-in_err-recovered_cells-clause-refused : goal.returns-in_err-recovered_cells-clause-refused
+returns-in_err-recovered_cells-clause-refused g c = on-err c.from_residual.result (
+    let inner = c.matrix.inside in
+    let self_is : evaluations inner.rows inner.cols inner.cells.items c.self.inside.filled ≡ c.args.self =
+    ap (λ m. record { matrix = m; filled = c.self.inside.filled }) c.matrix.view_is ∙ c.self.view_is in
+    subst (λ (e : EvaluationsOf g.row.F.Denot). (m : ℕ) → e.matrix.rows ≡ 2 ^ m → IsRefusedWork m e c.args.work.now c.recovered_cells.new.work)
+    self_is (at_any (λ m e. IsRefusedWork m e c.args.work.now c.recovered_cells.new.work) inner.rows inner.cols c.lg_of-lg.result inner.cells.items c.self.inside.filled c.lg_of-lg.ensures.value
+    (rw c.deref_mut.ensures.value at c.in_err-recovered_cells.ensures.refused)))
+
+pub returns-in_err-recovered_cells-clause-unbegun : goal.returns-in_err-recovered_cells-clause-unbegun
+returns-in_err-recovered_cells-clause-unbegun g c never h = on-err c.from_residual.result
+    (subst (λ (e : EvaluationsOf g.row.F.Denot). IsTrue g.F.Object.NEVER_REFUSES → (count_true e.filled ≡ 0) ⊎ (count_false e.filled ≡ 0) → c.recovered_cells.new.work ≡ c.args.work.now)
+    c.self.view_is c.in_err-recovered_cells.ensures.unbegun never h)
 
 pub returns-clause-only : goal.returns-clause-only
 returns-clause-only g c =

@@ -1,21 +1,17 @@
-use Rattle.std.proofs.Common.{◌≡◌, ◌∙◌, ◌+◌, ◌*◌, ◌^◌, ◌++◌, ℕ, length, take, drop, refl, ap, subst}
+use Rattle.std.proofs.Common.{◌≡◌, ◌∙◌, ◌+◌, ◌*◌, ◌/◌, ◌^◌, ◌++◌, ℕ, length, take, drop, refl, ap, subst}
 use Rattle.math_base.proofs.Members.{ring_members}
-use Rattle.math_transforms.specs.CountedWork.{AddsAtMost}
+use Rattle.math_ntt.specs.AddedWork.{AddsUpTo}
 use Rattle.math_transforms.specs.DomainValues.{matrix_of, AreValuesOnDomain}
 use Rattle.math_transforms.specs.Matrices.{MatrixOf}
 use Rattle.math_base.proofs.WholeWrites.{take-written}
+use Rattle.math_ntt.proofs.AddedWork.{adds-half}
 use Rattle.math_transforms.proofs.OnDomain.{count-on_domain, values-on_domain}
 use Rattle.math_ntt.proofs.ntt.polynomials.PolynomialVector.evaluate_counted.Goals as goal
 
 pub returns-in_err-evaluate_rows-clause-bounded : goal.returns-in_err-evaluate_rows-clause-bounded
 returns-in_err-evaluate_rows-clause-bounded g c = λ lg h.
-    subst (λ (n : ℕ). AddsAtMost n c.args.work.now c.evaluate_rows.new.work) (count-on_domain _ c.args.self (c.matrix.view_is ∙ c.self.view_is) c.lg_of-lg.result lg c.lg_of-lg.ensures.value h)
-    c.in_err-evaluate_rows.ensures.bounded
-
-pub returns-in_err-filled-clause-bounded : goal.returns-in_err-filled-clause-bounded
-returns-in_err-filled-clause-bounded g c = λ lg h.
-    subst (λ (n : ℕ). AddsAtMost n c.args.work.now c.evaluate_rows.new.work) (count-on_domain _ c.args.self (c.matrix.view_is ∙ c.self.view_is) c.lg_of-lg.result lg c.lg_of-lg.ensures.value h)
-    c.in_ok-evaluate_rows.ensures.bounded
+    subst (λ (n : ℕ). AddsUpTo (n / 2) 0 c.args.work.now c.evaluate_rows.new.work) (count-on_domain _ c.args.self (c.matrix.view_is ∙ c.self.view_is) c.lg_of-lg.result lg c.lg_of-lg.ensures.value h)
+    (adds-half _ _ _ c.in_err-evaluate_rows.ensures.bounded)
 
 pub returns-clause-counted : goal.returns-clause-counted
 returns-clause-counted g c = λ lg h.
@@ -24,8 +20,8 @@ returns-clause-counted g c = λ lg h.
 
 pub returns-clause-bounded : goal.returns-clause-bounded
 returns-clause-bounded g c = λ lg h.
-    subst (λ (n : ℕ). AddsAtMost n c.args.work.now c.evaluate_rows.new.work) (count-on_domain _ c.args.self (c.matrix.view_is ∙ c.self.view_is) c.lg_of-lg.result lg c.lg_of-lg.ensures.value h)
-    c.in_ok-evaluate_rows.ensures.bounded
+    subst (λ (n : ℕ). AddsUpTo (n / 2) 0 c.args.work.now c.evaluate_rows.new.work) (count-on_domain _ c.args.self (c.matrix.view_is ∙ c.self.view_is) c.lg_of-lg.result lg c.lg_of-lg.ensures.value h)
+    (adds-half _ _ _ c.in_ok-evaluate_rows.ensures.bounded)
 
 pub returns-clause-values : goal.returns-clause-values
 returns-clause-values g c =

@@ -1,0 +1,41 @@
+use Rattle.c_calls.proofs.weights.write_weights_at_roots.Goals as goal
+use Rattle.std.proofs.Common.{◌≡◌, ◌∙◌, ◌-◌, length, ap, sym, subst, arith}
+use Rattle.std.specs.Int.Count.{count_leading_zeros}
+use Rattle.std.specs.Map.{keys_of}
+use Rattle.std.proofs.lemmas.List.{length-map}
+use Rattle.math_codec.proofs.ItemsSoFar.{vec_items}
+use Rattle.math_base.specs.Elements.{residue}
+use Rattle.math_base.proofs.ElementNumbers.{same_number}
+use Rattle.math_transforms.specs.RootWeights.{AreIndicesBelow}
+use Rattle.math_transforms.proofs.PresentIndices.{lg-only, lg-of_total}
+use Rattle.c_calls.specs.WordElements.{numbers}
+use Rattle.c_calls.proofs.RisingIndices.{indices-given}
+use Rattle.c_calls.proofs.WordWeights.{root_weight_words}
+
+pub lagrange_coefficients_at-requires-clause-domain : goal.lagrange_coefficients_at-requires-clause-domain
+lagrange_coefficients_at-requires-clause-domain c = λ lg h.
+    let n = c.args.total.value in
+    let found : lg ≡ 32 - count_leading_zeros 32 (n - 1) = lg-only n lg (32 - count_leading_zeros 32 (n - 1)) (omega arith) h (lg-of_total n (omega arith) (omega arith)) in
+    omega (arith, found)
+
+pub write_numbers-requires : goal.write_numbers-requires
+write_numbers-requires c =
+    let pairs = c.in_ok-found.found.items in
+    let q = c.in_ok-found.ensures.indices in
+    let copies : q.1 ≡ c.args.indices.now = vec_items q.0 q.1 c.in_ok-copied.field-0.items q.3 q.2.0 (q.2.1 ∙ c.in_ok-copied.field-0.ok.0) ∙ c.in_ok-copied.ensures in
+    let h : AreIndicesBelow c.args.total.value c.args.indices.now (keys_of pairs) = subst (λ xs. AreIndicesBelow c.args.total.value xs (keys_of pairs)) copies q.4 in
+    let keys : keys_of pairs ≡ c.args.indices.now = indices-given c.args.total.value c.args.indices.now (keys_of pairs) c.requires.rising h in
+    let many : length c.deref.result.now ≡ length c.args.indices.now =
+    ap length (c.deref.ensures.value ∙ c.in_ok-found-2.ensures) ∙ length-map pairs (λ p. p.1) ∙ sym (length-map pairs (λ p. p.0)) ∙ ap length keys in
+    c.requires.count ∙ sym many
+
+pub returns-clause-ok : goal.returns-clause-ok
+returns-clause-ok c =
+    let pairs = c.in_ok-found.found.items in
+    let q = c.in_ok-found.ensures.indices in
+    let copies : q.1 ≡ c.args.indices.now = vec_items q.0 q.1 c.in_ok-copied.field-0.items q.3 q.2.0 (q.2.1 ∙ c.in_ok-copied.field-0.ok.0) ∙ c.in_ok-copied.ensures in
+    let h : AreIndicesBelow c.args.total.value c.args.indices.now (keys_of pairs) = subst (λ xs. AreIndicesBelow c.args.total.value xs (keys_of pairs)) copies q.4 in
+    let keys : keys_of pairs ≡ c.args.indices.now = indices-given c.args.total.value c.args.indices.now (keys_of pairs) c.requires.rising h in
+    let point : c.from.result ≡ residue c.args.x = same_number c.from.result (residue c.args.x) c.from.ensures in
+    root_weight_words c.args.x c.args.total.value c.args.indices.now c.write_numbers.new.words c.from.result pairs
+    c.requires.x_below c.requires.rising point keys (c.write_numbers.ensures ∙ ap numbers (c.deref.ensures.value ∙ c.in_ok-found-2.ensures)) c.in_ok-found.ensures.weights

@@ -1,4 +1,0 @@
-pub mod CosetDivisions
-pub mod Quarters
-pub mod Restored
-pub mod RootTrees

@@ -1,0 +1,52 @@
+-- Elements of the Goldilocks field, of which same ones are one, as a commutative ring and a field with plain equations.
+use Rattle.std.proofs.Common.{◌≡◌, ◌∙◌, inl, inr, ◌-◌, ◌%◌, List, sym, ap, mod-eq_of_lt}
+use Rattle.std.specs.List.{AllZip}
+use Rattle.std.proofs.lemmas.List.Elements.{same_from_all_zip}
+use mathlib.Core.HLevel.{Discrete, hedberg}
+use Rattle.std.proofs.lemmas.Bool.{cases_eq}
+use Rattle.math_theory.specs.Rings.{CommutativeRing, Field}
+use Rattle.math_base.specs.declared.fields.goldilocks.F.{F}
+use Rattle.math_base.specs.ElementLaws.{group, commutes, ring}
+use Rattle.math_base.specs.ElementRootLaws.{field}
+use Rattle.math_base.specs.Elements.{inverse, number, residue, same, sum, negative, product}
+use Rattle.math_base.proofs.ElementNumbers.{same_number}
+
+-- two elements are one or not
+pub elements_discrete : Discrete F
+elements_discrete a b = elim (cases_eq (number a) (number b)) [ inl e ↦ yes (same_number a b e) | inr n ↦ no (λ p. n (ap number p)) ]
+
+-- so they are a set
+pub elements_set : IsSet F
+elements_set = hedberg elements_discrete
+
+-- they are a commutative ring
+abbrev pub elements : CommutativeRing F
+elements = record {
+  is_set = elements_set;
+  zero = residue 0;
+  sum = sum;
+  negative = negative;
+  product = product;
+  one = residue 1;
+  sum_comm = λ a b. same_number _ _ (group.commutative a b);
+  sum_assoc = λ a b c. same_number _ _ (group.associative a b c);
+  sum_zero = λ a. same_number _ _ (group.identity a);
+  sum_negative = λ a. same_number _ _ (group.inverse a);
+  product_comm = λ a b. same_number _ _ (commutes.commutative a b);
+  product_assoc = λ a b c. same_number _ _ (commutes.associative a b c);
+  product_one = λ a. same_number _ _ (ring.identity a);
+  distributive = λ a b c. same_number _ _ (ring.distributive a b c);
+}
+
+-- and as a field
+abbrev pub element_field : Field F
+element_field = record {
+  ring = elements;
+  inverse = inverse;
+  one_apart = λ e. field.distinct (ap number e);
+  product_inverse = λ a n. same_number _ _ (field.inverts a (λ e. n (same_number _ _ e)));
+}
+
+-- lists of elements that are same place by place are equal
+pub same_are_equal : (xs ys : List F) → AllZip same xs ys → xs ≡ ys
+same_are_equal xs ys h = sym (same_from_all_zip same xs ys h (λ x y e. same_number y x (sym e)))

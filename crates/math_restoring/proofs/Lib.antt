@@ -1,0 +1,12 @@
+pub mod BlockColumns
+pub mod CombinedColumns
+pub mod CosetPowers
+pub mod DividedColumns
+pub mod ElementRing
+pub mod FilledPoints
+pub mod MadeDivisions
+pub mod PlacedRows
+pub mod PointsOfTrees
+pub mod RaisedElements
+pub mod RestoredColumns
+pub mod SummedHalves

@@ -1,0 +1,2 @@
+pub mod CosetDivisions
+pub mod Restored
