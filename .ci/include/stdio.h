@@ -5,6 +5,7 @@
 extern "C" {
 #endif
 int printf(const char *format, ...);
+int snprintf(char *text, size_t size, const char *format, ...);
 int puts(const char *text);
 #ifdef __cplusplus
 }
