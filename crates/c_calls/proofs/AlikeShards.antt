@@ -11,7 +11,7 @@ use Rattle.std.proofs.lemmas.List.Elements.{All-cons, All-head, All-tail}
 use Rattle.math_base.specs.Elements.{number, residue, same}
 use Rattle.math_transforms.specs.Matrices.{column_of}
 use Rattle.math_shards.specs.declared.shards.Shard.{Shard}
-use Rattle.math_shards.specs.Shards.{IsShardOf, JoinTo, distinct_indices, has_index, rows_for, value_at}
+use Rattle.math_shards.specs.Shards.{IsShardOf, JoinTo, distinct_indices, has_index, rows_for, value_at_index}
 use Rattle.math_shards.specs.declared.shards.Error.{Error}
 use Rattle.math_shards.specs.declared.shards.Error.TheVariants.{Memory, TooFew, Mismatch, Index, Conflict, Inconsistent}
 use Rattle.math_shards.specs.Correcting.{AreCorrected, CorrectTo, HasNumbersOf, are_same, is_settled, settled, settled_indices}
@@ -42,8 +42,8 @@ shard_alike words min total s t a h = record {
   count = ap length (sym a.cells) ∙ h.count;
   values = λ lg k domain b.
       let column = column_of (residue 0) (rows_for min words) k in
-      subst (λ i. same (get_or t.cells.items k (residue 0)) (value_at lg column i)) a.index
-      (subst (λ xs. same (get_or xs k (residue 0)) (value_at lg column s.index)) a.cells (h.values lg k domain b));
+      subst (λ i. same (get_or t.cells.items k (residue 0)) (value_at_index lg column i)) a.index
+      (subst (λ xs. same (get_or xs k (residue 0)) (value_at_index lg column s.index)) a.cells (h.values lg k domain b));
 }
 
 each_alike : (words : List ℕ) (min total : ℕ) (xs ys : List Shard) → AllZip AreAlike xs ys → All (IsShardOf words min total) xs → All (IsShardOf words min total) ys

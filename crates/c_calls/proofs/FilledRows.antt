@@ -12,7 +12,7 @@ use Rattle.math_base.specs.Elements.{residue, root_of}
 use Rattle.math_base.specs.Polynomials.{value_in_ring}
 use Rattle.math_transforms.specs.DomainValues.{matrix_of}
 use Rattle.math_transforms.specs.Matrices.{MatrixOf, IsOfSize, cell_of, column_of}
-use Rattle.math_ntt.specs.CorrectedRows.{Agrees, AreWithinRadius, IsCorrected}
+use Rattle.math_ntt.specs.CorrectedRows.{AgreesAtRow, AreWithinRadius, IsCorrected}
 use Rattle.math_ntt.specs.Evaluations.{EvaluationsOf}
 use Rattle.math_ntt.specs.RecoveredRows.{AreRecovered, AreOnlyRecovered}
 use Rattle.math_ntt.proofs.MarkedRows.{inside-true}
@@ -95,7 +95,7 @@ recovered_filled cols old bytes new e q shape marks below agree size fits only w
 
 -- a value that agrees with a filled cell of the one agrees with that of the other
 agrees_there : (e f : EvaluationsOf F) → AgreeWhereFilled e f → (w : F) (i k : ℕ) (p : List F) → k < e.matrix.cols → get_or e.filled i false ≡ true
-    → Agrees goldilocks w e.matrix i k p → Agrees goldilocks w f.matrix i k p
+    → AgreesAtRow goldilocks w e.matrix i k p → AgreesAtRow goldilocks w f.matrix i k p
 agrees_there e f h w i k p l is a =
     let v : F = value_in_ring goldilocks p (power goldilocks.one goldilocks.product w i) in
     subst (λ (x : F). goldilocks.same v x) (h.cells i k l is) a

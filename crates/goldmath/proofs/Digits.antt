@@ -3,7 +3,7 @@ use Rattle.std.proofs.Common.{All, rules}
 use Rattle.std.specs.Char.{IsAsciiDigit}
 use Rattle.std.proofs.lemmas.List.Elements.{All-nil, All-cons, All-head, All-tail}
 use Rattle.std.proofs.lemmas.Str.Parse.{IsNumeralModel, IsDigitsTest, WeighsDigits, numerals_by_weight}
-use Rattle.goldmath.specs.Numerals.{number_of}
+use Rattle.goldmath.specs.Numerals.{number_of_digits}
 
 -- the texts whose bytes are each a digit are the texts of digits
 tells_digits : IsDigitsTest (All IsAsciiDigit)
@@ -14,9 +14,9 @@ tells_digits = record {
 }
 
 -- the number gives each digit the weight of its place
-weighs_digits : WeighsDigits number_of
+weighs_digits : WeighsDigits number_of_digits
 weighs_digits = search rules
 
 -- the digits and the number of the specs are those that `parse` reads
-pub numerals : IsNumeralModel (All IsAsciiDigit) number_of
-numerals = numerals_by_weight _ tells_digits number_of weighs_digits
+pub numerals : IsNumeralModel (All IsAsciiDigit) number_of_digits
+numerals = numerals_by_weight _ tells_digits number_of_digits weighs_digits

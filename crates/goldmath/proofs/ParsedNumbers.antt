@@ -3,7 +3,7 @@ use Rattle.std.proofs.Common.{◌≡◌, ℕ, ◌^◌, ◌<◌, ◌≤◌, List,
 use Rattle.std.specs.Char.{IsAsciiDigit}
 use Rattle.std.specs.Str.Parse.{ParsesUnsigned}
 use Rattle.std.proofs.lemmas.Str.Parse.{parse_digits, parse_gives}
-use Rattle.goldmath.specs.Numerals.{number_of, WritesNumber}
+use Rattle.goldmath.specs.Numerals.{number_of_digits, WritesNumber}
 use Rattle.goldmath.proofs.Digits.{numerals}
 
 -- of at most 20 digits, `parse` gives the number that they write
@@ -17,6 +17,6 @@ WritesNumber-from_parse {E} text r x parses ok digits short =
 pub parse-WritesNumber : {E : Type 0} (text : List ℕ) (r : Result ℕ E) (x : ℕ) → ParsesUnsigned 64 10 text r → WritesNumber text x → x < 2 ^ 64 → r ≡ Ok x
 parse-WritesNumber text r x parses w small =
     let value = w.value in
-    let bounded : number_of text < 2 ^ 64 = omega arith in
+    let bounded : number_of_digits text < 2 ^ 64 = omega arith in
     let read = parse_gives numerals 64 text r parses w.digits w.not_empty bounded in
     cc

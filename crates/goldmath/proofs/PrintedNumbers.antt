@@ -2,7 +2,7 @@
 use Rattle.std.proofs.Common.{◌≡◌, ℕ, zero, suc, ◌^◌, ◌<◌, List, [], ◌∷◌, length, get_or, refl, ap, arith}
 use Rattle.std.specs.Fmt.{decimal}
 use Rattle.std.proofs.lemmas.Fmt.{digits_decimal, digits_value-decimal, decimal_nonempty, length-decimal-le, first_decimal, decimal_digit, decimal-digits_value}
-use Rattle.goldmath.specs.Numerals.{number_of}
+use Rattle.goldmath.specs.Numerals.{number_of_digits}
 use Rattle.goldmath.specs.PrintedNumbers.{HasNoLeadingZero, PrintedNumbersReadBack, PrintedNumbersHaveNoLeadingZero, NumbersArePrintedInOneWay}
 use Rattle.goldmath.proofs.Digits.{numerals}
 
@@ -28,6 +28,6 @@ length_one-from_leading_zero (digit ∷ after) first begins = let e : after ≡ 
 pub numbers_are_printed_in_one_way : NumbersArePrintedInOneWay
 numbers_are_printed_in_one_way n text small w first =
     let value = w.value in
-    let bounded : number_of text < 2 ^ 64 = omega arith in
-    let printed : decimal (number_of text) ≡ text = decimal-digits_value numerals text w.digits w.not_empty (length_one-from_leading_zero text first) bounded in
+    let bounded : number_of_digits text < 2 ^ 64 = omega arith in
+    let printed : decimal (number_of_digits text) ≡ text = decimal-digits_value numerals text w.digits w.not_empty (length_one-from_leading_zero text first) bounded in
     cc

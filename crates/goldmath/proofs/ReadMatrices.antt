@@ -13,7 +13,7 @@ use Rattle.math_base.specs.declared.fields.goldilocks.F.{F}
 use Rattle.math_base.specs.Elements.{number, residue, same}
 use Rattle.math_base.specs.ElementEncoding.{scan_element}
 use Rattle.math_base.specs.ElementEncodingLaws.{element_again, element_apart}
-use Rattle.math_transforms.specs.Matrices.{MatrixOf, AreSame}
+use Rattle.math_transforms.specs.Matrices.{MatrixOf, AreSameMatrices}
 use Rattle.math_ntt.specs.MatrixEncoding.{AdmitsMatrix, scan_count, scan_matrix}
 use Rattle.math_ntt.specs.MatrixEncodingLaws.{count_again, matrix_again, matrix_apart}
 use Rattle.goldmath.specs.Recoveries.{most_cells, spelling_of, IsEncodedMatrix, HasSize, IsRecovered, EncodesRecovered, scan_size, scan_rows}
@@ -65,7 +65,7 @@ scan_rows-encoded lg words bytes m h size =
         rw read refl
 
 -- bytes encode one matrix, up to the field's equality
-one_encoded : (bytes : List ℕ) (m n : MatrixOf F) → IsEncodedMatrix bytes m → IsEncodedMatrix bytes n → AreSame same m n
+one_encoded : (bytes : List ℕ) (m n : MatrixOf F) → IsEncodedMatrix bytes m → IsEncodedMatrix bytes n → AreSameMatrices same m n
 one_encoded bytes m n h k =
     (matrix_apart (λ a. to_be_bytes w64 (number a)) (λ a. number a < P) same (λ a b x y l r e. element_apart (number a) (number b) x y l r e) most_cells m n [] []
     (admitted bytes m h) (admitted bytes n k) (ap (λ xs. xs ++ []) (sym h.spelled ∙ k.spelled))).0
@@ -77,14 +77,14 @@ same_at (x ∷ xs) [] i h = elim h [ ]
 same_at (x ∷ xs) (y ∷ ys) zero h = h.0
 same_at (x ∷ xs) (y ∷ ys) (suc i) h = same_at xs ys i h.1
 
-recovered_of_same : (lg : ℕ) (rows : List ℕ) (m n q : MatrixOf F) → AreSame same m n → IsRecovered lg rows m q → IsRecovered lg rows n q
+recovered_of_same : (lg : ℕ) (rows : List ℕ) (m n q : MatrixOf F) → AreSameMatrices same m n → IsRecovered lg rows m q → IsRecovered lg rows n q
 recovered_of_same lg rows m n q e h = record {
   size = (h.size.0, h.size.1 ∙ e.1, h.size.2 ∙ ap (λ c. 2 ^ lg * c) e.1);
   agrees = λ i k l t. h.agrees i k l (omega (arith, e.1)) ∙ same_at m.cells n.cells (i * m.cols + k) e.2 ∙ ap (λ c. (get_or n.cells (i * c + k) (residue 0)).value) e.1;
   zero_from = λ i k l b t. h.zero_from i k l b (omega (arith, e.1));
 }
 
-back : (m n : MatrixOf F) → AreSame same m n → AreSame same n m
+back : (m n : MatrixOf F) → AreSameMatrices same m n → AreSameMatrices same n m
 back m n e = (sym e.0, sym e.1, turned m.cells n.cells e.2)
   where
     turned : (xs ys : List F) → AllZip same xs ys → AllZip same ys xs
@@ -106,7 +106,7 @@ pub answered : {X : Type 0} (items : X → List ℕ) (lg : ℕ) (rows : List ℕ
     → IfOk result (λ out. (m : MatrixOf F) × IsEncodedMatrix bytes m × EncodesRecovered lg rows m (items out)) → Agrees (λ _. tt) result (scan_rows lg (length rows) bytes)
     → (m : MatrixOf F) → IsEncodedMatrix bytes m → HasSize lg (length rows) m → MatchResult result (λ out. EncodesRecovered lg rows m (items out)) IsMemory
 answered items lg rows bytes (Ok out) h exact m k size =
-    let e : AreSame same h.0 m = one_encoded bytes h.0 m h.1 k in
+    let e : AreSameMatrices same h.0 m = one_encoded bytes h.0 m h.1 k in
     let answer = h.2 in
     (answer.0, recovered_of_same lg rows h.0 m answer.0 e answer.1, (λ p r. answer.2 p (recovered_of_same lg rows m h.0 p (back h.0 m e) r)), answer.3)
 answered items lg rows bytes (Err e) h exact m k size = only_memory (fault_of e) (rw (scan_rows-encoded lg (length rows) bytes m k size) at exact)

@@ -7,7 +7,7 @@ use Rattle.std.specs.List.{AllZip}
 use Rattle.math_theory.specs.Recovery.{Fits}
 use Rattle.math_base.specs.declared.fields.goldilocks.F.{F}
 use Rattle.math_base.specs.Elements.{residue, same, sum, product, root_of}
-use Rattle.math_transforms.specs.Matrices.{MatrixOf, IsOfSize, AreSame, cell_of, column_of}
+use Rattle.math_transforms.specs.Matrices.{MatrixOf, IsOfSize, AreSameMatrices, cell_of, column_of}
 use Rattle.math_ntt.specs.Evaluations.{EvaluationsOf}
 use Rattle.math_ntt.proofs.MatrixPlaces.{columns_are_full, columns_hold_cells}
 use Rattle.goldmath.specs.Recoveries.{HoldsRows, IsRecovered, EncodesRecovered, spelling_of, value_at}
@@ -27,7 +27,7 @@ same_by_places (x ∷ xs) [] e h = absurd (omega (arith, e))
 same_by_places (x ∷ xs) (y ∷ ys) e h = (h 0 (omega arith), same_by_places xs ys (omega (arith, e)) (λ i l. h (suc i) (omega arith)))
 
 -- matrices of one size with the same cells by row and column
-same_by_cells : (p q : MatrixOf F) (r c : ℕ) → IsOfSize p r c → IsOfSize q r c → ((i k : ℕ) → i < r → k < c → same (cell_of nought p i k) (cell_of nought q i k)) → AreSame same p q
+same_by_cells : (p q : MatrixOf F) (r c : ℕ) → IsOfSize p r c → IsOfSize q r c → ((i k : ℕ) → i < r → k < c → same (cell_of nought p i k) (cell_of nought q i k)) → AreSameMatrices same p q
 same_by_cells p q r zero h k cells = (h.0 ∙ sym k.0, h.1 ∙ sym k.1, same_by_places p.cells q.cells (h.2 ∙ sym k.2) (λ n l. absurd (omega (arith, h.2, mul-zero r))))
 same_by_cells p q r (suc c) h k cells = (h.0 ∙ sym k.0, h.1 ∙ sym k.1, same_by_places p.cells q.cells (h.2 ∙ sym k.2) at)
   where
@@ -77,7 +77,7 @@ columns_of_recovered lg rows m v p h r k t = record {
 -- where each column is the only one that fits, the matrix is the only one that is recovered
 only_by_columns : (lg : ℕ) (rows : List ℕ) (m : MatrixOf F) (v : EvaluationsOf F) (q : MatrixOf F) → HoldsRows lg rows m (length rows) v → IsOfSize q (2 ^ lg) m.cols
     → ((k : ℕ) → k < m.cols → (p : List F) → length p ≡ 2 ^ lg → FitsColumn lg v k p → (i : ℕ) → i < 2 ^ lg → same (get_or p i nought) (cell_of nought q i k))
-    → (p : MatrixOf F) → IsRecovered lg rows m p → AreSame same p q
+    → (p : MatrixOf F) → IsRecovered lg rows m p → AreSameMatrices same p q
 only_by_columns lg rows m v q h size only p r = same_by_cells p q (2 ^ lg) m.cols r.size size (λ i k l t.
     ap (λ x. x.value) (sym (columns_hold_cells p i k nought nought (omega (arith, r.size.0)) (omega (arith, r.size.1))))
     ∙ only k t (column_of nought p k) (columns_are_full p k nought ∙ r.size.0) (columns_of_recovered lg rows m v p h r k t) i l)

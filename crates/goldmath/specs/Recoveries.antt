@@ -9,7 +9,7 @@ use Rattle.math_codec.specs.Faults.{Fault, Invalid, scan_exactly, ◌>>=◌}
 use Rattle.math_base.specs.declared.fields.goldilocks.F.{F}
 use Rattle.math_base.specs.Elements.{number, residue, same, sum, product, root_of}
 use Rattle.math_base.specs.ElementEncoding.{scan_element}
-use Rattle.math_transforms.specs.Matrices.{MatrixOf, IsOfSize, AreSame, cell_of, column_of}
+use Rattle.math_transforms.specs.Matrices.{MatrixOf, IsOfSize, AreSameMatrices, cell_of, column_of}
 use Rattle.math_ntt.specs.Evaluations.{EvaluationsOf}
 use Rattle.math_ntt.specs.MatrixEncoding.{matrix_spelling, scan_count, scan_matrix}
 use Rattle.goldmath.specs.Numerals.{WritesNumber, WritesRow}
@@ -86,4 +86,4 @@ pub record IsRecovered (lg : ℕ) (rows : List ℕ) (m q : MatrixOf F) : Type 0 
 -- the bytes are the encoding of the one matrix that is recovered from m
 abbrev pub EncodesRecovered : ℕ → List ℕ → MatrixOf F → List ℕ → Type 0
 EncodesRecovered lg rows m bytes =
-    (q : MatrixOf F) × IsRecovered lg rows m q × ((p : MatrixOf F) → IsRecovered lg rows m p → AreSame same p q) × (bytes ≡ spelling_of q)
+    (q : MatrixOf F) × IsRecovered lg rows m q × ((p : MatrixOf F) → IsRecovered lg rows m p → AreSameMatrices same p q) × (bytes ≡ spelling_of q)

@@ -17,7 +17,7 @@ use Rattle.math_transforms.specs.Matrices.{MatrixOf, IsOfSize, column_of, cell_o
 use Rattle.math_transforms.proofs.MatrixRows.{length-column, cell-of_column}
 use Rattle.math_transforms.proofs.PresentIndices.{length-places}
 use Rattle.math_ntt.specs.Evaluations.{EvaluationsOf}
-use Rattle.math_ntt.specs.CorrectedRows.{Agrees, AreWithinRadius, IsCorrected}
+use Rattle.math_ntt.specs.CorrectedRows.{AgreesAtRow, AreWithinRadius, IsCorrected}
 use Rattle.math_ntt.specs.NarrowedRows.{IsNear, IsNarrowed}
 use Rattle.math_ntt.proofs.MarkedRows.{AreAmong, inside-true, count-among, among-back, contains-place, place-marked, rising-places, count-dropped, contains-filtered}
 use Rattle.math_ntt.proofs.NarrowedColumns.{near-once}
@@ -32,7 +32,7 @@ module _ {A : Type 0} (R : RingOf A) (w : A) (e : EvaluationsOf A) (count : ℕ)
     pub marks : length left ≡ length e.filled
     pub among : AreAmong left e.filled
     pub dropped : (i : ℕ) → get_or e.filled i false ≡ true → get_or left i false ≡ false
-        → (k : ℕ) × (k < e.matrix.cols) × ((a : ℕ → List A) → AreWithinRadius R w e count a → ¬ (Agrees R w e.matrix i k (a k)))
+        → (k : ℕ) × (k < e.matrix.cols) × ((a : ℕ → List A) → AreWithinRadius R w e count a → ¬ (AgreesAtRow R w e.matrix i k (a k)))
 
   pub dropped-begun : AreDropped e.filled
   dropped-begun = record {
@@ -68,7 +68,7 @@ module _ {A : Type 0} (R : RingOf A) (w : A) (e : EvaluationsOf A) (count : ℕ)
   none-few left d f a h = omega (arith, f, h.few, count-among h.right left (dropped-right left a d h))
 
   module _ (E : IsEquality R.same) (G : IsGroup R.same R.zero R.sum R.negative) (P : IsProduct R.same R.product) (L : IsRing R.same R.sum R.product R.one) where
-    agrees-same : (i k : ℕ) (p q : List A) → HaveSameCoefficients R.same R.zero p q → Agrees R w e.matrix i k q → Agrees R w e.matrix i k p
+    agrees-same : (i k : ℕ) (p q : List A) → HaveSameCoefficients R.same R.zero p q → AgreesAtRow R w e.matrix i k q → AgreesAtRow R w e.matrix i k p
     agrees-same i k p q h s = E.transitive _ _ _ (value-alike E G P L (power R.one R.product w i) p q h) s
 
     -- the rows in which a column differs from what is decoded are dropped too
@@ -99,7 +99,7 @@ module _ {A : Type 0} (R : RingOf A) (w : A) (e : EvaluationsOf A) (count : ℕ)
       column-long k = length-column R.zero e.matrix k ∙ many
 
       agrees-fitting : (left : List Bool) (v : MatrixOf A) (i k : ℕ) → AreAmong left e.filled → AreFitting left v → k < e.matrix.cols → get_or left i false ≡ true
-          → Agrees R w e.matrix i k (column_of R.zero v k)
+          → AgreesAtRow R w e.matrix i k (column_of R.zero v k)
       agrees-fitting left v i k among f l t =
           let inside : i < length (column_of R.zero e.matrix k) = omega (arith, inside-true e.filled i (among i t), long, column-long k) in
           rw (cell-in k i l) at ((f k l).agrees i inside t)

@@ -20,7 +20,7 @@ use Rattle.math_decoding.specs.Decodings.{IsDecoded, IsWithinRadius}
 use Rattle.math_transforms.specs.Matrices.{MatrixOf, cell_of}
 use Rattle.math_transforms.proofs.PresentIndices.{length-places, places-below}
 use Rattle.math_ntt.specs.Evaluations.{EvaluationsOf}
-use Rattle.math_ntt.specs.CorrectedRows.{Agrees}
+use Rattle.math_ntt.specs.CorrectedRows.{AgreesAtRow}
 use Rattle.math_ntt.specs.NarrowedRows.{IsNear, IsNarrowed}
 use Rattle.math_ntt.proofs.MarkedRows.{inside-true, count-not, count-marked_among, contains-place, place-marked, rising-places, items-at_places}
 
@@ -63,11 +63,11 @@ module _ {A : Type 0} (R : RingOf A) (E : IsEquality R.same) (G : IsGroup R.same
   }
 
   module _ (e : EvaluationsOf A) (k : ℕ) (xs vs : List A) (stand : StandFor e k xs vs) where
-    to-point : (j : ℕ) (p : List A) → j < length xs → Agrees R w e.matrix (row e j) k p → R.same (value_in_ring R p (get_or xs j R.zero)) (get_or vs j R.zero)
+    to-point : (j : ℕ) (p : List A) → j < length xs → AgreesAtRow R w e.matrix (row e j) k p → R.same (value_in_ring R p (get_or xs j R.zero)) (get_or vs j R.zero)
     to-point j p l h =
         E.transitive _ _ _ (value-at E G P L (get_or xs j R.zero) (at (row e j)) p (stand.point j l)) (E.transitive _ _ _ h (E.symmetric _ _ (stand.value j l)))
 
-    from-point : (j : ℕ) (p : List A) → j < length xs → R.same (value_in_ring R p (get_or xs j R.zero)) (get_or vs j R.zero) → Agrees R w e.matrix (row e j) k p
+    from-point : (j : ℕ) (p : List A) → j < length xs → R.same (value_in_ring R p (get_or xs j R.zero)) (get_or vs j R.zero) → AgreesAtRow R w e.matrix (row e j) k p
     from-point j p l h =
         E.transitive _ _ _ (value-at E G P L (at (row e j)) (get_or xs j R.zero) p (E.symmetric _ _ (stand.point j l))) (E.transitive _ _ _ h (stand.value j l))
 
@@ -123,7 +123,7 @@ module _ {A : Type 0} (R : RingOf A) (E : IsEquality R.same) (G : IsGroup R.same
       number = d.number;
       marks = long;
       among = λ i t. let (j, l, s, n) = (others i).0 t in subst (λ r. get_or e.filled r false ≡ true) s (place-marked e.filled j (omega (arith, l, filled)));
-      agree = λ i t. let (j, l, s, n) = (others i).0 t in subst (λ r. Agrees R w e.matrix r k p) s (from-point j p (omega (arith, l, many)) (d.places.agree j (omega (arith, l, many)) n));
+      agree = λ i t. let (j, l, s, n) = (others i).0 t in subst (λ r. AgreesAtRow R w e.matrix r k p) s (from-point j p (omega (arith, l, many)) (d.places.agree j (omega (arith, l, many)) n));
       differ = λ i t f h. apart i (contains-place e.filled i t) f h;
       only = λ q h. d.only q (near-within count q h);
     }
@@ -134,7 +134,7 @@ module _ {A : Type 0} (R : RingOf A) (E : IsEquality R.same) (G : IsGroup R.same
         many : length xs ≡ length (filled_places e.filled)
         many = stand.points ∙ sym filled
 
-        apart : (i : ℕ) → Contains (filled_places e.filled) i → get_or left i false ≡ false → Agrees R w e.matrix i k p → ⊥
+        apart : (i : ℕ) → Contains (filled_places e.filled) i → get_or left i false ≡ false → AgreesAtRow R w e.matrix i k p → ⊥
         apart i (j, l, s) f h =
             let at_row : row e j ≡ i = get_or_default (filled_places e.filled) j 0 i l ∙ s in
             let inside : j < length xs = omega (arith, l, many) in
@@ -142,7 +142,7 @@ module _ {A : Type 0} (R : RingOf A) (E : IsEquality R.same) (G : IsGroup R.same
               | inr n ↦ true≢false (sym ((others i).1 (j, l, at_row, n)) ∙ f)
               | inl (q, m, is) ↦
                   d.places.differ q 0 m
-                  (rw (get_or_default wrong q 0 j m ∙ is) (to-point j p inside (subst (λ r. Agrees R w e.matrix r k p) (sym at_row) h)))
+                  (rw (get_or_default wrong q 0 j m ∙ is) (to-point j p inside (subst (λ r. AgreesAtRow R w e.matrix r k p) (sym at_row) h)))
             ]
 
     pub narrowed-none : (count : ℕ) → ((p : List A) → ¬ (IsWithinRadius R xs vs count p)) → (p : List A) → ¬ (IsNear R w e k count p)

@@ -1,7 +1,7 @@
 -- Values at the points of a domain, a row a point, some of which are filled.
 use Rattle.std.specs.Prelude.{◌≡◌, ℕ, ◌+◌, ◌*◌, List, Bool, ◌++◌, length, take, drop, slice_set, true}
 use Rattle.std.specs.List.{AllZip}
-use Rattle.math_transforms.specs.Matrices.{MatrixOf, AreSame}
+use Rattle.math_transforms.specs.Matrices.{MatrixOf, AreSameMatrices}
 
 -- a matrix, and for each of its rows whether it is filled
 pub record EvaluationsOf (A : Type 0) : Type 0 where
@@ -19,4 +19,4 @@ IsFilledAt {A} same v i items w =
 
 -- both have the same matrix, and the same rows are filled
 abbrev pub AreSameEvaluations : {A : Type 0} → (A → A → Type 0) → EvaluationsOf A → EvaluationsOf A → Type 0
-AreSameEvaluations same v w = AreSame same v.matrix w.matrix × (v.filled ≡ w.filled)
+AreSameEvaluations same v w = AreSameMatrices same v.matrix w.matrix × (v.filled ≡ w.filled)

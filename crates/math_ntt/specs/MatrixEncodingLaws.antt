@@ -8,7 +8,7 @@ use Rattle.math_codec.specs.Lengths.{length_spelling, length_in_front}
 use Rattle.math_codec.specs.LengthLaws.{length_again, lengths_apart}
 use Rattle.math_codec.specs.Lists.{list_spelling}
 use Rattle.math_codec.specs.ListLaws.{list_again, list_apart}
-use Rattle.math_transforms.specs.Matrices.{MatrixOf, AreSame}
+use Rattle.math_transforms.specs.Matrices.{MatrixOf, AreSameMatrices}
 use Rattle.math_ntt.specs.MatrixEncoding.{matrix_spelling, at_most, AdmitsMatrix, scan_count, scan_matrix}
 
 pub count_again : (most n : ℕ) (rest : List ℕ) → n < 2 ^ 32 → n ≤ most → scan_count most (length_spelling n ++ rest) ≡ Ok (n, rest)
@@ -47,7 +47,7 @@ module _ {A : Type 0} (spelling : A → List ℕ) where
       ap (scan_matrix most scan) (parts m rest) ∙ rw (rows, cols, cells, full) refl
 
   pub matrix_apart : (admits : A → Type 0) (alike : A → A → Type 0) → SpellsApart spelling admits alike
-      → (most : ℕ) → SpellsApart (matrix_spelling spelling) (AdmitsMatrix most admits) (AreSame alike)
+      → (most : ℕ) → SpellsApart (matrix_spelling spelling) (AdmitsMatrix most admits) (AreSameMatrices alike)
   matrix_apart admits alike apart most m n x y h k e =
       let rows = lengths_apart m.rows n.rows (after_rows m x) (after_rows n y) h.rows_fit k.rows_fit (sym (parts m x) ∙ e ∙ parts n y) in
       let cols = lengths_apart m.cols n.cols (after_cols m x) (after_cols n y) h.cols_fit k.cols_fit rows.1 in

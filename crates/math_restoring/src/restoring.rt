@@ -130,7 +130,7 @@ fn place_rows(
 }
 
 /// Writes the first rows of the room over `cols` cells of each row, from column `from` on.
-fn take_rows(room: &[F], cols: usize, count: usize, cells: &mut [F], width: usize, from: usize)
+fn take_rows(cells: &mut [F], width: usize, from: usize, cols: usize, count: usize, room: &[F])
     requires room { count * cols ≤ length room.now }
     requires within { from + cols ≤ width }
     requires size { length cells.old ≡ count * width }
@@ -173,7 +173,7 @@ fn restore_strips(
         let strip = &mut room[..size_of(division.lg) * cols];
         place_rows(places, &division.factors, cells, width, from, cols, strip);
         divide(alloc, strip, cols, division)?;
-        take_rows(strip, cols, indices.len(), cells, width, from);
+        take_rows(cells, width, from, cols, indices.len(), strip);
         from += cols;
     }
     Ok(())

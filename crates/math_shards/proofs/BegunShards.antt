@@ -12,7 +12,7 @@ use Rattle.math_transforms.specs.Matrices.{column_of}
 use Rattle.math_transforms.proofs.PresentIndices.{lg-only}
 use Rattle.math_ntt.proofs.MatrixPlaces.{rows_are_full, rows_hold_cells}
 use Rattle.math_shards.specs.declared.shards.Shard.{Shard}
-use Rattle.math_shards.specs.Shards.{AreShardsOf, IsShardOf, rows_for, value_at, width_for}
+use Rattle.math_shards.specs.Shards.{AreShardsOf, IsShardOf, rows_for, value_at_index, width_for}
 use Rattle.math_shards.specs.Strips.{AreBegun, AreExtended, HasStripValues, IsBegun, IsExtendedBy}
 use Rattle.math_shards.proofs.SameCells.{nought}
 
@@ -71,7 +71,7 @@ begun_further words min total lg from c i strip s t strip_of within h begun =
       most = h.most ∙ begun.most;
       count = ap length h.behind ∙ length-append s.cells.items row ∙ ap₂ (λ x y. x + y) begun.count wide;
       values = λ k l.
-          let cell : same (get_or (s.cells.items ++ row) k nought) (value_at lg (column_of nought (rows_for min words) k) i) = elim (cases_lt k from) [
+          let cell : same (get_or (s.cells.items ++ row) k nought) (value_at_index lg (column_of nought (rows_for min words) k) i) = elim (cases_lt k from) [
             | inl b ↦ ap number (get_or_append_left s.cells.items row nought k (omega (arith, b, begun.count))) ∙ begun.values k b
             | inr b ↦
                 let q : from + (k - from) ≡ k = omega (arith, b) in
@@ -79,7 +79,7 @@ begun_further words min total lg from c i strip s t strip_of within h begun =
                 let place : k ≡ length s.cells.items + (k - from) = omega (arith, b, begun.count) in
                 ap (λ p. number (get_or (s.cells.items ++ row) p nought)) place ∙ ap number (get_or-append-add s.cells.items row (k - from) nought)
                 ∙ ap number (rows_hold_cells m i (k - from) nought inside) ∙ strip_of.values i (k - from) within inside
-                ∙ ap (λ p. number (value_at lg (column_of nought (rows_for min words) p) i)) q
+                ∙ ap (λ p. number (value_at_index lg (column_of nought (rows_for min words) p) i)) q
           ] in
           ap (λ (xs : List F). number (get_or xs k nought)) h.behind ∙ cell;
     }
@@ -101,7 +101,7 @@ shard_of_begun words min total lg n i s next below wide h = record {
   count = h.count ∙ wide;
   values = λ m k domain b.
       let once : lg ≡ m = lg-only total lg m (omega (arith, below)) next domain in
-      h.values k (omega (arith, b, wide)) ∙ ap₂ (λ (p q : ℕ). number (value_at p (column_of nought (rows_for min words) k) q)) once (sym h.index);
+      h.values k (omega (arith, b, wide)) ∙ ap₂ (λ (p q : ℕ). number (value_at_index p (column_of nought (rows_for min words) k) q)) once (sym h.index);
 }
 
 indices_of : (a : ℕ) (shards : List Shard) → ((i : ℕ) (d : Shard) → i < length shards → (get_or shards i d).index ≡ a + i) → map (λ (s : Shard). s.index) shards ≡ range_with_len a (length shards)

@@ -18,7 +18,7 @@ use Rattle.math_ntt.proofs.MatrixPlaces.{columns_are_full, columns_hold_cells}
 use Rattle.math_shards.specs.declared.shards.Shard.{Shard}
 use Rattle.math_shards.specs.Correcting.{CorrectTo, HaveOneCorrection, settled, settled_indices}
 use Rattle.math_shards.specs.Joining.{ArePolynomialsOf, HoldsShards, IsSound}
-use Rattle.math_shards.specs.Shards.{IsShardOf, JoinTo, distinct_indices, has_index, rows_for, value_at, width_for}
+use Rattle.math_shards.specs.Shards.{IsShardOf, JoinTo, distinct_indices, has_index, rows_for, value_at_index, width_for}
 use Rattle.math_shards.proofs.CountedIndices.{indices-outside, lost_outside, outside, outside_not_among, is_outside}
 use Rattle.math_shards.proofs.FilledShards.{count_filled, count_marks, index_found, index_there, indices_below, no_indices}
 use Rattle.math_shards.proofs.OnlyData.{only_data}
@@ -166,7 +166,7 @@ module _ (lg : ℕ) (first : Shard) (shards : List Shard) (e : EvaluationsOf F) 
               (All-filter (λ (u : Shard). is_outside c.wrong u.index) (Contains (settled shards)) (settled shards) (All-contains_itself (settled shards)) found.0 s found.2) in
               let below : s.index < n = omega (arith, found.4, h.0) in
               let column : k < width = omega (arith, l, r.holds.size.1) in
-              subst (λ j. same (value_at lg (column_of nought (rows_for first.min words) k) j) (cell_of nought e.matrix j k)) found.4
+              subst (λ j. same (value_at_index lg (column_of nought (rows_for first.min words) k) j) (cell_of nought e.matrix j k)) found.4
               (sym (of.values lg k r.next (omega (arith, column, width_of))) ∙ sym (cell_of_shard lg width (settled shards) e r.holds s there.0 there.1 there.2 below k column)
               ∙ ap number (columns_hold_cells e.matrix s.index k nought nought (omega (arith, below, r.holds.size.0)) l));
         }
@@ -206,7 +206,7 @@ module _ (lg : ℕ) (first : Shard) (shards : List Shard) (e : EvaluationsOf F) 
               let e_lg : lg ≡ lg' = lg-only first.total lg lg' (omega (arith, index)) r.next other in
               let column : k < length first.cells.items = omega (arith, b, width) in
               let inside : k < e.matrix.cols = omega (arith, column, r.holds.size.1) in
-              subst (λ m. same (get_or s.cells.items k nought) (value_at m (column_of nought (rows_for first.min words) k) s.index)) e_lg
+              subst (λ m. same (get_or s.cells.items k nought) (value_at_index m (column_of nought (rows_for first.min words) k) s.index)) e_lg
               (sym (cell_of_shard lg (length first.cells.items) (settled shards) e r.holds s at l is below k column)
               ∙ ap number (columns_hold_cells e.matrix s.index k nought nought (omega (arith, below, r.holds.size.0)) inside)
               ∙ sym (h.rows.agree s.index k inside filled outside_wrong)

@@ -13,13 +13,13 @@ use Rattle.math_ntt.proofs.MatrixPlaces.{rows_are_full, rows_hold_cells}
 use Rattle.math_transforms.specs.DomainValues.{matrix_of}
 use Rattle.math_transforms.specs.Matrices.{MatrixOf, column_of}
 use Rattle.math_shards.specs.Cosets.{AreCosetValues, HasCosetCells, HasValuesFrom}
-use Rattle.math_shards.specs.Shards.{value_at}
+use Rattle.math_shards.specs.Shards.{value_at_index}
 use Rattle.math_shards.proofs.RootPowers.{coset_point, raised}
 use Rattle.math_shards.proofs.SameCells.{nought, same_by_items}
 
 -- the first n cells of the row are the values, at power `index` of the root of order 2^lg, of the polynomials whose coefficients are the first columns of m
 abbrev pub HasFirstValues : ℕ → MatrixOf F → ℕ → ℕ → List F → Type 0
-HasFirstValues lg m n index row = (k : ℕ) → k < n → same (get_or row k nought) (value_at lg (column_of nought m k) index)
+HasFirstValues lg m n index row = (k : ℕ) → k < n → same (get_or row k nought) (value_at_index lg (column_of nought m k) index)
 
 -- A row whose index is that of a point of a coset.
 module _ (lg s start : ℕ) (m : MatrixOf F) (from c : ℕ) (ratio : F) (strip : List F) (i : ℕ) (row : List F) (small : lg + s ≤ 32) (is : same ratio (raised (root_of (lg + s)) start))
@@ -34,7 +34,7 @@ module _ (lg s start : ℕ) (m : MatrixOf F) (from c : ℕ) (ratio : F) (strip :
   wide = rows_are_full (matrix_of (2 ^ lg) c strip) t count inside
 
   -- the cells of the coset in the row of the point are the values
-  strip_at : (k : ℕ) → k < c → same (get_or (take c (drop (t * c) strip)) k nought) (value_at (lg + s) (column_of nought m (from + k)) i)
+  strip_at : (k : ℕ) → k < c → same (get_or (take c (drop (t * c) strip)) k nought) (value_at_index (lg + s) (column_of nought m (from + k)) i)
   strip_at k b =
       let v = matrix_of (2 ^ lg) c strip in
       let at : start + 2 ^ s * t ≡ i = omega (arith, here, shr_split i s) in

@@ -15,7 +15,7 @@ use Rattle.math_shards.specs.declared.shards.Error.TheVariants.{Memory, TooFew, 
 use Rattle.math_shards.specs.declared.shards.Shard.{Shard}
 use Rattle.math_shards.specs.Fitting.{AreDataOf, DoRowsFit, HasValuesOf, distinct_among}
 use Rattle.math_shards.specs.Joining.{HaveUnequalCells, IsDueOfRows, IsSound}
-use Rattle.math_shards.specs.Shards.{IsShardOf, JoinTo, distinct_indices, has_index, rows_for, value_at, width_for}
+use Rattle.math_shards.specs.Shards.{IsShardOf, JoinTo, distinct_indices, has_index, rows_for, value_at_index, width_for}
 use Rattle.math_shards.proofs.ChosenRows.{distinct-most}
 use Rattle.math_shards.proofs.JoinedShards.{domain_of, joined_numbers}
 use Rattle.math_shards.proofs.SameCells.{nought}
@@ -120,10 +120,10 @@ module _ {R S : Type 0} (index : R → ℕ) (cells : R → List F) (rows : List 
     enough = subst (λ (xs : List ℕ). min ≤ distinct_among total xs) (sym keys) fit.enough;
     below = λ i d l. some_row (index_of (get_or others i d) < total) (omega (arith, l)) (λ r. omega (arith, index_at i d r l, fit.below i r (omega (arith, l, many))));
     count = λ i d l. some_row (length (cells_of (get_or others i d)) ≡ width_for min words) (omega (arith, l)) (λ r. ap length (cells_at i d r l) ∙ fit.count i r (omega (arith, l, many)));
-    values = λ lg next i d l k b. some_row (same (get_or (cells_of (get_or others i d)) k nought) (value_at lg (column_of nought (rows_for min words) k) (index_of (get_or others i d)))) (omega (arith, l))
+    values = λ lg next i d l k b. some_row (same (get_or (cells_of (get_or others i d)) k nought) (value_at_index lg (column_of nought (rows_for min words) k) (index_of (get_or others i d)))) (omega (arith, l))
         (λ r.
         ap (λ (xs : List F). number (get_or xs k nought)) (cells_at i d r l) ∙ fit.values lg next i r (omega (arith, l, many)) k b
-        ∙ ap (λ n. number (value_at lg (column_of nought (rows_for min words) k) n)) (sym (index_at i d r l)));
+        ∙ ap (λ n. number (value_at_index lg (column_of nought (rows_for min words) k) n)) (sym (index_at i d r l)));
   }
 
 -- so what is wrong with the ones is wrong with the others

@@ -11,7 +11,7 @@ use Rattle.math_transforms.proofs.PresentIndices.{lg-of_total, lg-only}
 use Rattle.math_shards.specs.declared.shards.Shard.{Shard}
 use Rattle.math_shards.specs.Joining.{HaveConflict, IsSound}
 use Rattle.math_shards.specs.ShardEncoding.{AreSameShards}
-use Rattle.math_shards.specs.Shards.{ChosenShardsJoin, IsSameAsOne, IsShardOf, JoinTo, rows_for, value_at, width_for}
+use Rattle.math_shards.specs.Shards.{ChosenShardsJoin, IsSameAsOne, IsShardOf, JoinTo, rows_for, value_at_index, width_for}
 use Rattle.math_shards.proofs.FilledShards.{no_indices}
 use Rattle.math_restoring.proofs.ElementRing.{same_are_equal}
 use Rattle.math_shards.proofs.SameCells.{nought, same_by_items}
@@ -32,7 +32,7 @@ pub same_shards : (words : List ℕ) (min total lg : ℕ) (s t : Shard) → IsNe
     → AllZip same s.cells.items t.cells.items
 same_shards words min total lg s t next h k e =
     same_by_items (width_for min words) s.cells.items t.cells.items h.count k.count
-    (λ i l. h.values lg i next l ∙ ap (λ n. number (value_at lg (column_of (residue 0) (rows_for min words) i) n)) e ∙ sym (k.values lg i next l))
+    (λ i l. h.values lg i next l ∙ ap (λ n. number (value_at_index lg (column_of (residue 0) (rows_for min words) i) n)) e ∙ sym (k.values lg i next l))
 
 -- shards that join to data are not none
 pub joined_some : (words : List ℕ) (shards : List Shard) → JoinTo words shards → 0 < length shards
@@ -81,8 +81,8 @@ shard_of_same words min total s t h of =
       least = sym h.least ∙ of.least;
       most = sym h.most ∙ of.most;
       count = sym (ap length cells) ∙ of.count;
-      values = λ lg k next l. subst (λ (xs : List F). same (get_or xs k nought) (value_at lg (column_of nought (rows_for min words) k) t.index)) cells
-          (subst (λ (i : ℕ). same (get_or s.cells.items k nought) (value_at lg (column_of nought (rows_for min words) k) i)) h.index (of.values lg k next l));
+      values = λ lg k next l. subst (λ (xs : List F). same (get_or xs k nought) (value_at_index lg (column_of nought (rows_for min words) k) t.index)) cells
+          (subst (λ (i : ℕ). same (get_or s.cells.items k nought) (value_at_index lg (column_of nought (rows_for min words) k) i)) h.index (of.values lg k next l));
     }
 
 -- shards that are the same as some of those of the data join to the data, where enough are there

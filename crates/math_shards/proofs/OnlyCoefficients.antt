@@ -15,10 +15,10 @@ use Rattle.math_base.specs.ElementRootLaws.{field, roots}
 use Rattle.math_base.specs.Elements.{number, product, residue, root_of, same, sum}
 use Rattle.math_ntt.proofs.MatrixPlaces.{columns_are_full}
 use Rattle.math_transforms.specs.DomainValues.{matrix_of}
-use Rattle.math_transforms.specs.Matrices.{AreSame, IsOfSize, MatrixOf, column_of}
+use Rattle.math_transforms.specs.Matrices.{AreSameMatrices, IsOfSize, MatrixOf, column_of}
 use Rattle.math_restoring.specs.Restored.{AreDistinct, HaveCellsAsValues}
 use Rattle.math_restoring.proofs.ElementRing.{same_are_equal}
-use Rattle.math_shards.specs.Shards.{value_at}
+use Rattle.math_shards.specs.Shards.{value_at_index}
 use Rattle.math_shards.proofs.SameCells.{nought}
 use Rattle.math_shards.proofs.ShardRows.{same_by_columns}
 
@@ -59,13 +59,13 @@ points_apart lg indices small distinct below i j d before l e =
 -- polynomials, of no more coefficients than there are indices, that have the cells as their values are those of the coefficients that were had
 pub coefficients_once : (lg width : ℕ) (indices : List ℕ) (old new : List F) (m : MatrixOf F) → lg ≤ 32 → AreDistinct indices → All (λ i. i < 2 ^ lg) indices
     → length new ≡ length indices * width → HaveCellsAsValues lg indices width old new → IsOfSize m (length indices) width
-    → ((t k : ℕ) → t < length indices → k < width → same (get_or old (t * width + k) nought) (value_at lg (column_of nought m k) (get_or indices t 0))) → new ≡ m.cells
+    → ((t k : ℕ) → t < length indices → k < width → same (get_or old (t * width + k) nought) (value_at_index lg (column_of nought m k) (get_or indices t 0))) → new ≡ m.cells
 coefficients_once lg width indices old new m small distinct below whole have size values =
     let n = length indices in
     let q = matrix_of n width new in
     let points : List F = map (point lg) indices in
     let count : length points ≡ n = length-map indices (point lg) in
-    let equal : AreSame same q m =
+    let equal : AreSameMatrices same q m =
     same_by_columns n width q m (refl, refl, whole) size
     (λ k l.
     agreement-same equality group commutes ring field points (column_of nought q k) (column_of nought m k)

@@ -15,7 +15,7 @@ use Rattle.math_transforms.specs.Matrices.{column_of}
 use Rattle.math_ntt.specs.PolynomialRows.{HaveSamePolynomials}
 use Rattle.math_ntt.proofs.MatrixPlaces.{columns_are_full}
 use Rattle.math_shards.specs.declared.shards.Shard.{Shard}
-use Rattle.math_shards.specs.Shards.{IsShardOf, JoinTo, counted, distinct_indices, has_index, rows_for, value_at, width_for}
+use Rattle.math_shards.specs.Shards.{IsShardOf, JoinTo, counted, distinct_indices, has_index, rows_for, value_at_index, width_for}
 use Rattle.math_shards.proofs.FilledShards.{count_marks}
 use Rattle.math_shards.proofs.JoinedShards.{domain_of, joined_first, joined_numbers, joined_some}
 use Rattle.math_shards.proofs.PackedData.{data_stand}
@@ -32,16 +32,16 @@ same_columns lg min total words others shards small next enough h g widths k c =
     let n = 2 ^ lg in
     let p = column_of nought (rows_for min words) k in
     let q = column_of nought (rows_for min others) k in
-    let cells : List F = map (value_at lg p) (range_with_len 0 n) in
+    let cells : List F = map (value_at_index lg p) (range_with_len 0 n) in
     let filled : List Bool = map (has_index shards) (range_with_len 0 n) in
-    let long : length cells ≡ n = length-map-range_with_len (value_at lg p) 0 n in
+    let long : length cells ≡ n = length-map-range_with_len (value_at_index lg p) 0 n in
     let count : count_true filled ≡ distinct_indices total shards =
     count_marks n total shards (All-weaker (IsShardOf words min total) (λ (s : Shard). s.index < total) (λ s of. of.index) shards h) next.1 in
     let marks : (i : ℕ) → i < length cells → get_or filled i false ≡ has_index shards i = λ i l. get_or-map-range_with_len (has_index shards) 0 n i i false (omega (arith, l, long)) (omega arith) in
     let first : (s : Shard) (j : ℕ) → j < length shards → get_or shards j s ≡ s → IsShardOf words min total s = λ s j l is. subst (IsShardOf words min total) is (h j s l) in
     let second : (s : Shard) (j : ℕ) → j < length shards → get_or shards j s ≡ s → IsShardOf others min total s = λ s j l is. subst (IsShardOf others min total) is (g j s l) in
-    let at : (s : Shard) → IsShardOf words min total s → same (value_at lg p s.index) (get_or cells s.index nought) =
-    λ s of. sym (ap number (get_or-map-range_with_len (value_at lg p) 0 n s.index s.index nought (omega (arith, of.index, next.1)) (omega arith))) in
+    let at : (s : Shard) → IsShardOf words min total s → same (value_at_index lg p s.index) (get_or cells s.index nought) =
+    λ s of. sym (ap number (get_or-map-range_with_len (value_at_index lg p) 0 n s.index s.index nought (omega (arith, of.index, next.1)) (omega arith))) in
     same_fits lg small cells filled long (length-map-range_with_len (has_index shards) 0 n) p q
     (fits_shards lg shards cells filled p (omega (arith, columns_are_full (rows_for min words) k nought, count, enough)) marks (λ s j l is. at s (first s j l is)))
     (fits_shards lg shards cells filled q (omega (arith, columns_are_full (rows_for min others) k nought, count, enough)) marks

@@ -18,7 +18,7 @@ use Rattle.math_transforms.specs.Matrices.{MatrixOf, column_of, row_of}
 use Rattle.math_ntt.proofs.MatrixPlaces.{columns_hold_cells, rows_are_full, rows_hold_cells}
 use Rattle.math_shards.specs.declared.shards.Shard.{Shard}
 use Rattle.math_shards.specs.Joining.{HoldsShards}
-use Rattle.math_shards.specs.Shards.{has_index, value_at}
+use Rattle.math_shards.specs.Shards.{has_index, value_at_index}
 use Rattle.math_shards.proofs.FilledShards.{index_found}
 use Rattle.math_shards.proofs.SameCells.{nought}
 
@@ -33,11 +33,11 @@ FitColumns lg e q = (k : ℕ) → k < e.matrix.cols → FitsCells lg (column_of 
 -- the filled cells are those of the indices of shards: so p fits, where it has as its values there what the cells are
 pub fits_shards : (lg : ℕ) (shards : List Shard) (cells : List F) (filled : List Bool) (p : List F) → length p ≤ count_true filled
     → ((i : ℕ) → i < length cells → get_or filled i false ≡ has_index shards i)
-    → ((s : Shard) (k : ℕ) → k < length shards → get_or shards k s ≡ s → same (value_at lg p s.index) (get_or cells s.index nought)) → FitsCells lg cells filled p
+    → ((s : Shard) (k : ℕ) → k < length shards → get_or shards k s ≡ s → same (value_at_index lg p s.index) (get_or cells s.index nought)) → FitsCells lg cells filled p
 fits_shards lg shards cells filled p few marks values = record {
   agrees = λ j l t.
       let found = index_found shards j (sym (marks j l) ∙ t) in
-      subst (λ i. same (value_at lg p i) (get_or cells i nought)) found.4 (values found.1 found.0 found.2 found.3);
+      subst (λ i. same (value_at_index lg p i) (get_or cells i nought)) found.4 (values found.1 found.0 found.2 found.3);
   zero_from = λ i l. ap number (get_or_past p i nought (omega (arith, few, l)));
 }
 

@@ -13,7 +13,7 @@ use Rattle.math_transforms.specs.DomainValues.{matrix_of}
 use Rattle.math_transforms.specs.Matrices.{IsOfSize, MatrixOf, column_of}
 use Rattle.math_shards.specs.Fitting.{HasValuesOf, distinct_among}
 use Rattle.math_restoring.specs.Restored.{AreDistinct, HaveCellsAsValues}
-use Rattle.math_shards.specs.Shards.{value_at}
+use Rattle.math_shards.specs.Shards.{value_at_index}
 use Rattle.math_shards.specs.Weights.{AreChosen}
 use Rattle.math_shards.proofs.ChosenRows.{below-kept, cell-at, chosen_among, count-kept, distinct-kept, distinct-most, is_one_of}
 use Rattle.math_shards.proofs.CountedIndices.{weight, weight_kept}
@@ -80,8 +80,8 @@ values_of_rows {R} index cells min width lg rows indices old new many wide chose
     let at : get_or indices t 0 ≡ index row = ap (λ xs. get_or xs t 0) (chosen.keys ∙ ap (map index) picked) ∙ get_or-map index rows t d 0 b in
     let cell : get_or old (t * width + k) nought ≡ get_or (cells row) k nought =
     ap (λ xs. get_or xs (t * width + k) nought) (chosen.held ∙ ap (flat_map cells) picked) ∙ cell-at index cells width rows wide t k d b l in
-    sym (ap number cell) ∙ sym (have t k (omega (arith, b, all, many)) l) ∙ ap (λ i. number (value_at lg (column_in (length indices) width new k) i)) at
-    ∙ ap (λ n. number (value_at lg (column_in n width new k) (index row))) many
+    sym (ap number cell) ∙ sym (have t k (omega (arith, b, all, many)) l) ∙ ap (λ i. number (value_at_index lg (column_in (length indices) width new k) i)) at
+    ∙ ap (λ n. number (value_at_index lg (column_in n width new k) (index row))) many
 
 -- polynomials of no more coefficients that have the cells of all rows as their values are those that were had
 pub only_of_rows : {R : Type 0} (index : R → ℕ) (cells : R → List F) (min width lg : ℕ) (rows : List R) (indices : List ℕ) (old new : List F) (m : MatrixOf F) → lg ≤ 32 → length indices ≡ min
@@ -99,7 +99,7 @@ only_of_rows {R} index cells min width lg rows indices old new m small many wide
     wide_picked i d l = All-contains (λ r. length (cells r) ≡ width) rows (get_or chosen.picked i d) wide (chosen.among i d l)
 
     of_some : (t k : ℕ) → t < length indices → k < width → (all : List R) → chosen.picked ≡ all
-        → same (get_or old (t * width + k) nought) (value_at lg (column_of nought m k) (get_or indices t 0))
+        → same (get_or old (t * width + k) nought) (value_at_index lg (column_of nought m k) (get_or indices t 0))
     of_some t k a b [] e = absurd (omega (arith, a, count, ap length e))
     of_some t k a b (r ∷ rest) e =
         let there : t < length chosen.picked = omega (arith, a, count) in
@@ -108,7 +108,7 @@ only_of_rows {R} index cells min width lg rows indices old new m small many wide
         let cell : get_or old (t * width + k) nought ≡ get_or (cells row) k nought =
         ap (λ xs. get_or xs (t * width + k) nought) chosen.held ∙ cell-at index cells width chosen.picked wide_picked t k r there b in
         ap number cell ∙ All-contains (λ r. HasValuesOf lg m (index r) (cells r)) rows row values (chosen.among t r there) k (omega (arith, b, size.1))
-        ∙ ap (λ i. number (value_at lg (column_of nought m k) i)) (sym at)
+        ∙ ap (λ i. number (value_at_index lg (column_of nought m k) i)) (sym at)
 
 -- where fewer rows are chosen than were wanted, so that the index of each is one of theirs, fewer indices are distinct
 pub few_distinct : {R : Type 0} (index : R → ℕ) (min total : ℕ) (rows : List R) (indices : List ℕ) → length indices < min → All (λ row. Contains indices (index row)) rows

@@ -9,7 +9,7 @@ use Rattle.math_base.specs.declared.fields.goldilocks.F.{F}
 use Rattle.math_base.specs.Elements.{number, same}
 use Rattle.math_ntt.specs.MatrixPlaces.{IsFull}
 use Rattle.math_ntt.proofs.MatrixPlaces.{columns_are_full}
-use Rattle.math_transforms.specs.Matrices.{AreSame, IsOfSize, MatrixOf, column_of}
+use Rattle.math_transforms.specs.Matrices.{AreSameMatrices, IsOfSize, MatrixOf, column_of}
 use Rattle.math_ntt.specs.PolynomialRows.{HaveSamePolynomials}
 use Rattle.math_transforms.proofs.MatrixRows.{cell-of_column}
 use Rattle.math_shards.specs.Joining.{ArePolynomialsOf}
@@ -42,7 +42,7 @@ same_cells_at rows q m h k e columns (suc c) f n l =
     place n m e = rw e (omega (arith, mul_comm (n / suc c) (suc c)))
 
 -- so matrices of one size whose columns are the same polynomials are same
-pub same_by_columns : (r c : ℕ) (q m : MatrixOf F) → IsOfSize q r c → IsOfSize m r c → HaveSamePolynomials same nought q m → AreSame same q m
+pub same_by_columns : (r c : ℕ) (q m : MatrixOf F) → IsOfSize q r c → IsOfSize m r c → HaveSamePolynomials same nought q m → AreSameMatrices same q m
 same_by_columns r c q m size other columns =
     let full : IsFull q = size.2 ∙ sym (ap₂ (λ x y. x * y) size.0 size.1) in
     let whole : IsFull m = other.2 ∙ sym (ap₂ (λ x y. x * y) other.0 other.1) in (

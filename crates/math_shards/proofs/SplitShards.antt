@@ -8,13 +8,13 @@ use Rattle.math_ntt.specs.PolynomialRows.{HaveSamePolynomials}
 use Rattle.math_ntt.proofs.MatrixPlaces.{rows_are_full, rows_hold_cells}
 use Rattle.math_ntt.proofs.PaddedPolynomials.{next_power_of_two-once}
 use Rattle.math_shards.specs.declared.shards.Shard.{Shard}
-use Rattle.math_shards.specs.Shards.{IsShardOf, rows_for, value_at, width_for}
+use Rattle.math_shards.specs.Shards.{IsShardOf, rows_for, value_at_index, width_for}
 use Rattle.math_shards.proofs.SameCells.{nought}
 use Rattle.math_restoring.proofs.CombinedColumns.{same_values}
 
 -- the cell of v in row j and column k is the value, at power j of the root, of column k of p
 abbrev pub HoldsValues : MatrixOf F → MatrixOf F → Type 0
-HoldsValues p v = (lg : ℕ) → p.rows ≡ 2 ^ lg → (j k : ℕ) → j < p.rows → k < p.cols → same (cell_of nought v j k) (value_at lg (column_of nought p k) j)
+HoldsValues p v = (lg : ℕ) → p.rows ≡ 2 ^ lg → (j k : ℕ) → j < p.rows → k < p.cols → same (cell_of nought v j k) (value_at_index lg (column_of nought p k) j)
 
 -- row i of the values of the polynomials of data is shard i of the data
 pub shard_of_row : (words : List ℕ) (min total : ℕ) (p v : MatrixOf F) → IsNextPowerOfTwo total p.rows → p.cols ≡ width_for min words → HaveSamePolynomials same nought p (rows_for min words)

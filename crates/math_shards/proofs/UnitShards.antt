@@ -16,7 +16,7 @@ use Rattle.math_transforms.proofs.PresentIndices.{lg-only}
 use Rattle.math_restoring.specs.Restored.{AreDistinct}
 use Rattle.math_shards.specs.declared.shards.Shard.{Shard}
 use Rattle.math_shards.specs.Joining.{HoldsShards, IsSound}
-use Rattle.math_shards.specs.Shards.{has_index, value_at}
+use Rattle.math_shards.specs.Shards.{has_index, value_at_index}
 use Rattle.math_shards.specs.Weights.{AreUnitShards, AreWeightsOf, weight_polynomial}
 use Rattle.math_shards.proofs.ChosenRows.{count-kept, is_one_of}
 use Rattle.math_shards.proofs.FilledShards.{count_filled, index_there}
@@ -91,7 +91,7 @@ module _ (min total : ℕ) (indices : List ℕ) (units : List Shard) (some : 1 �
 
     -- the value of the polynomial in column i at index t is cell i of the unit of that index
     value_of_unit : (i t : ℕ) → i < length indices → t < length indices
-        → same (value_at lg (weight_polynomial (length indices) q i) (get_or indices t 0)) (get_or (get_or units t v).cells.items i nought)
+        → same (value_at_index lg (weight_polynomial (length indices) q i) (get_or indices t 0)) (get_or (get_or units t v).cells.items i nought)
     value_of_unit i t l m =
         let n = length indices in
         let s : Shard = get_or units t v in
@@ -102,7 +102,7 @@ module _ (min total : ℕ) (indices : List ℕ) (units : List Shard) (some : 1 �
         let inside : i < e.matrix.cols = omega (arith, l, holds.size.1) in
         let place : s.index < length (column_of nought e.matrix i) = omega (arith, inside_domain, columns_are_full e.matrix i nought, holds.size.0) in
         let marked : get_or e.filled s.index false ≡ true = holds.marks s.index inside_domain ∙ index_there units t v there in
-        ap (λ j. number (value_at lg (weight_polynomial n q i) j)) (sym index)
+        ap (λ j. number (value_at_index lg (weight_polynomial n q i) j)) (sym index)
         ∙ same_values _ (weight_polynomial n q i) (column_of nought q i) (first_coefficients i l)
         ∙ (fits i inside).agrees s.index place marked
         ∙ cell_of_shard lg n units e holds s t there is inside_domain i l
@@ -120,10 +120,10 @@ module _ (min total : ℕ) (indices : List ℕ) (units : List Shard) (some : 1 �
           cols = size.1 ∙ holds.size.1;
           full = size.2 ∙ sym (ap₂ (λ x y. x * y) size.0 size.1);
           one_at = λ other i domain_of l.
-              subst (λ m. same (value_at m (weight_polynomial n q i) (get_or indices i 0)) (residue 1)) (once other i domain_of l)
+              subst (λ m. same (value_at_index m (weight_polynomial n q i) (get_or indices i 0)) (residue 1)) (once other i domain_of l)
               (value_of_unit i i l l ∙ (u.each i v l).cells.0);
           zero_at = λ other i t domain_of l m apart.
-              subst (λ o. same (value_at o (weight_polynomial n q i) (get_or indices t 0)) (residue 0)) (once other i domain_of l)
+              subst (λ o. same (value_at_index o (weight_polynomial n q i) (get_or indices t 0)) (residue 0)) (once other i domain_of l)
               (value_of_unit i t l m ∙ (u.each t v m).cells.1 i (omega (arith, l, (u.each t v m).count)) apart);
           distinct =
               omega (

@@ -12,7 +12,7 @@ use Rattle.math_transforms.specs.DomainValues.{matrix_of}
 use Rattle.math_transforms.specs.Matrices.{MatrixOf, row_of, rows_of}
 use Rattle.math_transforms.proofs.MatrixRows.{cell-of_column, length-pieces}
 use Rattle.math_restoring.specs.Restored.{HaveCellsAsValues}
-use Rattle.math_shards.specs.Shards.{value_at}
+use Rattle.math_shards.specs.Shards.{value_at_index}
 use Rattle.math_shards.specs.Weights.{AreCoefficients, AreWeightsOf, weight_polynomial}
 use Rattle.math_shards.proofs.PutCoefficients.{column_in}
 use Rattle.math_shards.proofs.SameCells.{nought}
@@ -61,15 +61,15 @@ module _ (total width : ℕ) (indices : List ℕ) (weights : MatrixOf F) (old ne
 
   -- the polynomial in column k has at index t the old cell t of the column as its value
   value_is_cell : (lg k t : ℕ) → IsNextPowerOfTwo total (2 ^ lg) → k < width → t < length indices
-      → same (value_at lg (column_in min width new k) (get_or indices t 0)) (get_or old (t * width + k) nought)
+      → same (value_at_index lg (column_in min width new k) (get_or indices t 0)) (get_or old (t * width + k) nought)
   value_is_cell lg k t next l b =
       let i = get_or indices t 0 in
       let xs : List F = column_in min width old k in
       let x : F = power (residue 1) product (root_of lg) i in
-      ap (λ p. number (value_at lg p i)) (column_is k l)
+      ap (λ p. number (value_at_index lg p i)) (column_is k l)
       ∙ value-at_place-same equality group commutes ring x xs weight_rows t (rows_long k) (omega (arith, b, tall old k))
-      (ap (λ p. number (value_at lg p i)) (columns_agree t) ∙ w.one_at lg t next b)
-      (λ j m apart. ap (λ p. number (value_at lg p i)) (columns_agree j) ∙ w.zero_at lg j t next (omega (arith, m, tall old k)) b apart)
+      (ap (λ p. number (value_at_index lg p i)) (columns_agree t) ∙ w.one_at lg t next b)
+      (λ j m apart. ap (λ p. number (value_at_index lg p i)) (columns_agree j) ∙ w.zero_at lg j t next (omega (arith, m, tall old k)) b apart)
       ∙ ap number (cell-of_column nought (matrix_of min width old) k t l size)
 
   -- so the old cells are the values of the polynomials whose coefficients are the columns of the new ones

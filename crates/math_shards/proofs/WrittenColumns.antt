@@ -15,7 +15,7 @@ use Rattle.math_transforms.specs.Matrices.{column_of}
 use Rattle.math_transforms.proofs.PresentIndices.{lg-only}
 use Rattle.math_transforms.proofs.WrittenRows.{part-read, put-after, put-before, put-within}
 use Rattle.math_shards.specs.declared.shards.Shard.{Shard}
-use Rattle.math_shards.specs.Shards.{IsShardOf, rows_for, value_at, width_for}
+use Rattle.math_shards.specs.Shards.{IsShardOf, rows_for, value_at_index, width_for}
 use Rattle.math_shards.specs.ShardRows.{AreColumnsWritten, AreRowsOfShards, HaveColumns, number_at}
 use Rattle.math_shards.specs.Strips.{HasStripValues}
 use Rattle.math_shards.proofs.SameCells.{nought}
@@ -118,13 +118,13 @@ own_items a (suc n) f h = ap₂ (λ i is. i ∷ is) (h a) (own_items (a + 1) n f
 -- Rows that have all columns are the shards of the data. A vector lends its place to those of the shards.
 module _ (some : Vec F) (words : List ℕ) (min total lg : ℕ) (short : width_for min words < 2 ^ 63) (next : IsNextPowerOfTwo total (2 ^ lg)) (least : 1 ≤ total) where
   abbrev pub items_at : ℕ → List F
-  items_at i = map (λ k. value_at lg (column_of nought (rows_for min words) k) i) (range_with_len 0 (width_for min words))
+  items_at i = map (λ k. value_at_index lg (column_of nought (rows_for min words) k) i) (range_with_len 0 (width_for min words))
 
   pub wide : (i : ℕ) → length (items_at i) ≡ width_for min words
-  wide i = length-map (range_with_len 0 (width_for min words)) (λ k. value_at lg (column_of nought (rows_for min words) k) i) ∙ length-range_with_len 0 (width_for min words)
+  wide i = length-map (range_with_len 0 (width_for min words)) (λ k. value_at_index lg (column_of nought (rows_for min words) k) i) ∙ length-range_with_len 0 (width_for min words)
 
-  item_at : (i k : ℕ) → k < width_for min words → get_or (items_at i) k nought ≡ value_at lg (column_of nought (rows_for min words) k) i
-  item_at i k l = get_or-map-range_with_len (λ j. value_at lg (column_of nought (rows_for min words) j) i) 0 (width_for min words) k k nought l (let e : 0 + k ≡ k = omega arith in e)
+  item_at : (i k : ℕ) → k < width_for min words → get_or (items_at i) k nought ≡ value_at_index lg (column_of nought (rows_for min words) k) i
+  item_at i k l = get_or-map-range_with_len (λ j. value_at_index lg (column_of nought (rows_for min words) j) i) 0 (width_for min words) k k nought l (let e : 0 + k ≡ k = omega arith in e)
 
   abbrev pub vec_at : ℕ → Vec F
   vec_at i = record { ptr = some.ptr; len = length (items_at i); cap = length (items_at i); alloc = some.alloc; items = items_at i; ok = (refl, omega arith); small = omega (arith, wide i, short) }
@@ -140,7 +140,7 @@ module _ (some : Vec F) (words : List ℕ) (min total lg : ℕ) (short : width_f
     count = wide i;
     values = λ other k domain b.
         let once : lg ≡ other = lg-only total lg other least next domain in
-        ap number (item_at i k b) ∙ ap (λ p. number (value_at p (column_of nought (rows_for min words) k) i)) once;
+        ap number (item_at i k b) ∙ ap (λ p. number (value_at_index p (column_of nought (rows_for min words) k) i)) once;
   }
 
   pub rows_of_columns : (cells : List ℕ) → length cells ≡ total * width_for min words → HaveColumns words min lg (width_for min words) total (width_for min words) cells

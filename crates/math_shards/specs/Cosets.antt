@@ -7,7 +7,7 @@ use Rattle.math_base.specs.declared.fields.goldilocks.F.{F}
 use Rattle.math_base.specs.Elements.{residue, root_of, same, sum, product}
 use Rattle.math_transforms.specs.DomainValues.{matrix_of}
 use Rattle.math_transforms.specs.Matrices.{MatrixOf, cell_of, column_of}
-use Rattle.math_shards.specs.Shards.{value_at}
+use Rattle.math_shards.specs.Shards.{value_at_index}
 
 -- each cell is the item in its place times the factor
 abbrev pub AreMultiples : List F → F → List F → Type 0
@@ -28,4 +28,4 @@ HasCosetCells cells c from start stride index row =
 -- the c cells of the row from place `from` on are the values, at power `index` of the root of order 2^lg, of the polynomials whose coefficients are these columns of m
 abbrev pub HasValuesFrom : ℕ → MatrixOf F → ℕ → ℕ → ℕ → List F → Type 0
 HasValuesFrom lg m from c index row =
-    (k : ℕ) → k < c → same (slice_index_or row (from + k) (residue 0)) (value_at lg (column_of (residue 0) m (from + k)) index)
+    (k : ℕ) → k < c → same (slice_index_or row (from + k) (residue 0)) (value_at_index lg (column_of (residue 0) m (from + k)) index)

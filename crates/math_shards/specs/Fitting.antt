@@ -5,7 +5,7 @@ use Rattle.std.specs.List.{list_any, range_with_len}
 use Rattle.math_base.specs.declared.fields.goldilocks.F.{F}
 use Rattle.math_base.specs.Elements.{residue, same}
 use Rattle.math_transforms.specs.Matrices.{MatrixOf, column_of}
-use Rattle.math_shards.specs.Shards.{elements_for, rows_for, value_at, width_for, with_zeros}
+use Rattle.math_shards.specs.Shards.{elements_for, rows_for, value_at_index, width_for, with_zeros}
 
 -- how many of the numbers below n are among the indices
 abbrev pub distinct_among : ℕ → List ℕ → ℕ
@@ -13,7 +13,7 @@ distinct_among n indices = count_by (λ i. list_any (λ j. j == i) indices) (ran
 
 -- the cells are the values, at power `index` of the root of order 2^lg, of the polynomials whose coefficients are the columns of m
 abbrev pub HasValuesOf : ℕ → MatrixOf F → ℕ → List F → Type 0
-HasValuesOf lg m index cells = (k : ℕ) → k < m.cols → same (slice_index_or cells k (residue 0)) (value_at lg (column_of (residue 0) m k) index)
+HasValuesOf lg m index cells = (k : ℕ) → k < m.cols → same (slice_index_or cells k (residue 0)) (value_at_index lg (column_of (residue 0) m k) index)
 
 -- the elements are those that the number of the words and the words pack to, and zeros that fill up the last of `min` rows
 pub record AreDataOf (words : List ℕ) (min : ℕ) (elements : List F) : Type 0 where

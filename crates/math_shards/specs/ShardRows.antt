@@ -7,7 +7,7 @@ use Rattle.math_transforms.specs.Matrices.{column_of}
 use Rattle.math_shards.specs.declared.shards.Shard.{Shard}
 use Rattle.math_shards.specs.declared.shards.Error.{Error}
 use Rattle.math_shards.specs.Joining.{IsDue}
-use Rattle.math_shards.specs.Shards.{AreShardsOf, JoinTo, rows_for, value_at}
+use Rattle.math_shards.specs.Shards.{AreShardsOf, JoinTo, rows_for, value_at_index}
 
 -- the words are the numbers of the cells of the shards of the data, shard by shard
 abbrev pub AreRowsOfShards : List ℕ → ℕ → ℕ → List ℕ → Type 0
@@ -15,7 +15,7 @@ AreRowsOfShards words min total cells = (shards : List Shard) × AreShardsOf wor
 
 -- the number in a cell of a shard: the value, at the power of the root that is its index, of the polynomial of the column
 abbrev pub number_at : List ℕ → ℕ → ℕ → ℕ → ℕ → ℕ
-number_at words min lg i k = number (value_at lg (column_of (residue 0) (rows_for min words) k) i)
+number_at words min lg i k = number (value_at_index lg (column_of (residue 0) (rows_for min words) k) i)
 
 -- the first n columns of rows of words have the numbers of the cells of the shards
 abbrev pub HaveColumns : List ℕ → ℕ → ℕ → ℕ → ℕ → ℕ → List ℕ → Type 0

@@ -33,8 +33,8 @@ abbrev pub rows_for : ℕ → List ℕ → MatrixOf F
 rows_for min words = let width = width_for min words in record { rows = min; cols = width; cells = with_zeros (min * width) (elements_for words) }
 
 -- the value at power i of the root of order 2^lg
-abbrev pub value_at : ℕ → List F → ℕ → F
-value_at lg coefficients i = value (residue 0) sum product (residue 1) (power (residue 1) product (root_of lg) i) coefficients
+abbrev pub value_at_index : ℕ → List F → ℕ → F
+value_at_index lg coefficients i = value (residue 0) sum product (residue 1) (power (residue 1) product (root_of lg) i) coefficients
 
 -- s is the shard of its index for the data, of which `min` give them back and `total` are made: cell k is the value, at the power of the root that
 -- is its index, of the polynomial whose coefficients are column k of the rows; the domain is the least that has `total` points
@@ -44,7 +44,7 @@ pub record IsShardOf (words : List ℕ) (min total : ℕ) (s : Shard) : Type 0 w
   pub most : s.total ≡ total
   pub count : length s.cells.items ≡ width_for min words
   pub values : (lg k : ℕ) → IsNextPowerOfTwo total (2 ^ lg) → k < width_for min words
-      → same (slice_index_or s.cells.items k (residue 0)) (value_at lg (column_of (residue 0) (rows_for min words) k) s.index)
+      → same (slice_index_or s.cells.items k (residue 0)) (value_at_index lg (column_of (residue 0) (rows_for min words) k) s.index)
 
 -- the shards are those of the indices from 0 to total - 1, in order
 pub record AreShardsOf (words : List ℕ) (min total : ℕ) (shards : List Shard) : Type 0 where

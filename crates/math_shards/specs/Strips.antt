@@ -10,7 +10,7 @@ use Rattle.math_transforms.specs.Matrices.{cell_of, column_of}
 use Rattle.math_transforms.specs.RootTrees.{IsTreeOf}
 use Rattle.math_shards.specs.declared.shards.Shard.{Shard}
 use Rattle.math_shards.specs.declared.shards.strips.Layout.{Layout}
-use Rattle.math_shards.specs.Shards.{elements_for, rows_for, value_at, width_for}
+use Rattle.math_shards.specs.Shards.{elements_for, rows_for, value_at_index, width_for}
 
 -- the table is the tree of square roots of a domain of 2^lg points
 abbrev pub IsTableOf : ℕ → List F → Type 0
@@ -52,7 +52,7 @@ pub record IsStripOf (words : List ℕ) (min n from c : ℕ) (cells : List F) : 
 pub record HasStripValues (words : List ℕ) (min lg from c : ℕ) (cells : List F) : Type 0 where
   pub count : length cells ≡ 2 ^ lg * c
   pub values : (i k : ℕ) → i < 2 ^ lg → k < c
-      → same (cell_of (residue 0) (matrix_of (2 ^ lg) c cells) i k) (value_at lg (column_of (residue 0) (rows_for min words) (from + k)) i)
+      → same (cell_of (residue 0) (matrix_of (2 ^ lg) c cells) i k) (value_at_index lg (column_of (residue 0) (rows_for min words) (from + k)) i)
 
 -- t is the shard s with these cells behind its own
 pub record IsExtendedBy (row : List F) (s t : Shard) : Type 0 where
@@ -71,7 +71,7 @@ pub record IsBegun (words : List ℕ) (min total lg n i : ℕ) (s : Shard) : Typ
   pub least : s.min ≡ min
   pub most : s.total ≡ total
   pub count : length s.cells.items ≡ n
-  pub values : (k : ℕ) → k < n → same (slice_index_or s.cells.items k (residue 0)) (value_at lg (column_of (residue 0) (rows_for min words) k) i)
+  pub values : (k : ℕ) → k < n → same (slice_index_or s.cells.items k (residue 0)) (value_at_index lg (column_of (residue 0) (rows_for min words) k) i)
 
 -- each shard is begun so, with its place as its index
 abbrev pub AreBegun : List ℕ → ℕ → ℕ → ℕ → ℕ → List Shard → Type 0

@@ -11,7 +11,7 @@ use Rattle.math_transforms.specs.Matrices.{MatrixOf, column_of, row_of}
 use Rattle.math_restoring.specs.Restored.{AreDistinct}
 use Rattle.math_shards.specs.declared.shards.Shard.{Shard}
 use Rattle.math_shards.specs.Fitting.{distinct_among}
-use Rattle.math_shards.specs.Shards.{value_at}
+use Rattle.math_shards.specs.Shards.{value_at_index}
 
 -- of some rows, all of them if they are as many, these are the indices, of which none stands twice, and the cells one row after the other
 pub record AreChosen {R : Type 0} (index : R → ℕ) (cells : R → List F) (rows : List R) (indices : List ℕ) (found : List F) : Type 0 where
@@ -47,9 +47,9 @@ pub record AreWeightsOf (total : ℕ) (indices : List ℕ) (m : MatrixOf F) : Ty
   pub cols : m.cols ≡ length indices
   pub full : length m.cells ≡ m.rows * m.cols
   pub one_at : (lg i : ℕ) → IsNextPowerOfTwo total (2 ^ lg) → i < length indices
-      → same (value_at lg (weight_polynomial (length indices) m i) (slice_index_or indices i 0)) (residue 1)
+      → same (value_at_index lg (weight_polynomial (length indices) m i) (slice_index_or indices i 0)) (residue 1)
   pub zero_at : (lg i t : ℕ) → IsNextPowerOfTwo total (2 ^ lg) → i < length indices → t < length indices → i ≢ t
-      → same (value_at lg (weight_polynomial (length indices) m i) (slice_index_or indices t 0)) (residue 0)
+      → same (value_at_index lg (weight_polynomial (length indices) m i) (slice_index_or indices t 0)) (residue 0)
   pub distinct : length indices ≤ distinct_among total indices
 
 -- coefficient r of column k: the sum of the cells of the column, each times its weight in row r

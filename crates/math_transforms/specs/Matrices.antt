@@ -36,8 +36,8 @@ abbrev pub IsOfSize : {A : Type 0} → MatrixOf A → ℕ → ℕ → Type 0
 IsOfSize m r c = (m.rows ≡ r) × (m.cols ≡ c) × (length m.cells ≡ r * c)
 
 -- both have the same numbers of rows and of columns, and the same cells
-abbrev pub AreSame : {A : Type 0} → (A → A → Type 0) → MatrixOf A → MatrixOf A → Type 0
-AreSame same m n = (m.rows ≡ n.rows) × (m.cols ≡ n.cols) × AllZip same m.cells n.cells
+abbrev pub AreSameMatrices : {A : Type 0} → (A → A → Type 0) → MatrixOf A → MatrixOf A → Type 0
+AreSameMatrices same m n = (m.rows ≡ n.rows) × (m.cols ≡ n.cols) × AllZip same m.cells n.cells
 
 -- whatever `into_iter` makes of x may be asked for items
 abbrev pub IsIterable : {U S : Type 0} → (U → S → Type 0) → (S → Type 0) → U → Type 0

@@ -18,13 +18,15 @@ pub fn copies<F: Object>(alloc: Global, cells: &[F]) -> Mem<Vec<F>>
     Ok(out)
 }
 
-/// The cells, and after them as many zeros as make their number `count`.
+/// The cells, and after them as many zeros as make their number `count`. Room for all is taken
+/// before the first zero is written.
 pub fn filled_up<F: Additive>(alloc: Global, cells: Vec<F>, count: usize) -> Mem<Vec<F>>
     requires { length cells.items ≤ count }
     ensures count { IfOk result (λ v. length v.items ≡ count) }
     ensures cells { IfOk result (λ v. AreFilledUp F.same F.zero cells.items v.items) }
 {
     let mut out = cells;
+    out.reserve(count - out.len())?;
     for _done in out.len()..count {
         out.push(F::zero(alloc)?)?;
     }

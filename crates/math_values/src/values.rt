@@ -21,7 +21,7 @@ use math_base::fields::goldilocks::F;
 use std::alloc::Global;
 
 /// The greatest number of powers in a table.
-pub const BLOCK: usize = 2048;
+const BLOCK: usize = 2048;
 
 /// The first powers of a point: a table with which values at the point are had by sums that are
 /// reduced once a block.
@@ -53,8 +53,8 @@ fn powers_of(alloc: Global, x: F, n: usize) -> Mem<(Vec<F>, F)>
 impl PowerTable {
     ghost use Rattle.math_values.specs.Tables.{point};
 
-    /// Makes the table of the first powers of x: of `count` ones, but of one at least and of
-    /// `BLOCK` at most.
+    /// Makes the table of the first powers of x: of `count` ones, but of one at least and of 2,048
+    /// at most.
     ///
     /// ```
     /// use math_values::values::PowerTable;
@@ -122,23 +122,14 @@ impl PowerTable {
     }
 
     /// Returns the value at the point of the polynomial whose coefficients are the words, from the
-    /// constant upwards. A word may be P or more: its remainder by P counts.
+    /// constant upwards, or `None` if a word is P or more. It goes over the words once.
     ///
     /// ```
     /// use math_values::values::PowerTable;
     /// let table = PowerTable::for_list(alloc, F::from(5), 2)?;
-    /// table.value_of_words(&[4, MODULUS + 6]); // 34
+    /// table.value_of_words_below(&[4, 6]); // Some(34)
     /// table.value_of_words_below(&[4, MODULUS + 6]); // None
     /// ```
-    pub fn value_of_words(&self, coefficients: &[u64]) -> F
-        ensures { result
-            ≡ value_in_ring goldilocks (elements coefficients.now) (point self.now) }
-    {
-        self.value_and_count::<u64, false>(coefficients).0
-    }
-
-    /// Returns the value at the point of the polynomial whose coefficients are the words, from the
-    /// constant upwards, where each word is below P. The words are gone over once.
     pub fn value_of_words_below(&self, coefficients: &[u64]) -> Option<F>
         ensures value { IfSome result (λ v.
             v ≡ value_in_ring goldilocks (elements coefficients.now) (point self.now)) }

@@ -17,14 +17,14 @@ use Rattle.math_base.proofs.ElementNumbers.{same_number}
 use Rattle.secret_bytes.specs.declared.share.SecretShare.{SecretShare}
 use Rattle.secret_bytes.specs.SecretShares.{AreSameShares}
 use Rattle.shared_secret.specs.declared.shares.Share.{Share}
-use Rattle.shared_secret.specs.CorrectedShares.{AreWithinRadius}
+use Rattle.shared_secret.specs.CorrectedShares.{AreSharesWithinRadius}
 use Rattle.shared_secret.specs.Shares.{point, points}
 use Rattle.secret_bytes.specs.Columns.{column, share_of}
-use Rattle.secret_bytes.specs.Combined.{AreCombined, AreRecovered, Fits, IsDueCombining, IsWrong, others}
-use Rattle.secret_bytes.specs.CombiningLaws.{AnySharesCombine, IsMemory, IsSameAsOne}
+use Rattle.secret_bytes.specs.Combined.{AreCombined, AreElementsOfShares, FitsShare, IsDueCombining, IsWrong, others}
+use Rattle.secret_bytes.specs.CombiningLaws.{AnySharesOfBytesCombine, IsMemory, IsSameAsOne}
 use Rattle.secret_bytes.specs.Deals.{AreDealtBytes, AreSampled, IsOfDeal}
 use Rattle.secret_bytes.specs.Keyed.{AreKeyed}
-use Rattle.secret_bytes.specs.Settled.{IsFault, IsFirstFault, IsSound, firsts}
+use Rattle.secret_bytes.specs.Settled.{IsFault, IsFirstFault, HasNoZero, firsts}
 use Rattle.secret_bytes.specs.declared.error.CombineError.{CombineError}
 use Rattle.secret_bytes.specs.declared.error.CombineError.TheVariants.{AnotherDeal, AnotherLength, AnotherThreshold, Changed, Memory, NoShare, Repeated, TooFew, TooManyWrong, Unsound}
 use Rattle.secret_bytes.proofs.CombinedShares.{firsts-all, firsts-apart}
@@ -35,7 +35,7 @@ use Rattle.secret_bytes.proofs.LeftShares.{others-each}
 use Rattle.secret_bytes.proofs.RecoveredShares.{fits-same, within}
 
 -- the elements are the only ones
-pub recovered-once : (t width : ℕ) (shares : List SecretShare) (all others : List F) (wrong ws : List ℕ) → AreRecovered t width shares all wrong → AreRecovered t width shares others ws → all ≡ others
+pub recovered-once : (t width : ℕ) (shares : List SecretShare) (all others : List F) (wrong ws : List ℕ) → AreElementsOfShares t width shares all wrong → AreElementsOfShares t width shares others ws → all ≡ others
 recovered-once t width shares all others wrong ws r m =
     ext_get_or (residue 0) all others (r.count ∙ sym m.count)
     (λ j l.
@@ -108,21 +108,21 @@ module _ (bytes : List ℕ) (t n : ℕ) (before after : Stream) (dealt shares : 
       let d = All-contains (IsOfDeal t D.deal (length D.all)) dealt h.0 D.alike h.1 in
       record { threshold = h.2.threshold ∙ d.threshold; deal = same_number s.deal h.0.deal h.2.deal ∙ d.deal; count = ap length (values-same_shares s h.0 h.2) ∙ d.count }
 
-  sound : (s : SecretShare) → IsSameAsOne dealt s → IsSound s
+  sound : (s : SecretShare) → IsSameAsOne dealt s → HasNoZero s
   sound s h = (omega (arith, some, (of_deal s h).threshold), omega (arith, (index-of s h).0))
 
   width_is : length D.polynomials ≡ length D.all
   width_is = sampled-count t D.third after D.all D.polynomials D.sampled
 
   -- each dealt share fits each polynomial
-  fits-one : (j : ℕ) → j < length D.all → (s : SecretShare) → Contains dealt s → Fits j (polynomial j) s
+  fits-one : (j : ℕ) → j < length D.all → (s : SecretShare) → Contains dealt s → FitsShare j (polynomial j) s
   fits-one j l s h =
       let column_at : get_or (column j dealt) h.0 (share_of j s) ≡ share_of j s = get_or-map (share_of j) dealt h.0 s (share_of j s) h.1 ∙ ap (share_of j) h.2 in
       subst (λ (u : Share F). same u.value (value_in_ring goldilocks (polynomial j) (point goldilocks u.index))) column_at
       ((D.columns j (omega (arith, l, width_is))).values h.0 (share_of j s) (omega (arith, h.1, length-map dealt (share_of j))))
 
   -- and so does each copy
-  fits-dealt : (j : ℕ) → j < length D.all → (s : SecretShare) → IsSameAsOne dealt s → Fits j (polynomial j) s
+  fits-dealt : (j : ℕ) → j < length D.all → (s : SecretShare) → IsSameAsOne dealt s → FitsShare j (polynomial j) s
   fits-dealt j l s h =
       let parts : share_of j h.0 ≡ share_of j s =
       ap₂ (share_with j) (sym h.2.index) (sym (values-same_shares s h.0 h.2)) in
@@ -142,7 +142,7 @@ module _ (bytes : List ℕ) (t n : ℕ) (before after : Stream) (dealt shares : 
   enough-at : (j : ℕ) → t ≤ length (column j (firsts shares))
   enough-at j = omega (arith, enough, length-map (firsts shares) (share_of j))
 
-  radius : (j : ℕ) → j < length D.all → AreWithinRadius goldilocks t (polynomial j) (column j (firsts shares))
+  radius : (j : ℕ) → j < length D.all → AreSharesWithinRadius goldilocks t (polynomial j) (column j (firsts shares))
   radius j l =
       within t j (firsts shares) [] (polynomial j) (firsts-apart shares) (omega (arith, (sampled-at t D.third after D.all D.polynomials D.sampled j (omega (arith, l, width_is))).0)) (omega (arith, enough))
       (λ k d m. fits-dealt j l (get_or (others [] (firsts shares)) k d) (All-contains (IsSameAsOne dealt) (firsts shares) (get_or (others [] (firsts shares)) k d) kept-dealt (others-each [] (firsts shares) k d m).0))
@@ -152,7 +152,7 @@ module _ (bytes : List ℕ) (t n : ℕ) (before after : Stream) (dealt shares : 
       w.4 (fits-same w.0 (polynomial w.0) w.1 s (within-once t (column w.0 (firsts shares)) w.1 (polynomial w.0) (apart-at w.0) (enough-at w.0) w.3 (radius w.0 w.2)) (fits-dealt w.0 w.2 s h))
 
   -- the elements that were dealt are those of the shares, and none is wrong
-  recovered : AreRecovered t (length D.all) (firsts shares) D.all []
+  recovered : AreElementsOfShares t (length D.all) (firsts shares) D.all []
   recovered = record {
     count = refl;
     elements = λ j l. record {
@@ -170,8 +170,8 @@ module _ (bytes : List ℕ) (t n : ℕ) (before after : Stream) (dealt shares : 
   first-dealt : (first : SecretShare) → slice_get shares 0 ≡ Some first → IsSameAsOne dealt first
   first-dealt first e = subst (IsSameAsOne dealt) (get_or_from_slice_get shares 0 first first e) (chosen 0 first (slice_get_within shares 0 first e))
 
-  as-dealt : (first : SecretShare) → slice_get shares 0 ≡ Some first → (all : List F) (wrong : List ℕ) → AreRecovered first.threshold (length first.values.items) (firsts shares) all wrong
-      → AreRecovered t (length D.all) (firsts shares) all wrong
+  as-dealt : (first : SecretShare) → slice_get shares 0 ≡ Some first → (all : List F) (wrong : List ℕ) → AreElementsOfShares first.threshold (length first.values.items) (firsts shares) all wrong
+      → AreElementsOfShares t (length D.all) (firsts shares) all wrong
   as-dealt first e all wrong r =
       let d = of_deal first (first-dealt first e) in
       rw (d.threshold, d.count) at r
@@ -215,7 +215,7 @@ module _ (bytes : List ℕ) (t n : ℕ) (before after : Stream) (dealt shares : 
   memory-alone (TooFew count needed) h = absurd (omega (arith, enough, (of_deal h.0 (first-dealt h.0 h.1.first_is)).threshold, h.2, h.3, h.4))
   memory-alone TooManyWrong h =
       let d = of_deal h.0 (first-dealt h.0 h.1.first_is) in
-      let none : (all : List F) (wrong : List ℕ) → ¬ (AreRecovered t (length D.all) (firsts shares) all wrong) = rw (d.threshold, d.count) at h.3 in
+      let none : (all : List F) (wrong : List ℕ) → ¬ (AreElementsOfShares t (length D.all) (firsts shares) all wrong) = rw (d.threshold, d.count) at h.3 in
       absurd (none D.all [] recovered)
   memory-alone Changed h =
       let all_is : h.2 ≡ D.all = recovered-once t (length D.all) (firsts shares) h.2 D.all h.3 [] (as-dealt h.0 h.1.first_is h.2 h.3 h.4) recovered in
@@ -236,6 +236,6 @@ module _ (bytes : List ℕ) (t n : ℕ) (before after : Stream) (dealt shares : 
       none [] h = refl
       none (i ∷ wrong) h = absurd (h i (0, omega arith, refl))
 
-pub any-shares : AnySharesCombine
+pub any-shares : AnySharesOfBytesCombine
 any-shares bytes t n before after dealt shares some small D chosen enough =
     (memory-alone bytes t n before after dealt shares some small D chosen enough, only-bytes bytes t n before after dealt shares some small D chosen enough)

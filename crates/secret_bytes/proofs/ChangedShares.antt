@@ -23,11 +23,11 @@ use Rattle.math_base.specs.Polynomials.{value_in_ring}
 use Rattle.math_base.proofs.ElementNumbers.{same_number}
 use Rattle.math_decoding.specs.Polynomials.{difference}
 use Rattle.shared_secret.specs.declared.shares.Share.{Share}
-use Rattle.shared_secret.specs.CorrectedShares.{AreWithinRadius}
+use Rattle.shared_secret.specs.CorrectedShares.{AreSharesWithinRadius}
 use Rattle.shared_secret.specs.Shares.{point, points, values}
 use Rattle.secret_bytes.specs.declared.share.SecretShare.{SecretShare}
 use Rattle.secret_bytes.specs.Columns.{column, share_of}
-use Rattle.secret_bytes.specs.Combined.{AreRecovered}
+use Rattle.secret_bytes.specs.Combined.{AreElementsOfShares}
 use Rattle.secret_bytes.specs.CombiningLaws.{ChangesPassRarely, IsChanged, PassesChanged}
 use Rattle.secret_bytes.specs.Deals.{IsOfDeal}
 use Rattle.secret_bytes.specs.KeyChecks.{added}
@@ -166,15 +166,15 @@ module _ (bytes : List ℕ) (t n : ℕ) (changes : List (ℕ × List F)) (some :
   first-one : IsChanged p.dealt p.combined.first (get_or changes 0 none)
   first-one = subst (λ (s : SecretShare). IsChanged p.dealt s (get_or changes 0 none)) first-is (one 0 p.combined.first (slice_get_within p.shares 0 p.combined.first p.combined.of_deal.first_is))
 
-  pub recovered : AreRecovered t (length p.deal.all) p.shares p.combined.all p.wrong
+  pub recovered : AreElementsOfShares t (length p.deal.all) p.shares p.combined.all p.wrong
   recovered =
       let o = first-one in
       let d = of_deal o.before o.one_of in
       let threshold : p.combined.first.threshold ≡ t = o.threshold ∙ d.threshold in
       let width : length p.combined.first.values.items ≡ length p.deal.all = ap length o.values ∙ added-count o.before.values.items (get_or changes 0 none).1 ∙ d.count in
-      subst (λ (ss : List SecretShare). AreRecovered t (length p.deal.all) ss p.combined.all p.wrong) kept
-      (subst (λ (w : ℕ). AreRecovered t w (firsts p.shares) p.combined.all p.wrong) width
-      (subst (λ (m : ℕ). AreRecovered m (length p.combined.first.values.items) (firsts p.shares) p.combined.all p.wrong) threshold p.combined.recovered))
+      subst (λ (ss : List SecretShare). AreElementsOfShares t (length p.deal.all) ss p.combined.all p.wrong) kept
+      (subst (λ (w : ℕ). AreElementsOfShares t w (firsts p.shares) p.combined.all p.wrong) width
+      (subst (λ (m : ℕ). AreElementsOfShares m (length p.combined.first.values.items) (firsts p.shares) p.combined.all p.wrong) threshold p.combined.recovered))
 
   pub width : length p.combined.all ≡ length p.deal.all
   width = recovered.count
@@ -199,7 +199,7 @@ module _ (bytes : List ℕ) (t n : ℕ) (changes : List (ℕ × List F)) (some :
   points-count j = length-map (column j p.shares) (λ (v : Share F). point goldilocks v.index) ∙ length-map p.shares (share_of j)
 
   -- the polynomial that is decoded, less the dealt one, is within the radius of the changes
-  pub moved : (j : ℕ) (l : j < length p.deal.all) → AreWithinRadius goldilocks t (difference goldilocks (recovered.elements j l).polynomial (dealt-polynomial j)) (changed_column j changes)
+  pub moved : (j : ℕ) (l : j < length p.deal.all) → AreSharesWithinRadius goldilocks t (difference goldilocks (recovered.elements j l).polynomial (dealt-polynomial j)) (changed_column j changes)
   unfolding dealt-polynomial
   moved j l =
       let q = (recovered.elements j l).polynomial in

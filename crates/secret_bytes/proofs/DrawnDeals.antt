@@ -22,7 +22,7 @@ use Rattle.shared_secret.specs.Explanations.{Explains}
 use Rattle.shared_secret.specs.Shares.{AreSharesOf, point}
 use Rattle.secret_bytes.specs.declared.share.SecretShare.{SecretShare}
 use Rattle.secret_bytes.specs.Columns.{column, share_of}
-use Rattle.secret_bytes.specs.DealingLaws.{DealsAreExplained, EachListIsDrawnOnce, ExplanationsAreDealt, accepted, draws}
+use Rattle.secret_bytes.specs.DealingLaws.{DealsOfBytesAreExplained, EachListIsDrawnOnce, ExplanationsAreDealt, accepted, draws}
 use Rattle.secret_bytes.specs.Deals.{AreDealtBytes, IsOfDeal, sample_count}
 use Rattle.secret_bytes.specs.Explanations.{AreExplained, HaveDistinctIndices}
 use Rattle.secret_bytes.specs.Keyed.{element_count}
@@ -194,7 +194,7 @@ module _ (bytes : List ℕ) (t n : ℕ) (before after : Stream) (dealt : List Se
       λ ps e. same_lists ps once.0 (e.count ∙ sym once.1.count) (λ j l. once.2 ps (first-explained ps e enough) j (omega (arith, l, e.count))) in
       at others h ∙ sym (at D.polynomials mine)
 
-pub deals-explained : DealsAreExplained
+pub deals-explained : DealsOfBytesAreExplained
 deals-explained bytes t n before after dealt some small D = record {
   identity = D.deal;
   key = D.keyed.key;

@@ -18,7 +18,7 @@ use Rattle.math_base.specs.Polynomials.{value_in_ring}
 use Rattle.math_decoding.specs.Polynomials.{AreSame}
 use Rattle.secret_bytes.specs.declared.share.SecretShare.{SecretShare}
 use Rattle.shared_secret.specs.declared.shares.Share.{Share}
-use Rattle.shared_secret.specs.CorrectedShares.{AreWithinRadius}
+use Rattle.shared_secret.specs.CorrectedShares.{AreSharesWithinRadius}
 use Rattle.shared_secret.specs.Shares.{point, points, values}
 use Rattle.secret_bytes.specs.Columns.{column, share_of}
 
@@ -56,8 +56,8 @@ points_apart j shares apart small i k x l m h =
         ∙ ap (λ (v : Share F). point goldilocks v.index) (get_or-map (share_of j) shares i d (share_of j d) l)
 
 -- two polynomials within the radius of shares at distinct points are the same
-pub within-once : (t : ℕ) (shares : List (Share F)) (p q : List F) → AreApart same (points goldilocks shares) → t ≤ length shares → AreWithinRadius goldilocks t p shares
-    → AreWithinRadius goldilocks t q shares → AreSame goldilocks q p
+pub within-once : (t : ℕ) (shares : List (Share F)) (p q : List F) → AreApart same (points goldilocks shares) → t ≤ length shares → AreSharesWithinRadius goldilocks t p shares
+    → AreSharesWithinRadius goldilocks t q shares → AreSame goldilocks q p
 within-once t shares p q apart enough h k =
     decoding_once-same equality group commutes ring field (points goldilocks shares) (values shares) q p t apart (omega (arith, enough, length-map shares (λ (v : Share F). point goldilocks v.index))) h k
 

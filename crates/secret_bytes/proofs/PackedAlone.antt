@@ -8,7 +8,7 @@ use Rattle.math_base.specs.Elements.{number, residue}
 use Rattle.math_base.proofs.ElementNumbers.{same_number}
 use Rattle.math_base.proofs.Packing.{map-number-residue}
 use Rattle.secret_bytes.specs.KeyChecks.{check_at}
-use Rattle.secret_bytes.specs.Packings.{AreBytes, ArePacked, number_count, number_of, packed, sevens}
+use Rattle.secret_bytes.specs.Packings.{AreBytes, ArePackedBytes, number_count, number_of_bytes, packed, sevens}
 use Rattle.secret_bytes.proofs.PackedBytes.{number-below}
 use Rattle.secret_bytes.proofs.UnpackedBytes.{packed-length}
 use Rattle.secret_bytes.specs.Keyed.{AreKeyedBy}
@@ -21,18 +21,18 @@ same_numbers (x ∷ xs) [] e = let l : suc (length (map number xs)) ≡ 0 = ap l
 same_numbers (x ∷ xs) (y ∷ ys) e = ap₂ (λ a rest. a ∷ rest) (same_number x y (ap (λ ns. get_or ns 0 0) e)) (same_numbers xs ys (ap (drop 1) e))
 
 -- the elements of bytes are the only ones
-pub packed-alone : (elements others : List F) (bytes : List ℕ) → ArePacked elements bytes → ArePacked others bytes → elements ≡ others
+pub packed-alone : (elements others : List F) (bytes : List ℕ) → ArePackedBytes elements bytes → ArePackedBytes others bytes → elements ≡ others
 packed-alone elements others bytes h k = same_numbers elements others (h.1 ∙ sym k.1)
 
 sevens-below : (k : ℕ) (bytes : List ℕ) → All (λ byte. byte < 256) bytes → All (λ n. n < 2 ^ 63) (sevens k bytes)
 sevens-below zero bytes h = All-nil (λ n. n < 2 ^ 63)
 sevens-below (suc k) bytes h =
     let short : length (take 7 bytes) ≤ 7 = omega (arith, length-take 7 bytes) in
-    let below : number_of (take 7 bytes) < 256 ^ 7 = number-below 7 (take 7 bytes) (All-take (λ byte. byte < 256) 7 bytes h) short in
-    All-cons (λ n. n < 2 ^ 63) (number_of (take 7 bytes)) (sevens k (drop 7 bytes)) (omega (arith, below)) (sevens-below k (drop 7 bytes) (All-drop (λ byte. byte < 256) 7 bytes h))
+    let below : number_of_bytes (take 7 bytes) < 256 ^ 7 = number-below 7 (take 7 bytes) (All-take (λ byte. byte < 256) 7 bytes h) short in
+    All-cons (λ n. n < 2 ^ 63) (number_of_bytes (take 7 bytes)) (sevens k (drop 7 bytes)) (omega (arith, below)) (sevens-below k (drop 7 bytes) (All-drop (λ byte. byte < 256) 7 bytes h))
 
 -- bytes have elements
-pub packed-of : (bytes : List ℕ) → AreBytes bytes → ArePacked (map residue (packed bytes)) bytes
+pub packed-of : (bytes : List ℕ) → AreBytes bytes → ArePackedBytes (map residue (packed bytes)) bytes
 packed-of bytes h =
     let count : length bytes < 2 ^ 63 = omega (arith, h.few) in
     let numbers = sevens (number_count (length bytes)) bytes in

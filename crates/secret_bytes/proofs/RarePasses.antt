@@ -19,7 +19,7 @@ use Rattle.secret_bytes.specs.declared.share.SecretShare.{SecretShare}
 use Rattle.secret_bytes.specs.Combined.{AreCombined}
 use Rattle.secret_bytes.specs.KeyChecks.{added, check_of}
 use Rattle.secret_bytes.specs.Keyed.{AreKeyedBy, element_count}
-use Rattle.secret_bytes.specs.Packings.{ArePacked}
+use Rattle.secret_bytes.specs.Packings.{ArePackedBytes}
 use Rattle.secret_bytes.proofs.KeyedBytes.{keyed-parts}
 use Rattle.secret_bytes.proofs.PackedAlone.{packed-alone}
 use Rattle.secret_bytes.proofs.SeenChanges.{few_keys}
@@ -84,7 +84,7 @@ added-somewhere (x ∷ xs) (d ∷ ds) e =
     plus-zero x d h = equality.transitive (sum x d) (sum x (residue 0)) x (group.respects_sum x x d (residue 0) (equality.reflexive x) h)
         (equality.transitive (sum x (residue 0)) (sum (residue 0) x) x (group.commutative x (residue 0)) (group.identity x))
 
-module _ (bytes : List ℕ) (ds es : List F) (packed : ArePacked es bytes) (count : length ds ≡ element_count (length bytes)) where
+module _ (bytes : List ℕ) (ds es : List F) (packed : ArePackedBytes es bytes) (count : length ds ≡ element_count (length bytes)) where
   low : List F
   low = take (length es) ds
 

@@ -13,11 +13,11 @@ use Rattle.math_base.specs.Polynomials.{value_in_ring}
 use Rattle.math_decoding.specs.Polynomials.{AreSame}
 use Rattle.secret_bytes.specs.declared.share.SecretShare.{SecretShare}
 use Rattle.shared_secret.specs.declared.shares.Share.{Share}
-use Rattle.shared_secret.specs.CorrectedShares.{AreWithinRadius, IsCorrected}
+use Rattle.shared_secret.specs.CorrectedShares.{AreSharesWithinRadius, IsCorrectedSecret}
 use Rattle.shared_secret.specs.Shares.{AreAtDistinctPoints, point, points, values}
 use Rattle.secret_bytes.specs.Columns.{column, share_of}
-use Rattle.secret_bytes.specs.Combined.{AreRecovered, Fits, IsWrong, is_outside, others}
-use Rattle.secret_bytes.specs.Passes.{AreElements, AreReady, IsPlain, indices_at}
+use Rattle.secret_bytes.specs.Combined.{AreElementsOfShares, FitsShare, IsWrong, is_outside, others}
+use Rattle.secret_bytes.specs.Passes.{AreFirstElements, AreReady, IsPlain, indices_at}
 use Rattle.secret_bytes.proofs.ElementPoints.{point-number, points_apart, values-same, within-once}
 use Rattle.secret_bytes.proofs.LeftShares.{first_place, first_place-at, left-count, others-each, others-has, others-more, others-none, outside-cases, pairs-head, pairs-tail, same-share}
 
@@ -42,19 +42,19 @@ value-of j shares i s x l e =
 
 -- that the value of p at point i is value i of the column says that p fits share i
 fits-from : (j : ℕ) (shares : List SecretShare) (p : List F) (i : ℕ) (s : SecretShare) → i < length shares → get_or shares i s ≡ s
-    → same (value_in_ring goldilocks p (get_or (points goldilocks (column j shares)) i (residue 0))) (get_or (values (column j shares)) i (residue 0)) → Fits j p s
+    → same (value_in_ring goldilocks p (get_or (points goldilocks (column j shares)) i (residue 0))) (get_or (values (column j shares)) i (residue 0)) → FitsShare j p s
 fits-from j shares p i s l e h =
     ap number (sym (value-of j shares i s (residue 0) l e)) ∙ sym h ∙ ap (λ x. number (value_in_ring goldilocks p x)) (point-of j shares i s (residue 0) l e)
 
-fits-to : (j : ℕ) (shares : List SecretShare) (p : List F) (i : ℕ) (s : SecretShare) → i < length shares → get_or shares i s ≡ s → Fits j p s
+fits-to : (j : ℕ) (shares : List SecretShare) (p : List F) (i : ℕ) (s : SecretShare) → i < length shares → get_or shares i s ≡ s → FitsShare j p s
     → same (value_in_ring goldilocks p (get_or (points goldilocks (column j shares)) i (residue 0))) (get_or (values (column j shares)) i (residue 0))
 fits-to j shares p i s l e h =
     ap (λ x. number (value_in_ring goldilocks p x)) (point-of j shares i s (residue 0) l e) ∙ sym h ∙ ap number (sym (value-of j shares i s (residue 0) l e))
 
-pub fits-cases : (j : ℕ) (p : List F) (s : SecretShare) → (Fits j p s) ⊎ ¬ (Fits j p s)
+pub fits-cases : (j : ℕ) (p : List F) (s : SecretShare) → (FitsShare j p s) ⊎ ¬ (FitsShare j p s)
 fits-cases j p s = cases_eq (number (get_or s.values.items j (residue 0))) (number (value_in_ring goldilocks p (point goldilocks s.index)))
 
-pub fits-same : (j : ℕ) (p q : List F) (s : SecretShare) → AreSame goldilocks p q → Fits j p s → Fits j q s
+pub fits-same : (j : ℕ) (p q : List F) (s : SecretShare) → AreSame goldilocks p q → FitsShare j p s → FitsShare j q s
 fits-same j p q s e h = h ∙ values-same p q (point goldilocks s.index) e
 
 abbrev pub AreDistinct : List SecretShare → Type 0
@@ -65,7 +65,7 @@ contains-map f xs i (k, l, e) = (k, omega (arith, l, length-map xs f), get_or-ma
 
 -- what fits all shares but those of few indices is within the radius
 pub within : (t j : ℕ) (shares : List SecretShare) (wrong : List ℕ) (p : List F) → AreDistinct shares → length p ≤ t → length wrong + length wrong + t ≤ length shares
-    → All (Fits j p) (others wrong shares) → AreWithinRadius goldilocks t p (column j shares)
+    → All (FitsShare j p) (others wrong shares) → AreSharesWithinRadius goldilocks t p (column j shares)
 within t j shares wrong p apart short few fits = (
   short,
   map (first_place shares) wrong,
@@ -76,17 +76,17 @@ within t j shares wrong p apart short few fits = (
       let here : Contains shares s.0 = (i, below, s.1) in
       let place : first_place shares s.0.index ≡ i = ap (λ (u : SecretShare). first_place shares u.index) (sym s.1) ∙ first_place-at shares i s.0 apart below in
       let out : ¬ (Contains wrong s.0.index) = λ h. n (subst (Contains (map (first_place shares) wrong)) place (contains-map (first_place shares) wrong s.0.index h)) in
-      fits-to j shares p i s.0 below s.1 (All-contains (Fits j p) (others wrong shares) s.0 fits (others-has wrong shares s.0 here out)),
+      fits-to j shares p i s.0 below s.1 (All-contains (FitsShare j p) (others wrong shares) s.0 fits (others-has wrong shares s.0 here out)),
 )
 
 -- a share at a place that is not wrong fits what was decoded, and one at a wrong place does not
-decoded-fits : (t j : ℕ) (shares : List SecretShare) (a : F) (places : List ℕ) (h : IsCorrected goldilocks t (column j shares) a places) (i : ℕ) (s : SecretShare) → i < length shares
-    → get_or shares i s ≡ s → ¬ (Contains places i) → Fits j h.polynomial s
+decoded-fits : (t j : ℕ) (shares : List SecretShare) (a : F) (places : List ℕ) (h : IsCorrectedSecret goldilocks t (column j shares) a places) (i : ℕ) (s : SecretShare) → i < length shares
+    → get_or shares i s ≡ s → ¬ (Contains places i) → FitsShare j h.polynomial s
 decoded-fits t j shares a places h i s l e n =
     fits-from j shares h.polynomial i s l e (h.decoded.places.agree i (omega (arith, l, column-count j shares)) n)
 
-decoded-differs : (t j : ℕ) (shares : List SecretShare) (a : F) (places : List ℕ) (h : IsCorrected goldilocks t (column j shares) a places) (k : ℕ) (s : SecretShare) → k < length places
-    → get_or shares (get_or places k 0) s ≡ s → ¬ (Fits j h.polynomial s)
+decoded-differs : (t j : ℕ) (shares : List SecretShare) (a : F) (places : List ℕ) (h : IsCorrectedSecret goldilocks t (column j shares) a places) (k : ℕ) (s : SecretShare) → k < length places
+    → get_or shares (get_or places k 0) s ≡ s → ¬ (FitsShare j h.polynomial s)
 decoded-differs t j shares a places h k s l e f =
     let below : get_or places k 0 < length shares = omega (arith, h.decoded.places.below k 0 l, column-count j shares) in
     h.decoded.places.differ k 0 l (fits-to j shares h.polynomial (get_or places k 0) s below e f)
@@ -120,7 +120,7 @@ small t width shares ready k d l = (ready.plain k d l).small
 
 -- where all elements fit, they are those of the shares, and the indices those of the wrong ones
 pub progress-end : (t width : ℕ) (shares kept : List SecretShare) (wrong : List ℕ) (all : List F) → AreReady t width shares → IsProgress t width shares kept wrong
-    → length all ≡ width → ((j : ℕ) → j < width → IsCorrected goldilocks t (column j kept) (get_or all j (residue 0)) []) → AreRecovered t width shares all wrong
+    → length all ≡ width → ((j : ℕ) → j < width → IsCorrectedSecret goldilocks t (column j kept) (get_or all j (residue 0)) []) → AreElementsOfShares t width shares all wrong
 progress-end t width shares kept wrong all ready g count fit =
     record {
       count = count;
@@ -134,19 +134,19 @@ progress-end t width shares kept wrong all ready g count fit =
             λ h. elim (outside-cases wrong s.index) as (λ _. Contains wrong s.index) [
               | inl there ↦ there
               | inr none ↦
-                  let fits = All-contains (Fits h.0 (fit h.0 h.2).polynomial) (others wrong shares) s (fits-all h.0 h.2) (others-has wrong shares s here none.1) in
+                  let fits = All-contains (FitsShare h.0 (fit h.0 h.2).polynomial) (others wrong shares) s (fits-all h.0 h.2) (others-has wrong shares s here none.1) in
                   absurd (h.4 (fits-same h.0 (fit h.0 h.2).polynomial h.1 s (within-once t (column h.0 shares) h.1 (fit h.0 h.2).polynomial (apart-at h.0) (enough-at h.0) h.3 (radius h.0 h.2)) fits))
             ],
           );
       among = λ k d l. let w = g.found k d l in (w.0, w.1, w.2);
     }
   where
-    fits-all : (j : ℕ) (l : j < width) → All (Fits j (fit j l).polynomial) (others wrong shares)
+    fits-all : (j : ℕ) (l : j < width) → All (FitsShare j (fit j l).polynomial) (others wrong shares)
     fits-all j l =
-        subst (All (Fits j (fit j l).polynomial)) g.left
+        subst (All (FitsShare j (fit j l).polynomial)) g.left
         (λ k d m. decoded-fits t j kept (get_or all j (residue 0)) [] (fit j l) k (get_or kept k d) m (get_or_default kept k (get_or kept k d) d m) (λ n. absurd (omega (arith, n.1))))
 
-    radius : (j : ℕ) (l : j < width) → AreWithinRadius goldilocks t (fit j l).polynomial (column j shares)
+    radius : (j : ℕ) (l : j < width) → AreSharesWithinRadius goldilocks t (fit j l).polynomial (column j shares)
     radius j l = within t j shares wrong (fit j l).polynomial ready.apart (omega (arith, (fit j l).decoded.number)) g.few (fits-all j l)
 
     apart-at : (j : ℕ) → AreApart same (points goldilocks (column j shares))
@@ -155,25 +155,25 @@ progress-end t width shares kept wrong all ready g count fit =
     enough-at : (j : ℕ) → t ≤ length (column j shares)
     enough-at j = omega (arith, ready.enough, length-map shares (share_of j))
 
-    only : (j : ℕ) (l : j < width) (q : List F) → AreWithinRadius goldilocks t q (column j shares) → AreSame goldilocks q (fit j l).polynomial
+    only : (j : ℕ) (l : j < width) (q : List F) → AreSharesWithinRadius goldilocks t q (column j shares) → AreSame goldilocks q (fit j l).polynomial
     only j l q h = within-once t (column j shares) (fit j l).polynomial q (apart-at j) (enough-at j) (radius j l) h
 
 -- what was found of the first elements stands where more shares are left out
-pub elements-left : (t width : ℕ) (shares left : List SecretShare) (wrong : List ℕ) (all : List F) → AreReady t width left → left ≡ others wrong shares → AreElements t width shares all
-    → AreElements t width left all
+pub elements-left : (t width : ℕ) (shares left : List SecretShare) (wrong : List ℕ) (all : List F) → AreReady t width left → left ≡ others wrong shares → AreFirstElements t width shares all
+    → AreFirstElements t width left all
 elements-left t width shares left wrong all ready e h = record { count = h.count; fit = λ j l. corrected j (get_or all j (residue 0)) (h.fit j l) }
   where
-    fits : (j : ℕ) (a : F) (c : IsCorrected goldilocks t (column j shares) a []) → All (Fits j c.polynomial) left
+    fits : (j : ℕ) (a : F) (c : IsCorrectedSecret goldilocks t (column j shares) a []) → All (FitsShare j c.polynomial) left
     fits j a c =
-        subst (All (Fits j c.polynomial)) (sym e)
-        (All-filter (λ (s : SecretShare). is_outside wrong s.index) (Fits j c.polynomial) shares
+        subst (All (FitsShare j c.polynomial)) (sym e)
+        (All-filter (λ (s : SecretShare). is_outside wrong s.index) (FitsShare j c.polynomial) shares
         (λ k d m. decoded-fits t j shares a [] c k (get_or shares k d) m (get_or_default shares k (get_or shares k d) d m) (λ n. absurd (omega (arith, n.1)))))
 
-    corrected : (j : ℕ) (a : F) → IsCorrected goldilocks t (column j shares) a [] → IsCorrected goldilocks t (column j left) a []
+    corrected : (j : ℕ) (a : F) → IsCorrectedSecret goldilocks t (column j shares) a [] → IsCorrectedSecret goldilocks t (column j left) a []
     corrected j a c =
         let enough : t ≤ length (column j left) = omega (arith, ready.enough, length-map left (share_of j)) in
-        let radius : AreWithinRadius goldilocks t c.polynomial (column j left) =
-        within t j left [] c.polynomial ready.apart (omega (arith, c.decoded.number)) (omega (arith, ready.enough)) (subst (All (Fits j c.polynomial)) (sym (others-none left)) (fits j a c)) in
+        let radius : AreSharesWithinRadius goldilocks t c.polynomial (column j left) =
+        within t j left [] c.polynomial ready.apart (omega (arith, c.decoded.number)) (omega (arith, ready.enough)) (subst (All (FitsShare j c.polynomial)) (sym (others-none left)) (fits j a c)) in
         record {
           polynomial = c.polynomial;
           decoded = record {
@@ -185,7 +185,7 @@ elements-left t width shares left wrong all ready e h = record { count = h.count
               agree = λ i m n.
                   let below : i < length left = omega (arith, m, column-count j left) in
                   let s = share-at left i below in
-                  fits-to j left c.polynomial i s.0 below s.1 (All-contains (Fits j c.polynomial) left s.0 (fits j a c) (i, below, s.1));
+                  fits-to j left c.polynomial i s.0 below s.1 (All-contains (FitsShare j c.polynomial) left s.0 (fits j a c) (i, below, s.1));
             };
             few = omega (arith, ready.enough, column-count j left);
             only = λ q k. within-once t (column j left) c.polynomial q (points_apart j left ready.apart (small t width left ready)) enough radius k;
@@ -239,7 +239,7 @@ rising-all xs h i (suc k) l m =
 
 -- one look that finds the shares at these places wrong
 module _ (t width : ℕ) (shares kept : List SecretShare) (wrong : List ℕ) (j : ℕ) (a : F) (places : List ℕ) (ready : AreReady t width shares) (g : IsProgress t width shares kept wrong)
-    (l : j < width) (h : IsCorrected goldilocks t (column j kept) a places) where
+    (l : j < width) (h : IsCorrectedSecret goldilocks t (column j kept) a places) where
   abbrev pub more : List ℕ
   more = indices_at kept places
 
@@ -251,7 +251,7 @@ module _ (t width : ℕ) (shares kept : List SecretShare) (wrong : List ℕ) (j 
   kept-each s m = All-contains (λ (u : SecretShare). Contains shares u × ¬ (Contains wrong u.index)) (others wrong shares) s (others-each wrong shares) (subst (λ us. Contains us s) g.left m)
 
   -- the share at a wrong place
-  pub at-wrong : (k : ℕ) → k < length places → (s : SecretShare) × Contains kept s × (get_or more k 0 ≡ s.index) × (get_or kept (get_or places k 0) s ≡ s) × ¬ (Fits j h.polynomial s)
+  pub at-wrong : (k : ℕ) → k < length places → (s : SecretShare) × Contains kept s × (get_or more k 0 ≡ s.index) × (get_or kept (get_or places k 0) s ≡ s) × ¬ (FitsShare j h.polynomial s)
   at-wrong k m =
       let i = get_or places k 0 in
       let below : i < length kept = omega (arith, h.decoded.places.below k 0 m, column-count j kept) in
@@ -288,9 +288,9 @@ module _ (t width : ℕ) (shares kept : List SecretShare) (wrong : List ℕ) (j 
       at-default u s k m = get_or_default kept (get_or places k 0) s u (omega (arith, h.decoded.places.below k 0 m, column-count j kept))
 
   -- what was decoded fits all shares but those that are found
-  pub fits-more : All (Fits j h.polynomial) (others (wrong ++ more) shares)
+  pub fits-more : All (FitsShare j h.polynomial) (others (wrong ++ more) shares)
   fits-more =
-      subst (All (Fits j h.polynomial)) (ap (others (wrong ++ more)) g.left ∙ others-more wrong more shares)
+      subst (All (FitsShare j h.polynomial)) (ap (others (wrong ++ more)) g.left ∙ others-more wrong more shares)
       (λ k d m.
       let s = get_or (others (wrong ++ more) kept) k d in
       let each = others-each (wrong ++ more) kept k d m in
@@ -303,7 +303,7 @@ module _ (t width : ℕ) (shares kept : List SecretShare) (wrong : List ℕ) (j 
   -- the search goes on without them
   pub progress-next : (left : List SecretShare) → length (wrong ++ more) + length (wrong ++ more) + t ≤ length shares → left ≡ others (wrong ++ more) kept → IsProgress t width shares left (wrong ++ more)
   progress-next left few e =
-      let radius : AreWithinRadius goldilocks t h.polynomial (column j shares) = within t j shares (wrong ++ more) h.polynomial ready.apart (omega (arith, h.decoded.number)) few fits-more in
+      let radius : AreSharesWithinRadius goldilocks t h.polynomial (column j shares) = within t j shares (wrong ++ more) h.polynomial ready.apart (omega (arith, h.decoded.number)) few fits-more in
       record {
         left = e ∙ ap (others (wrong ++ more)) g.left ∙ others-more wrong more shares;
         few = few;

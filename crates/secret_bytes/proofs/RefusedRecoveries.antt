@@ -6,11 +6,11 @@ use Rattle.std.proofs.lemmas.List.{get_or_default}
 use Rattle.std.proofs.lemmas.List.Elements.{All-append, All-contains, All-head, All-tail}
 use Rattle.math_base.specs.declared.fields.goldilocks.F.{F}
 use Rattle.secret_bytes.specs.declared.share.SecretShare.{SecretShare}
-use Rattle.shared_secret.specs.CorrectedShares.{AreWithinRadius, IsCorrected}
+use Rattle.shared_secret.specs.CorrectedShares.{AreSharesWithinRadius, IsCorrectedSecret}
 use Rattle.math_decoding.specs.Polynomials.{AreSame}
 use Rattle.math_base.specs.Elements.{goldilocks}
 use Rattle.secret_bytes.specs.Columns.{column}
-use Rattle.secret_bytes.specs.Combined.{AreRecovered, Fits, IsWrong, is_outside, others}
+use Rattle.secret_bytes.specs.Combined.{AreElementsOfShares, FitsShare, IsWrong, is_outside, others}
 use Rattle.secret_bytes.specs.Passes.{AreReady, indices_at}
 use Rattle.secret_bytes.proofs.LeftShares.{filter-has, left-count, others-each, outside-cases, pairs-head, pairs-tail}
 use Rattle.secret_bytes.proofs.RecoveredShares.{IsProgress, apart-more, at-wrong, fits-cases, fits-same, kept-each, more-count, progress-ready, within}
@@ -69,7 +69,7 @@ without-count (w ∷ ws) all apart among =
         ]
 
 module _ (t width : ℕ) (shares kept : List SecretShare) (wrong : List ℕ) (ready : AreReady t width shares) (g : IsProgress t width shares kept wrong)
-    (all : List F) (ws : List ℕ) (r : AreRecovered t width shares all ws) where
+    (all : List F) (ws : List ℕ) (r : AreElementsOfShares t width shares all ws) where
   -- the indices that were found are those of wrong shares
   found-among : All (Contains ws) wrong
   found-among k d l =
@@ -77,16 +77,16 @@ module _ (t width : ℕ) (shares kept : List SecretShare) (wrong : List ℕ) (re
       subst (Contains ws) w.2 ((All-contains (λ (s : SecretShare). (Contains ws s.index → IsWrong t width shares s) × (IsWrong t width shares s → Contains ws s.index)) shares w.0 r.exactly w.1).1 w.3)
 
   -- each other share fits the polynomial of each element
-  fits-right : (j : ℕ) (l : j < width) (s : SecretShare) → Contains shares s → ¬ (Contains ws s.index) → Fits j (r.elements j l).polynomial s
+  fits-right : (j : ℕ) (l : j < width) (s : SecretShare) → Contains shares s → ¬ (Contains ws s.index) → FitsShare j (r.elements j l).polynomial s
   fits-right j l s here n =
-      elim (fits-cases j (r.elements j l).polynomial s) as (λ _. Fits j (r.elements j l).polynomial s) [
+      elim (fits-cases j (r.elements j l).polynomial s) as (λ _. FitsShare j (r.elements j l).polynomial s) [
         | inl f ↦ f
         | inr o ↦ absurd (n ((All-contains (λ (s : SecretShare). (Contains ws s.index → IsWrong t width shares s) × (IsWrong t width shares s → Contains ws s.index)) shares s r.exactly here).1
             (j, (r.elements j l).polynomial, l, (r.elements j l).within, o)))
       ]
 
   -- so it is within the radius of those that are left
-  within-left : (j : ℕ) (l : j < width) → AreWithinRadius goldilocks t (r.elements j l).polynomial (column j kept)
+  within-left : (j : ℕ) (l : j < width) → AreSharesWithinRadius goldilocks t (r.elements j l).polynomial (column j kept)
   within-left j l =
       let rest = filter (is_outside wrong) ws in
       let fewer = without-count wrong ws g.apart found-among in
@@ -105,11 +105,11 @@ module _ (t width : ℕ) (shares kept : List SecretShare) (wrong : List ℕ) (re
       fits-right j l s of_shares.0 (λ n. each.1 (filter-has (is_outside wrong) ws s.index n outside)))
 
   -- no element is without a polynomial within the radius
-  pub not-none : (j : ℕ) → j < width → ¬ ((p : List F) → ¬ (AreWithinRadius goldilocks t p (column j kept)))
+  pub not-none : (j : ℕ) → j < width → ¬ ((p : List F) → ¬ (AreSharesWithinRadius goldilocks t p (column j kept)))
   not-none j l none = none (r.elements j l).polynomial (within-left j l)
 
   -- and not too many shares are found
-  pub not-more : (j : ℕ) (a : F) (places : List ℕ) (l : j < width) (h : IsCorrected goldilocks t (column j kept) a places)
+  pub not-more : (j : ℕ) (a : F) (places : List ℕ) (l : j < width) (h : IsCorrectedSecret goldilocks t (column j kept) a places)
       → ¬ (length shares < length (wrong ++ indices_at kept places) + length (wrong ++ indices_at kept places) + t)
   not-more j a places l h many =
       let same_polynomial : AreSame goldilocks (r.elements j l).polynomial h.polynomial = h.decoded.only (r.elements j l).polynomial (within-left j l) in

@@ -6,13 +6,13 @@ use Rattle.std.proofs.lemmas.Bool.{cases_lt}
 use Rattle.std.proofs.lemmas.List.{get_or-take, get_or_default, length-take-le}
 use Rattle.math_base.specs.declared.fields.goldilocks.F.{F}
 use Rattle.secret_bytes.specs.declared.share.SecretShare.{SecretShare}
-use Rattle.secret_bytes.specs.Settled.{HaveSameValues, IsContradicted, IsDueSettling, IsFault, IsPlaceOf, StandBelow}
+use Rattle.secret_bytes.specs.Settled.{HaveEqualValues, IsContradicted, IsDueSettling, IsFault, IsPlaceOf, StandBelow}
 use Rattle.secret_bytes.specs.declared.error.CombineError.{CombineError}
 use Rattle.secret_bytes.specs.declared.error.CombineError.TheVariants.{AnotherDeal, AnotherLength, AnotherThreshold, Changed, Memory, NoShare, Repeated, TooFew, TooManyWrong, Unsound}
 
 -- a share with the values of the first of its index has those of all of its index before it, which stand
 pub values-hold : (t : ℕ) (identity : F) (width : ℕ) (shares : List SecretShare) (n : ℕ) (s : SecretShare) (first : Option ℕ) → n ≤ length shares → StandBelow t identity width shares n
-    → IsPlaceOf shares n s.index first → IfSome first (λ p. HaveSameValues (get_or shares p s) s) → All (λ u. u.index ≡ s.index → HaveSameValues u s) (take n shares)
+    → IsPlaceOf shares n s.index first → IfSome first (λ p. HaveEqualValues (get_or shares p s) s) → All (λ u. u.index ≡ s.index → HaveEqualValues u s) (take n shares)
 values-hold t identity width shares n s None fits stand h same = λ k d l e.
     let m : k < n = omega (arith, l, length-take-le n shares fits) in
     let at : get_or (take n shares) k d ≡ get_or shares k d = get_or-take n shares k d m in
@@ -21,15 +21,15 @@ values-hold t identity width shares n s (Some p) fits stand h same = λ k d l e.
     let m : k < n = omega (arith, l, length-take-le n shares fits) in
     let at : get_or (take n shares) k d ≡ get_or shares k d = get_or-take n shares k d m in
     let index : (get_or shares k d).index ≡ s.index = ap (λ (u : SecretShare). u.index) (sym at) ∙ e in
-    let goal : HaveSameValues (get_or shares k d) s =
-    elim (cases_lt k p) as (λ _. HaveSameValues (get_or shares k d) s) [
+    let goal : HaveEqualValues (get_or shares k d) s =
+    elim (cases_lt k p) as (λ _. HaveEqualValues (get_or shares k d) s) [
       | inl before ↦
           let some : k < length (take p shares) = omega (arith, before, h.0, fits, length-take-le p shares (let w : p ≤ length shares = omega (arith, h.0, fits) in w)) in
           let there : get_or (take p shares) k d ≡ get_or shares k d = get_or-take p shares k d before in
           let stands = (stand p s h.0).values k d some (ap (λ (u : SecretShare). u.index) there ∙ index ∙ sym (h.1 s)) in
           ap (λ (u : SecretShare). u.values.items) (sym there) ∙ stands ∙ same
       | inr after ↦
-          elim (cases_lt p k) as (λ _. HaveSameValues (get_or shares k d) s) [
+          elim (cases_lt p k) as (λ _. HaveEqualValues (get_or shares k d) s) [
             | inl before ↦
                 let some : p < length (take k shares) = omega (arith, before, m, fits, length-take-le k shares (let w : k ≤ length shares = omega (arith, m, fits) in w)) in
                 let there : get_or (take k shares) p s ≡ get_or shares p s = get_or-take k shares p s before in
@@ -45,7 +45,7 @@ values-hold t identity width shares n s (Some p) fits stand h same = λ k d l e.
 
 -- a share with other values than the first of its index is contradicted
 pub contradicted : (shares : List SecretShare) (n : ℕ) (s : SecretShare) (first : Option ℕ) → n ≤ length shares → IsPlaceOf shares n s.index first
-    → IsSomeAnd first (λ p. HaveSameValues (get_or shares p s) s → ⊥) → IsContradicted (take n shares) s
+    → IsSomeAnd first (λ p. HaveEqualValues (get_or shares p s) s → ⊥) → IsContradicted (take n shares) s
 contradicted shares n s None fits h differ = absurd differ
 contradicted shares n s (Some p) fits h differ =
     let u = get_or shares p s in

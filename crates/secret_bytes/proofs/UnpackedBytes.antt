@@ -6,7 +6,7 @@ use Rattle.std.proofs.lemmas.List.{length-append, length-drop, length-map, lengt
 use Rattle.std.proofs.lemmas.List.Elements.{All-append, All-cons, All-drop, All-head, All-nil, All-tail, All-take}
 use Rattle.math_base.specs.declared.fields.goldilocks.F.{F}
 use Rattle.math_base.specs.Elements.{number}
-use Rattle.secret_bytes.specs.Packings.{AllFit, ArePacked, lowest_bytes, number_count, number_of, packed, sevens, unpacked, without_lowest}
+use Rattle.secret_bytes.specs.Packings.{AllFit, ArePackedBytes, lowest_bytes, number_count, number_of_bytes, packed, sevens, unpacked, without_lowest}
 use Rattle.secret_bytes.proofs.PackedBytes.{first_seven, after_seven}
 
 pub lowest-step : (k n : ℕ) → 0 < k → lowest_bytes k n ≡ n % 256 ∷ lowest_bytes (k - 1) (n / 256)
@@ -26,24 +26,24 @@ lowest-below zero n = All-nil (λ byte. byte < 256)
 lowest-below (suc k) n = All-cons (λ byte. byte < 256) (n % 256) (lowest_bytes k (n / 256)) (omega arith) (lowest-below k (n / 256))
 
 -- the lowest bytes of a number with no more are those of it
-number_of-lowest : (k n : ℕ) → without_lowest k n ≡ 0 → number_of (lowest_bytes k n) ≡ n
+number_of-lowest : (k n : ℕ) → without_lowest k n ≡ 0 → number_of_bytes (lowest_bytes k n) ≡ n
 number_of-lowest zero n e = sym e
-number_of-lowest (suc k) n e = let i : number_of (lowest_bytes k (n / 256)) ≡ n / 256 = number_of-lowest k (n / 256) e in omega (arith, i)
+number_of-lowest (suc k) n e = let i : number_of_bytes (lowest_bytes k (n / 256)) ≡ n / 256 = number_of-lowest k (n / 256) e in omega (arith, i)
 
 -- bytes are the lowest ones of the number that they write, and it has no more
-lowest-number_of : (bytes : List ℕ) → All (λ byte. byte < 256) bytes → lowest_bytes (length bytes) (number_of bytes) ≡ bytes
+lowest-number_of : (bytes : List ℕ) → All (λ byte. byte < 256) bytes → lowest_bytes (length bytes) (number_of_bytes bytes) ≡ bytes
 lowest-number_of [] h = refl
 lowest-number_of (b ∷ bytes) h =
     let j : b < 256 = All-head (λ byte. byte < 256) b bytes h in
-    let low : (b + 256 * number_of bytes) % 256 ≡ b = omega (arith, j) in
-    let high : (b + 256 * number_of bytes) / 256 ≡ number_of bytes = omega (arith, j) in
+    let low : (b + 256 * number_of_bytes bytes) % 256 ≡ b = omega (arith, j) in
+    let high : (b + 256 * number_of_bytes bytes) / 256 ≡ number_of_bytes bytes = omega (arith, j) in
     ap₂ (λ x y. x ∷ lowest_bytes (length bytes) y) low high ∙ ap (λ x. b ∷ x) (lowest-number_of bytes (All-tail (λ byte. byte < 256) b bytes h))
 
-without-number_of : (bytes : List ℕ) → All (λ byte. byte < 256) bytes → without_lowest (length bytes) (number_of bytes) ≡ 0
+without-number_of : (bytes : List ℕ) → All (λ byte. byte < 256) bytes → without_lowest (length bytes) (number_of_bytes bytes) ≡ 0
 without-number_of [] h = refl
 without-number_of (b ∷ bytes) h =
     let j : b < 256 = All-head (λ byte. byte < 256) b bytes h in
-    let high : (b + 256 * number_of bytes) / 256 ≡ number_of bytes = omega (arith, j) in
+    let high : (b + 256 * number_of_bytes bytes) / 256 ≡ number_of_bytes bytes = omega (arith, j) in
     ap (λ x. without_lowest (length bytes) x) high ∙ without-number_of bytes (All-tail (λ byte. byte < 256) b bytes h)
 
 -- what is unpacked is so many bytes
@@ -70,7 +70,7 @@ sevens-unpacked count (n ∷ numbers) l h =
     let few : length front ≡ min 7 count = length-lowest (min 7 count) n in
     let short : length front ≤ 7 = omega (arith, few) in
     let full : 0 < length after → length front ≡ 7 = λ more. omega (arith, few, long, more) in
-    ap₂ (λ x y. number_of x ∷ sevens (length numbers) y) (first_seven front after short full) (after_seven front after short full)
+    ap₂ (λ x y. number_of_bytes x ∷ sevens (length numbers) y) (first_seven front after short full) (after_seven front after short full)
     ∙ ap₂ (λ x y. x ∷ y) (number_of-lowest (min 7 count) n h.0) (sevens-unpacked (count - 7) numbers shorter h.1)
 
 -- the numbers of bytes fit, and the bytes are unpacked from them
@@ -85,13 +85,13 @@ unpacked-sevens (suc k) count bytes h l m =
     let long : length after ≡ count - 7 = length-drop 7 bytes ∙ ap (λ n. n - 7) l in
     let small : All (λ byte. byte < 256) front = All-take (λ byte. byte < 256) 7 bytes h in
     let rest = unpacked-sevens k (count - 7) after (All-drop (λ byte. byte < 256) 7 bytes h) long (omega (arith, m)) in (
-      (ap (λ x. without_lowest x (number_of front)) (sym few) ∙ without-number_of front small, rest.0),
-      ap₂ (λ x y. x ++ y) (ap (λ x. lowest_bytes x (number_of front)) (sym few) ∙ lowest-number_of front small) rest.1 ∙ take-append-drop 7 bytes,
+      (ap (λ x. without_lowest x (number_of_bytes front)) (sym few) ∙ without-number_of front small, rest.0),
+      ap₂ (λ x y. x ++ y) (ap (λ x. lowest_bytes x (number_of_bytes front)) (sym few) ∙ lowest-number_of front small) rest.1 ∙ take-append-drop 7 bytes,
     )
 
 -- elements whose numbers fit are those of what is unpacked from them
 pub packed-unpacked : (elements rest : List F) (a : F) (count : ℕ) (bytes : List ℕ) → elements ≡ a ∷ rest → number a ≡ count → count < 4294967296 → length rest ≡ number_count count
-    → bytes ≡ unpacked count (map number rest) → AllFit count (map number rest) → ArePacked elements bytes
+    → bytes ≡ unpacked count (map number rest) → AllFit count (map number rest) → ArePackedBytes elements bytes
 packed-unpacked elements rest a count bytes e n few l u h =
     let numbers = map number rest in
     let long : length numbers ≡ number_count count = length-map rest number ∙ l in
@@ -102,7 +102,7 @@ packed-unpacked elements rest a count bytes e n few l u h =
     )
 
 -- the parts of elements that are those of bytes
-pub packed-parts : (elements rest : List F) (a : F) (bytes : List ℕ) → elements ≡ a ∷ rest → ArePacked elements bytes
+pub packed-parts : (elements rest : List F) (a : F) (bytes : List ℕ) → elements ≡ a ∷ rest → ArePackedBytes elements bytes
     → (number a ≡ length bytes) × (map number rest ≡ sevens (number_count (length bytes)) bytes)
 packed-parts elements rest a bytes e h =
     let both : number a ∷ map number rest ≡ packed bytes = ap (map number) (sym e) ∙ h.1 in
@@ -114,13 +114,13 @@ length-sevens zero bytes = refl
 length-sevens (suc k) bytes = ap suc (length-sevens k (drop 7 bytes))
 
 -- as many as hold them
-pub packed-count : (elements rest : List F) (a : F) (bytes : List ℕ) → elements ≡ a ∷ rest → ArePacked elements bytes → length rest ≡ number_count (number a)
+pub packed-count : (elements rest : List F) (a : F) (bytes : List ℕ) → elements ≡ a ∷ rest → ArePackedBytes elements bytes → length rest ≡ number_count (number a)
 packed-count elements rest a bytes e h =
     let p = packed-parts elements rest a bytes e h in
     sym (length-map rest number) ∙ ap length p.1 ∙ length-sevens (number_count (length bytes)) bytes ∙ ap number_count (sym p.0)
 
 -- their numbers fit, and the bytes are unpacked from them
-pub packed-fit : (elements rest : List F) (a : F) (bytes : List ℕ) → elements ≡ a ∷ rest → ArePacked elements bytes
+pub packed-fit : (elements rest : List F) (a : F) (bytes : List ℕ) → elements ≡ a ∷ rest → ArePackedBytes elements bytes
     → AllFit (number a) (map number rest) × (unpacked (number a) (map number rest) ≡ bytes)
 packed-fit elements rest a bytes e h =
     let p = packed-parts elements rest a bytes e h in
@@ -141,13 +141,13 @@ some-found (Ok None) P Q N f n h k = n k
 some-found (Err e) P Q N f n h k = tt
 
 -- elements of bytes are one more than hold the bytes
-pub packed-length : (elements : List F) (bytes : List ℕ) → ArePacked elements bytes → length elements ≡ number_count (length bytes) + 1
+pub packed-length : (elements : List F) (bytes : List ℕ) → ArePackedBytes elements bytes → length elements ≡ number_count (length bytes) + 1
 packed-length elements bytes h =
     let e : length (map number elements) ≡ suc (number_count (length bytes)) = ap length h.1 ∙ ap suc (length-sevens (number_count (length bytes)) bytes) in
     omega (arith, e, length-map elements number)
 
 -- elements of the same numbers are those of the same bytes
-pub packed-once : (elements others : List F) (bytes more : List ℕ) → ArePacked elements bytes → ArePacked others more → map number elements ≡ map number others → bytes ≡ more
+pub packed-once : (elements others : List F) (bytes more : List ℕ) → ArePackedBytes elements bytes → ArePackedBytes others more → map number elements ≡ map number others → bytes ≡ more
 packed-once elements others bytes more h k e =
     let both : packed bytes ≡ packed more = sym h.1 ∙ e ∙ k.1 in
     let count : length bytes ≡ length more = ap (λ xs. get_or xs 0 0) both in

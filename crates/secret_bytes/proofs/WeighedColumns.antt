@@ -12,10 +12,10 @@ use Rattle.math_base.specs.Elements.{product, residue, same, sum, goldilocks}
 use Rattle.math_base.specs.Polynomials.{AreWeightsAt}
 use Rattle.shared_secret.specs.declared.shares.Share.{Share}
 use Rattle.shared_secret.specs.declared.weighing.Weights.{Weights}
-use Rattle.shared_secret.specs.CorrectedShares.{IsCorrected}
+use Rattle.shared_secret.specs.CorrectedShares.{IsCorrectedSecret}
 use Rattle.shared_secret.specs.Shares.{point, points, values}
 use Rattle.shared_secret.proofs.WeighedShares.{further-count, not-whole, secret-count, value-count, whole}
-use Rattle.shared_secret.specs.Weights.{AreWeightsAtPoints, AreWeightsOf}
+use Rattle.shared_secret.specs.Weights.{AreWeightsAtPoints, AreWeightsOfShares}
 use Rattle.secret_bytes.specs.declared.share.SecretShare.{SecretShare}
 use Rattle.secret_bytes.specs.Columns.{column, share_of}
 
@@ -27,7 +27,7 @@ column-length : (j : ℕ) (shares : List SecretShare) → length (column j share
 column-length j shares = length-map shares (share_of j)
 
 -- weights of the shares of one element are those of the shares of any other
-pub weights-of-column : (t j k : ℕ) (shares : List SecretShare) (w : Weights F) → AreWeightsOf goldilocks t (column j shares) w → AreWeightsOf goldilocks t (column k shares) w
+pub weights-of-column : (t j k : ℕ) (shares : List SecretShare) (w : Weights F) → AreWeightsOfShares goldilocks t (column j shares) w → AreWeightsOfShares goldilocks t (column k shares) w
 weights-of-column t j k shares w h =
     let e = column-points j k shares in
     let long : length (column j shares) ≡ length (column k shares) = column-length j shares ∙ sym (column-length k shares) in
@@ -41,8 +41,8 @@ weights-of-column t j k shares w h =
     }
 
 -- where the values are not those of one polynomial, what is corrected has wrong places
-pub some-wrong : (t j : ℕ) (shares : List SecretShare) (a : F) (wrong : List ℕ) → IsCorrected goldilocks t (column j shares) a wrong
-    → ((b : F) → ¬ (IsCorrected goldilocks t (column j shares) b [])) → 0 < length wrong
+pub some-wrong : (t j : ℕ) (shares : List SecretShare) (a : F) (wrong : List ℕ) → IsCorrectedSecret goldilocks t (column j shares) a wrong
+    → ((b : F) → ¬ (IsCorrectedSecret goldilocks t (column j shares) b [])) → 0 < length wrong
 some-wrong t j shares a [] h differ = absurd (differ a h)
 some-wrong t j shares a (i ∷ wrong) h differ = omega arith
 

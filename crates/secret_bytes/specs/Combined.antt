@@ -7,7 +7,7 @@ use Rattle.math_base.specs.Polynomials.{value_in_ring}
 use Rattle.math_decoding.specs.Polynomials.{AreSame}
 use Rattle.secret_bytes.specs.declared.share.SecretShare.{SecretShare}
 use Rattle.shared_secret.specs.declared.shares.Share.{Share}
-use Rattle.shared_secret.specs.CorrectedShares.{AreWithinRadius}
+use Rattle.shared_secret.specs.CorrectedShares.{AreSharesWithinRadius}
 use Rattle.shared_secret.specs.Shares.{point}
 use Rattle.secret_bytes.specs.Columns.{column, share_of}
 use Rattle.secret_bytes.specs.Keyed.{AreKeyed}
@@ -24,22 +24,22 @@ abbrev pub others : List ℕ → List SecretShare → List SecretShare
 others wrong shares = filter (λ s. is_outside wrong s.index) shares
 
 -- value j of the share is that of the polynomial p at the point of its index
-abbrev pub Fits : ℕ → List F → SecretShare → Type 0
-Fits j p s = let u : Share F = share_of j s in same u.value (value_in_ring goldilocks p (point goldilocks s.index))
+abbrev pub FitsShare : ℕ → List F → SecretShare → Type 0
+FitsShare j p s = let u : Share F = share_of j s in same u.value (value_in_ring goldilocks p (point goldilocks s.index))
 
 -- the element is the value at zero of a polynomial of at most t coefficients that has all but so few of the shares, and every other such polynomial is the same
 pub record IsElementOf (t : ℕ) (shares : List (Share F)) (a : F) : Type 0 where
   pub polynomial : List F
-  pub within : AreWithinRadius goldilocks t polynomial shares
+  pub within : AreSharesWithinRadius goldilocks t polynomial shares
   pub constant : same a (value_in_ring goldilocks polynomial (residue 0))
-  pub only : (q : List F) → AreWithinRadius goldilocks t q shares → AreSame goldilocks q polynomial
+  pub only : (q : List F) → AreSharesWithinRadius goldilocks t q shares → AreSame goldilocks q polynomial
 
 -- one of the values of the share is not that of the polynomial of at most t coefficients that has all but so few of these shares
 abbrev pub IsWrong : ℕ → ℕ → List SecretShare → SecretShare → Type 0
-IsWrong t width shares s = (j : ℕ) × (p : List F) × (j < width) × AreWithinRadius goldilocks t p (column j shares) × ¬ (Fits j p s)
+IsWrong t width shares s = (j : ℕ) × (p : List F) × (j < width) × AreSharesWithinRadius goldilocks t p (column j shares) × ¬ (FitsShare j p s)
 
 -- the elements of the shares, and the indices of those that are wrong, of which there are at most (m - t) / 2 for m shares
-pub record AreRecovered (t width : ℕ) (shares : List SecretShare) (all : List F) (wrong : List ℕ) : Type 0 where
+pub record AreElementsOfShares (t width : ℕ) (shares : List SecretShare) (all : List F) (wrong : List ℕ) : Type 0 where
   pub count : length all ≡ width
   pub elements : (j : ℕ) → j < width → IsElementOf t (column j shares) (slice_index_or all j (residue 0))
   pub few : length wrong + length wrong + t ≤ length shares
@@ -56,7 +56,7 @@ pub record AreCombined (shares : List SecretShare) (bytes wrong : List ℕ) : Ty
   pub first : SecretShare
   pub all : List F
   pub of_deal : AreOfOneDeal first shares
-  pub recovered : AreRecovered first.threshold (length first.values.items) (firsts shares) all wrong
+  pub recovered : AreElementsOfShares first.threshold (length first.values.items) (firsts shares) all wrong
   pub keyed : AreKeyed bytes all
 
 -- why shares are not combined: there is none; or the first that does not stand; or so few of distinct indices; or there are no elements, or they are those of no bytes
@@ -67,8 +67,8 @@ IsDueCombining shares (TooFew count t) =
     (first : SecretShare) × AreOfOneDeal first shares × (count ≡ length (firsts shares)) × (t ≡ first.threshold) × (count < t)
 IsDueCombining shares TooManyWrong =
     (first : SecretShare) × AreOfOneDeal first shares × (first.threshold ≤ length (firsts shares))
-    × ((all : List F) (wrong : List ℕ) → ¬ (AreRecovered first.threshold (length first.values.items) (firsts shares) all wrong))
+    × ((all : List F) (wrong : List ℕ) → ¬ (AreElementsOfShares first.threshold (length first.values.items) (firsts shares) all wrong))
 IsDueCombining shares Changed =
     (first : SecretShare) × AreOfOneDeal first shares × (all : List F) × (wrong : List ℕ)
-    × AreRecovered first.threshold (length first.values.items) (firsts shares) all wrong × ((bytes : List ℕ) → ¬ (AreKeyed bytes all))
+    × AreElementsOfShares first.threshold (length first.values.items) (firsts shares) all wrong × ((bytes : List ℕ) → ¬ (AreKeyed bytes all))
 IsDueCombining shares error = (first : SecretShare) × (slice_get shares 0 ≡ Some first) × IsFirstFault first.threshold first.deal (length first.values.items) shares error

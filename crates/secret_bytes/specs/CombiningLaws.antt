@@ -34,8 +34,8 @@ CombineToAlone bytes shares =
     × ((found wrong : List ℕ) → AreCombined shares found wrong → (found ≡ bytes) × (wrong ≡ []))
 
 -- so it is of shares of a deal of the bytes, or copies of them, in any order, of which at least t have distinct indices
-abbrev pub AnySharesCombine : Type 0
-AnySharesCombine = (bytes : List ℕ) (t n : ℕ) (before after : Stream) (dealt shares : List SecretShare) → 0 < t → n < 2 ^ 32 → AreDealtBytes bytes t n before after dealt
+abbrev pub AnySharesOfBytesCombine : Type 0
+AnySharesOfBytesCombine = (bytes : List ℕ) (t n : ℕ) (before after : Stream) (dealt shares : List SecretShare) → 0 < t → n < 2 ^ 32 → AreDealtBytes bytes t n before after dealt
     → All (IsSameAsOne dealt) shares → t ≤ length (firsts shares) → CombineToAlone bytes shares
 
 -- and of a text whose lines are those of such shares, blank ones aside: it is read but for want of memory, and the shares that are read are so combined

@@ -47,8 +47,8 @@ pub record IsExplainedDeal (bytes : List ℕ) (t n : ℕ) (before after : Stream
   pub alone : t ≤ n + 1 → (others : List (List F)) → AreExplained t all dealt others → others ≡ polynomials
 
 -- so is every deal of n shares
-abbrev pub DealsAreExplained : Type 0
-DealsAreExplained = (bytes : List ℕ) (t n : ℕ) (before after : Stream) (dealt : List SecretShare) → 0 < t → n < 2 ^ 32 → AreDealtBytes bytes t n before after dealt
+abbrev pub DealsOfBytesAreExplained : Type 0
+DealsOfBytesAreExplained = (bytes : List ℕ) (t n : ℕ) (before after : Stream) (dealt : List SecretShare) → 0 < t → n < 2 ^ 32 → AreDealtBytes bytes t n before after dealt
     → IsExplainedDeal bytes t n before after dealt
 
 -- whatever dealing of the bytes explains some shares: where a source gives what is drawn for it, the shares of a deal from this source have the values of those with their indices

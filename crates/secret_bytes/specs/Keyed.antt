@@ -3,14 +3,14 @@ use Rattle.std.specs.Prelude.{◌≡◌, ◌+◌, ℕ, List, [], ◌∷◌, ◌+
 use Rattle.math_base.specs.declared.fields.goldilocks.F.{F}
 use Rattle.math_base.specs.Elements.{same}
 use Rattle.secret_bytes.specs.KeyChecks.{check_at}
-use Rattle.secret_bytes.specs.Packings.{ArePacked, number_count}
+use Rattle.secret_bytes.specs.Packings.{ArePackedBytes, number_count}
 
 -- the elements of the bytes, a key, and the check of these elements under the key
 pub record AreKeyed (bytes : List ℕ) (all : List F) : Type 0 where
   pub elements : List F
   pub key : F
   pub check : F
-  pub packed : ArePacked elements bytes
+  pub packed : ArePackedBytes elements bytes
   pub fits : same check (check_at elements key)
   pub parts : all ≡ elements ++ (key ∷ check ∷ [])
 

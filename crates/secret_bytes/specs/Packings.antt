@@ -9,14 +9,14 @@ pub record AreBytes (bytes : List ℕ) : Type 0 where
   pub few : length bytes < 4294967296
 
 -- the number that the bytes write, the lowest first
-abbrev pub number_of : List ℕ → ℕ
-number_of [] = 0
-number_of (b ∷ bytes) = b + 256 * number_of bytes
+abbrev pub number_of_bytes : List ℕ → ℕ
+number_of_bytes [] = 0
+number_of_bytes (b ∷ bytes) = b + 256 * number_of_bytes bytes
 
 -- so many numbers of seven bytes each, as far as there are bytes
 abbrev pub sevens : ℕ → List ℕ → List ℕ
 sevens zero bytes = []
-sevens (suc k) bytes = number_of (take 7 bytes) ∷ sevens k (drop 7 bytes)
+sevens (suc k) bytes = number_of_bytes (take 7 bytes) ∷ sevens k (drop 7 bytes)
 
 -- how many numbers hold so many bytes
 abbrev pub number_count : ℕ → ℕ
@@ -27,8 +27,8 @@ abbrev pub packed : List ℕ → List ℕ
 packed bytes = length bytes ∷ sevens (number_count (length bytes)) bytes
 
 -- the elements are those of these bytes
-abbrev pub ArePacked : List F → List ℕ → Type 0
-ArePacked elements bytes = AreBytes bytes × (map number elements ≡ packed bytes)
+abbrev pub ArePackedBytes : List F → List ℕ → Type 0
+ArePackedBytes elements bytes = AreBytes bytes × (map number elements ≡ packed bytes)
 
 -- the lowest bytes of a number, so many
 abbrev pub lowest_bytes : ℕ → ℕ → List ℕ

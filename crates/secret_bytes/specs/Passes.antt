@@ -3,9 +3,9 @@ use Rattle.std.specs.Prelude.{◌≡◌, ◌≢◌, ◌<◌, ◌≤◌, ◌^◌,
 use Rattle.math_base.specs.declared.fields.goldilocks.F.{F}
 use Rattle.math_base.specs.Elements.{residue, goldilocks}
 use Rattle.secret_bytes.specs.declared.share.SecretShare.{SecretShare}
-use Rattle.shared_secret.specs.CorrectedShares.{AreWithinRadius, IsCorrected}
+use Rattle.shared_secret.specs.CorrectedShares.{AreSharesWithinRadius, IsCorrectedSecret}
 use Rattle.secret_bytes.specs.Columns.{column}
-use Rattle.secret_bytes.specs.Combined.{AreRecovered}
+use Rattle.secret_bytes.specs.Combined.{AreElementsOfShares}
 use Rattle.secret_bytes.specs.declared.combining.Pass.{Pass}
 use Rattle.secret_bytes.specs.declared.combining.Pass.TheVariants.{Fit, TooManyWrong, Wrong}
 use Rattle.secret_bytes.specs.declared.error.CombineError.{CombineError}
@@ -28,18 +28,18 @@ abbrev pub indices_at : List SecretShare → List ℕ → List ℕ
 indices_at shares places = map (λ i. slice_index_or (map (λ s. s.index) shares) i 0) places
 
 -- the first elements of the shares, of which none is wrong there
-pub record AreElements (t width : ℕ) (shares : List SecretShare) (elements : List F) : Type 0 where
+pub record AreFirstElements (t width : ℕ) (shares : List SecretShare) (elements : List F) : Type 0 where
   pub count : length elements ≤ width
-  pub fit : (j : ℕ) → j < length elements → IsCorrected goldilocks t (column j shares) (slice_index_or elements j (residue 0)) []
+  pub fit : (j : ℕ) → j < length elements → IsCorrectedSecret goldilocks t (column j shares) (slice_index_or elements j (residue 0)) []
 
 -- so many elements are all of them; or at some element the shares at these places are wrong; or at some element too many
 abbrev pub IsPass : ℕ → ℕ → List SecretShare → ℕ → Pass → Type 0
 IsPass t width shares count Fit = count ≡ width
-IsPass t width shares count (Wrong places) = (j : ℕ) × (a : F) × (j < width) × (0 < length places.items) × IsCorrected goldilocks t (column j shares) a places.items
-IsPass t width shares count TooManyWrong = (j : ℕ) × (j < width) × ((p : List F) → ¬ (AreWithinRadius goldilocks t p (column j shares)))
+IsPass t width shares count (Wrong places) = (j : ℕ) × (a : F) × (j < width) × (0 < length places.items) × IsCorrectedSecret goldilocks t (column j shares) a places.items
+IsPass t width shares count TooManyWrong = (j : ℕ) × (j < width) × ((p : List F) → ¬ (AreSharesWithinRadius goldilocks t p (column j shares)))
 
 -- why no elements are recovered
 abbrev pub IsDueRecovering : ℕ → ℕ → List SecretShare → CombineError → Type 0
 IsDueRecovering t width shares (error.Memory e) = Unit {0}
-IsDueRecovering t width shares error.TooManyWrong = (all : List F) (wrong : List ℕ) → ¬ (AreRecovered t width shares all wrong)
+IsDueRecovering t width shares error.TooManyWrong = (all : List F) (wrong : List ℕ) → ¬ (AreElementsOfShares t width shares all wrong)
 IsDueRecovering t width shares _ = ⊥

@@ -8,26 +8,26 @@ use Rattle.secret_bytes.specs.declared.error.CombineError.{CombineError}
 use Rattle.secret_bytes.specs.declared.error.CombineError.TheVariants.{AnotherDeal, AnotherLength, AnotherThreshold, Memory, Repeated, Unsound}
 
 -- neither the threshold nor the index is zero
-abbrev pub IsSound : SecretShare → Type 0
-IsSound s = (0 < s.threshold) × (0 < s.index)
+abbrev pub HasNoZero : SecretShare → Type 0
+HasNoZero s = (0 < s.threshold) × (0 < s.index)
 
 -- both have the same values
-abbrev pub HaveSameValues : SecretShare → SecretShare → Type 0
-HaveSameValues s u = s.values.items ≡ u.values.items
+abbrev pub HaveEqualValues : SecretShare → SecretShare → Type 0
+HaveEqualValues s u = s.values.items ≡ u.values.items
 
 -- the share at this place has the values of s
 abbrev pub HasValuesAt : List SecretShare → SecretShare → ℕ → Type 0
-HasValuesAt shares s place = HaveSameValues (slice_index_or shares place s) s
+HasValuesAt shares s place = HaveEqualValues (slice_index_or shares place s) s
 
 -- one of the shares has the index of s and other values
 abbrev pub IsContradicted : List SecretShare → SecretShare → Type 0
-IsContradicted before s = (u : SecretShare) × Contains before u × (u.index ≡ s.index) × ¬ (HaveSameValues u s)
+IsContradicted before s = (u : SecretShare) × Contains before u × (u.index ≡ s.index) × ¬ (HaveEqualValues u s)
 
 -- the share is sound, has this threshold, deal and number of values, and each of those before it that has its index has its values
 pub record Stands (t : ℕ) (identity : F) (width : ℕ) (before : List SecretShare) (s : SecretShare) : Type 0 where
-  pub sound : IsSound s
+  pub sound : HasNoZero s
   pub of_deal : IsOfDeal t identity width s
-  pub values : All (λ u. u.index ≡ s.index → HaveSameValues u s) before
+  pub values : All (λ u. u.index ≡ s.index → HaveEqualValues u s) before
 
 -- each of the first n shares stands with those before it
 abbrev pub StandBelow : ℕ → F → ℕ → List SecretShare → ℕ → Type 0
@@ -35,11 +35,11 @@ StandBelow t identity width shares n = (k : ℕ) (s : SecretShare) → k < n →
 
 -- why a share at place k does not stand with those before it, where that is the refusal: the first of these faults in the order of the cases
 abbrev pub IsFault : ℕ → F → ℕ → List SecretShare → SecretShare → ℕ → CombineError → Type 0
-IsFault t identity width before s k (Unsound place) = (place ≡ k) × ¬ (IsSound s)
-IsFault t identity width before s k (AnotherDeal place) = (place ≡ k) × IsSound s × ¬ (s.deal ≡ identity)
-IsFault t identity width before s k (AnotherThreshold place) = (place ≡ k) × IsSound s × (s.deal ≡ identity) × ¬ (s.threshold ≡ t)
-IsFault t identity width before s k (AnotherLength place) = (place ≡ k) × IsSound s × (s.deal ≡ identity) × (s.threshold ≡ t) × ¬ (length s.values.items ≡ width)
-IsFault t identity width before s k (Repeated place) = (place ≡ k) × IsSound s × IsOfDeal t identity width s × IsContradicted before s
+IsFault t identity width before s k (Unsound place) = (place ≡ k) × ¬ (HasNoZero s)
+IsFault t identity width before s k (AnotherDeal place) = (place ≡ k) × HasNoZero s × ¬ (s.deal ≡ identity)
+IsFault t identity width before s k (AnotherThreshold place) = (place ≡ k) × HasNoZero s × (s.deal ≡ identity) × ¬ (s.threshold ≡ t)
+IsFault t identity width before s k (AnotherLength place) = (place ≡ k) × HasNoZero s × (s.deal ≡ identity) × (s.threshold ≡ t) × ¬ (length s.values.items ≡ width)
+IsFault t identity width before s k (Repeated place) = (place ≡ k) × HasNoZero s × IsOfDeal t identity width s × IsContradicted before s
 IsFault t identity width before s k _ = ⊥
 
 -- the refusal is the fault of the first share that does not stand with those before it

@@ -12,6 +12,12 @@ use math_base::fields::goldilocks::F;
 /// Who changes shares without knowing the key adds to the elements, to the key and to the check
 /// what does not depend on the key. Where that changes an element, the check fits for at most n + 1
 /// of all keys: see `laws::changes_are_seen`.
+///
+/// ```
+/// use secret_bytes::{fits, key_check};
+/// key_check(&[F::from(3)], F::from(5)); // 140
+/// fits(&[F::from(3)], F::from(5), F::from(140)); // true
+/// ```
 pub fn key_check(elements: &[F], key: F) -> F
     ensures { number result ≡ number (check_at elements.now key) }
 {

@@ -3,14 +3,14 @@
 ghost use Rattle.std.specs.Prelude.{◌≡◌, ◌<◌, ◌++◌, ℕ, List, [], length, All};
 ghost use Rattle.std.specs.Prelude.{IfOk, IfErr, IfSome, IfNone};
 ghost use Rattle.math_base.specs.declared.fields.goldilocks.F.{F};
-ghost use Rattle.shared_secret.specs.CorrectedShares.{AreWithinRadius, IsCorrected};
+ghost use Rattle.shared_secret.specs.CorrectedShares.{AreSharesWithinRadius, IsCorrectedSecret};
 ghost use Rattle.shared_secret.specs.Shares.{values};
-ghost use Rattle.shared_secret.specs.Weights.{AreWeightsOf};
+ghost use Rattle.shared_secret.specs.Weights.{AreWeightsOfShares};
 ghost use Rattle.math_base.specs.Elements.{goldilocks, product, residue, sum};
 ghost use Rattle.math_theory.specs.Sums.{weighted_sum};
 ghost use Rattle.secret_bytes.specs.Columns.{column};
-ghost use Rattle.secret_bytes.specs.Combined.{AreCombined, AreRecovered, IsDueCombining, others};
-ghost use Rattle.secret_bytes.specs.Passes.{AreElements, AreReady, IsDueRecovering, IsPass, indices_at};
+ghost use Rattle.secret_bytes.specs.Combined.{AreCombined, AreElementsOfShares, IsDueCombining, others};
+ghost use Rattle.secret_bytes.specs.Passes.{AreFirstElements, AreReady, IsDueRecovering, IsPass, indices_at};
 
 use crate::error::CombineError;
 use crate::keyed::unkeyed;
@@ -101,7 +101,7 @@ fn recover(
 ) -> Result<Recovered, CombineError>
     requires { AreReady t width shares.items }
     ensures recovered { IfOk result
-        (λ r. AreRecovered t width shares.items r.elements.items r.wrong.items) }
+        (λ r. AreElementsOfShares t width shares.items r.elements.items r.wrong.items) }
     ensures due { IfErr result (λ error. IsDueRecovering t width shares.items error) }
 {
     let most = (shares.len() - t as usize) / 2;
@@ -137,8 +137,8 @@ fn look(
     elements: &mut Vec<F>,
 ) -> Mem<Pass>
     requires ready { AreReady t width shares.now }
-    requires before { AreElements t width shares.now elements.now.items }
-    ensures elements { IfOk result (λ _. AreElements t width shares.now elements.new.items) }
+    requires before { AreFirstElements t width shares.now elements.now.items }
+    ensures elements { IfOk result (λ _. AreFirstElements t width shares.now elements.new.items) }
     ensures pass { IfOk result (λ pass.
         IsPass t width shares.now (length elements.new.items) pass) }
 {
@@ -164,11 +164,11 @@ fn element_at(
     j: usize,
 ) -> Mem<Option<F>>
     requires within { All (λ s. j < length s.values.items) shares.now }
-    requires weights { AreWeightsOf goldilocks t (column j shares.now) weights.now }
+    requires weights { AreWeightsOfShares goldilocks t (column j shares.now) weights.now }
     ensures found { IfOk result (λ answer. IfSome answer (λ a.
-        IsCorrected goldilocks t (column j shares.now) a [])) }
+        IsCorrectedSecret goldilocks t (column j shares.now) a [])) }
     ensures none { IfOk result (λ answer. IfNone answer ((a : F)
-        → ¬ (IsCorrected goldilocks t (column j shares.now) a []))) }
+        → ¬ (IsCorrectedSecret goldilocks t (column j shares.now) a []))) }
 {
     let values = values_of(alloc, shares, j)?;
     secret_of(
@@ -193,7 +193,7 @@ fn shorter_sum(xs: &[F], ys: &[F]) -> F
 fn weights_once(alloc: Global, t: u32, width: usize, shares: &[SecretShare]) -> Mem<Weights<F>>
     requires ready { AreReady t width shares.now }
     requires some { 0 < width }
-    ensures { IfOk result (λ w. (j : ℕ) → AreWeightsOf goldilocks t (column j shares.now) w) }
+    ensures { IfOk result (λ w. (j : ℕ) → AreWeightsOfShares goldilocks t (column j shares.now) w) }
 {
     let column = column(alloc, shares, 0)?;
     match weigh(alloc, t, &column) {
@@ -210,7 +210,7 @@ fn weights_once(alloc: Global, t: u32, width: usize, shares: &[SecretShare]) -> 
 fn wrong_at(alloc: Global, t: u32, width: usize, shares: &[SecretShare], j: usize) -> Mem<Pass>
     requires ready { AreReady t width shares.now }
     requires within { j < width }
-    requires differ { (a : F) → ¬ (IsCorrected goldilocks t (column j shares.now) a []) }
+    requires differ { (a : F) → ¬ (IsCorrectedSecret goldilocks t (column j shares.now) a []) }
     ensures { IfOk result (λ pass. (count : ℕ) → IsPass t width shares.now count pass) }
 {
     match corrected(alloc, t, width, shares, j)? {
@@ -230,9 +230,9 @@ fn corrected(
     requires ready { AreReady t width shares.now }
     requires within { j < width }
     ensures found { IfOk result (λ answer. IfSome answer (λ c.
-        IsCorrected goldilocks t (column j shares.now) c.secret c.wrong.items)) }
+        IsCorrectedSecret goldilocks t (column j shares.now) c.secret c.wrong.items)) }
     ensures none { IfOk result (λ answer. IfNone answer ((p : List F)
-        → ¬ (AreWithinRadius goldilocks t p (column j shares.now)))) }
+        → ¬ (AreSharesWithinRadius goldilocks t p (column j shares.now)))) }
 {
     let column = column(alloc, shares, j)?;
     match combine_corrected(alloc, t, &column) {

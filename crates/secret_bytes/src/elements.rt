@@ -7,7 +7,7 @@
 ghost use Rattle.std.specs.Prelude.{◌≡◌, ◌↔◌, ◌<◌, ◌≤◌, ◌^◌, ◌*◌, ◌++◌, ℕ, List, length, map};
 ghost use Rattle.std.specs.Prelude.{IsTrue, IfOk, IfSome, IfNone, IsSomeAnd, OnOk};
 ghost use Rattle.math_base.specs.Elements.{number};
-ghost use Rattle.secret_bytes.specs.Packings.{AllFit, ArePacked, lowest_bytes, number_of, packed, unpacked, without_lowest};
+ghost use Rattle.secret_bytes.specs.Packings.{AllFit, ArePackedBytes, lowest_bytes, number_of_bytes, packed, unpacked, without_lowest};
 
 use math_base::algebra::Mem;
 use math_base::fields::goldilocks::F;
@@ -17,9 +17,9 @@ use std::alloc::{AllocError, Global};
 const BYTES: usize = 7;
 
 /// The number that at most seven bytes write, the lowest first.
-fn number_of(bytes: &[u8]) -> u64
+fn number_of_bytes(bytes: &[u8]) -> u64
     requires { length bytes.now ≤ 7 }
-    ensures value { result ≡ number_of bytes.now }
+    ensures value { result ≡ number_of_bytes bytes.now }
     ensures below { result < 2 ^ 56 }
 {
     let mut n = 0;
@@ -31,7 +31,13 @@ fn number_of(bytes: &[u8]) -> u64
     n
 }
 
-/// The elements of the bytes, of which there are fewer than 2^32.
+/// Returns the elements of the bytes: how many there are, and then seven bytes an element, the lowest
+/// first. There are fewer than 2^32 bytes.
+///
+/// ```
+/// use secret_bytes::elements_of;
+/// elements_of(alloc, b"abc")?; // [3, 6513249]
+/// ```
 pub fn elements_of(alloc: Global, bytes: &[u8]) -> Mem<Vec<F>>
     requires { length bytes.now < 2 ^ 32 }
     ensures { IfOk result (λ elements. map number elements.items ≡ packed bytes.now) }
@@ -41,7 +47,7 @@ pub fn elements_of(alloc: Global, bytes: &[u8]) -> Mem<Vec<F>>
     let mut rest = bytes;
     while !rest.is_empty() {
         let (seven, after) = rest.split_at(rest.len().min(BYTES));
-        elements.push(F::from(number_of(seven)))?;
+        elements.push(F::from(number_of_bytes(seven)))?;
         rest = after;
     }
     Ok(elements)
@@ -92,11 +98,17 @@ fn unpacked(alloc: Global, count: usize, elements: &[F]) -> Mem<Option<Vec<u8>>>
     Ok(Some(bytes))
 }
 
-/// The bytes whose elements these are, where there are any.
+/// Returns the bytes whose elements these are, or `None` if they are those of no bytes.
+///
+/// ```
+/// use secret_bytes::bytes_of;
+/// bytes_of(alloc, &[F::from(3), F::from(6513249)])?; // Some([97, 98, 99])
+/// bytes_of(alloc, &[F::from(2), F::from(6513249)])?; // None
+/// ```
 pub fn bytes_of(alloc: Global, elements: &[F]) -> Mem<Option<Vec<u8>>>
     ensures some { IfOk result
-        (λ answer. IfSome answer (λ bytes. ArePacked elements.now bytes.items)) }
-    ensures found { (bytes : List ℕ) → ArePacked elements.now bytes
+        (λ answer. IfSome answer (λ bytes. ArePackedBytes elements.now bytes.items)) }
+    ensures found { (bytes : List ℕ) → ArePackedBytes elements.now bytes
         → IfOk result (λ answer. IsSomeAnd answer (λ found. found.items ≡ bytes)) }
 {
     let Some((count, rest)) = elements.split_first() else {

@@ -1,9 +1,9 @@
 //! Laws of secrets of bytes, their shares and the lines of these, each the contract of a function
 //! that does nothing.
 
-ghost use Rattle.secret_bytes.specs.CombiningLaws.{AnyLinesCombine, AnySharesCombine};
+ghost use Rattle.secret_bytes.specs.CombiningLaws.{AnyLinesCombine, AnySharesOfBytesCombine};
 ghost use Rattle.secret_bytes.specs.CombiningLaws.{ChangesPassRarely};
-ghost use Rattle.secret_bytes.specs.DealingLaws.{DealsAreExplained, EachListIsDrawnOnce};
+ghost use Rattle.secret_bytes.specs.DealingLaws.{DealsOfBytesAreExplained, EachListIsDrawnOnce};
 ghost use Rattle.secret_bytes.specs.DealingLaws.{ExplanationsAreDealt, SharesDifferInValuesAlone};
 ghost use Rattle.secret_bytes.specs.Explanations.{EachSecretExplains, EachSecretOfBytesExplains};
 ghost use Rattle.secret_bytes.specs.Explanations.{EachSecretOfBytesExplainsEquallyOften};
@@ -44,7 +44,7 @@ pub fn lines_are_read_back()
 /// `combine` may refuse them for is want of memory alone, and what it may answer is these bytes
 /// alone, with no share wrong.
 pub fn any_shares_combine()
-    ensures { AnySharesCombine }
+    ensures { AnySharesOfBytesCombine }
 {}
 
 /// Any text whose lines are those of such shares, with white space around them and blank lines
@@ -86,7 +86,7 @@ pub fn each_secret_of_bytes_explains()
 /// for it, shares are dealt with the values of these (`back`). So to count ways is to count what
 /// may have been drawn.
 pub fn deals_are_explained()
-    ensures deals { DealsAreExplained }
+    ensures deals { DealsOfBytesAreExplained }
     ensures drawn_once { EachListIsDrawnOnce }
     ensures back { ExplanationsAreDealt }
 {}

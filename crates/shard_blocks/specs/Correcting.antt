@@ -30,8 +30,8 @@ abbrev pub HaveOneCorrectedBlock : Type 0
 HaveOneCorrectedBlock = (bytes others : List ℕ) (shards : List Shard) → CorrectToBlock bytes shards → CorrectToBlock others shards → bytes ≡ others
 
 -- the block that shards give back is the one that they are corrected to
-abbrev pub JoinedAreCorrect : Type 0
-JoinedAreCorrect = (bytes : List ℕ) (shards : List Shard) → JoinToBlock bytes shards → CorrectToBlock bytes shards
+abbrev pub JoinedBlocksAreCorrect : Type 0
+JoinedBlocksAreCorrect = (bytes : List ℕ) (shards : List Shard) → JoinToBlock bytes shards → CorrectToBlock bytes shards
 
 -- the shards without the one at position i give this block back
 abbrev pub JoinWithout : List ℕ → List Shard → ℕ → Type 0

@@ -41,6 +41,14 @@ pub fn split_block(alloc: Global, bytes: &[u8], min: u32, total: u32) -> Mem<Vec
 /// The conditions are those of `split_block`. A row has eight times as many bytes as a shard of
 /// `split_block` has cells. Takes memory as `split_rows` does. Where that is refused nothing is
 /// written.
+///
+/// ```
+/// use shard_blocks::split_block_rows;
+/// let mut out = [0; 64];
+/// split_block_rows(alloc, b"data", 1, 2, &mut out)?;
+/// out[7]; // 2
+/// out[..32] == out[32..]; // true
+/// ```
 pub fn split_block_rows(
     alloc: Global,
     bytes: &[u8],

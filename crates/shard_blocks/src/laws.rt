@@ -2,7 +2,7 @@
 //! `join_block_corrected` together.
 
 ghost use Rattle.shard_blocks.specs.Blocks.{ChosenShardsGiveBlock, HaveOneBlock};
-ghost use Rattle.shard_blocks.specs.Correcting.{HaveOneCorrectedBlock, JoinedAreCorrect};
+ghost use Rattle.shard_blocks.specs.Correcting.{HaveOneCorrectedBlock, JoinedBlocksAreCorrect};
 ghost use Rattle.shard_blocks.specs.Correcting.{OneWrongIsCorrected};
 
 /// Shards give one block back at most, and any `min` shards of a `split_block` with distinct
@@ -18,6 +18,6 @@ pub fn joined_blocks()
 /// there than give a block back, it is what all shards but one give.
 pub fn corrected_blocks()
     ensures once { HaveOneCorrectedBlock }
-    ensures joined { JoinedAreCorrect }
+    ensures joined { JoinedBlocksAreCorrect }
     ensures one_wrong { OneWrongIsCorrected }
 {}

@@ -11,7 +11,7 @@ use Rattle.math_base.specs.Elements.{number, same, sum, product}
 use Rattle.math_base.specs.ElementLaws.{equality, group, commutes, ring}
 use Rattle.shard_fingerprints.specs.EqualElements.{element_equal}
 use Rattle.shard_fingerprints.specs.declared.fingerprints.Powers.{Powers}
-use Rattle.shard_fingerprints.specs.FourWords.{ArePowersOf, words_before}
+use Rattle.shard_fingerprints.specs.FourWords.{AreKeyPowers, words_before}
 use Rattle.shard_fingerprints.specs.Fingerprints.{fingerprint}
 
 -- what is added up has the value that Horner's rule gives
@@ -23,7 +23,7 @@ regrouped a b c d value key =
     (((v0 ⊕ (v1 ⊗ v5)) ⊕ ((v2 ⊕ (v3 ⊗ v5)) ⊗ (v5 ⊗ v5))) ⊕ (v4 ⊗ ((v5 ⊗ v5) ⊗ (v5 ⊗ v5))))
     (v0 ⊕ ((v1 ⊕ ((v2 ⊕ ((v3 ⊕ (v4 ⊗ v5)) ⊗ v5)) ⊗ v5)) ⊗ v5)) refl
 
-pub before : (a b c d value key : F) (powers : Powers) (bk low dk high squared first fourth all : F) → ArePowersOf key powers
+pub before : (a b c d value key : F) (powers : Powers) (bk low dk high squared first fourth all : F) → AreKeyPowers key powers
     → same bk (product b powers.key) → same low (sum a bk) → same dk (product d powers.key) → same high (sum c dk) → same squared (product high powers.square)
     → same first (sum low squared) → same fourth (product value powers.fourth) → same all (sum first fourth)
     → number all ≡ number (words_before key (a ∷ b ∷ c ∷ d ∷ []) value)

@@ -5,7 +5,7 @@ use Rattle.math_base.specs.Elements.{same, sum, product}
 use Rattle.shard_fingerprints.specs.declared.fingerprints.Powers.{Powers}
 
 -- these are the key, its square, and the square of that
-pub record ArePowersOf (key : F) (powers : Powers) : Type 0 where
+pub record AreKeyPowers (key : F) (powers : Powers) : Type 0 where
   pub first : same powers.key key
   pub second : same powers.square (product powers.key powers.key)
   pub fourth : same powers.fourth (product powers.square powers.square)

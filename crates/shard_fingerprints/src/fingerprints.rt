@@ -2,7 +2,7 @@
 
 ghost use Rattle.std.specs.Prelude.{◌≡◌, [], ◌∷◌};
 ghost use Rattle.math_base.specs.Elements.{number};
-ghost use Rattle.shard_fingerprints.specs.FourWords.{ArePowersOf, words_before};
+ghost use Rattle.shard_fingerprints.specs.FourWords.{AreKeyPowers, words_before};
 ghost use Rattle.shard_fingerprints.specs.Fingerprints.{fingerprint};
 
 use crate::blocks::{BLOCK, by_blocks};
@@ -22,7 +22,7 @@ struct Powers {
 impl Powers {
     /// Those of a key.
     fn of(key: F) -> Powers
-        ensures { ArePowersOf key result }
+        ensures { AreKeyPowers key result }
     {
         let square = key * key;
         Powers {
@@ -38,7 +38,7 @@ impl Powers {
     /// It is (a + b k) + (c + d k) k^2, and the fingerprint of the words after times k^4. So one
     /// product of each four words waits for those of the four after them.
     fn before(&self, a: F, b: F, c: F, d: F, value: F) -> F
-        requires { ArePowersOf self.now.key self.now }
+        requires { AreKeyPowers self.now.key self.now }
         ensures { number result
             ≡ number (words_before self.now.key (a ∷ b ∷ c ∷ d ∷ []) value) }
     {

@@ -12,7 +12,7 @@ use Rattle.shard_fingerprints.specs.declared.pairs.Keys.{Keys}
 use Rattle.shard_fingerprints.specs.Fingerprints.{fingerprint}
 use Rattle.shard_format.specs.declared.header.Header.{Header}
 use Rattle.shard_fingerprints.specs.EqualElements.{element_equal, residue_number}
-use Rattle.shard_format.specs.Headers.{mark, version, header_words, words_spelling, fingerprints_spelling, header_spelling, AdmitsHeader}
+use Rattle.shard_format.specs.Headers.{mark, format_version, header_words, words_spelling, fingerprints_spelling, header_spelling, AdmitsHeader}
 use Rattle.shard_format.specs.Headers.{scan_fixed, scan_number, scan_length, scan_key, scan_beginning, scan_split, scan_keys, scan_words, scan_fingerprints, scan_fingerprints_of, scan_header, words_in_front}
 
 fixed_again : (n : ℕ) (name rest : List ℕ) → n < 2 ^ 64 → scan_fixed n name (to_be_bytes w64 n ++ rest) ≡ Ok rest
@@ -50,7 +50,7 @@ spelled (n ∷ words) rest = to_be_bytes w64 n ++ spelled words rest
 
 -- the numbers of the nine words of a header before its fingerprints
 abbrev pub header_numbers : Header → List ℕ
-header_numbers h = mark ∷ version ∷ h.index ∷ h.min ∷ h.total ∷ h.block ∷ h.length ∷ number h.keys.first ∷ number h.keys.second ∷ []
+header_numbers h = mark ∷ format_version ∷ h.index ∷ h.min ∷ h.total ∷ h.block ∷ h.length ∷ number h.keys.first ∷ number h.keys.second ∷ []
 
 -- each is the number of a word
 abbrev AreWords : List ℕ → Type 0
@@ -107,11 +107,11 @@ fingerprints_spelled keys words rest = append_assoc (to_be_bytes w64 (number (fi
 header_spelled : (h : Header) (rest : List ℕ) → header_spelling h ++ rest ≡ spelled (header_numbers h) (fingerprints_spelling h.keys (header_words h) ++ rest)
 header_spelled h rest = append_assoc (words_spelling h) (fingerprints_spelling h.keys (header_words h)) rest ∙ words_spelled h (fingerprints_spelling h.keys (header_words h) ++ rest)
 
-beginning_again : (index : ℕ) (rest : List ℕ) → index < 2 ^ 32 → scan_beginning (spelled (mark ∷ version ∷ index ∷ []) rest) ≡ Ok rest
+beginning_again : (index : ℕ) (rest : List ℕ) → index < 2 ^ 32 → scan_beginning (spelled (mark ∷ format_version ∷ index ∷ []) rest) ≡ Ok rest
 unfolding scan_beginning
 beginning_again index rest h =
-    let a = fixed_again mark (codes "mark") (spelled (version ∷ index ∷ []) rest) (omega arith) in
-    let b = fixed_again version (codes "version") (spelled (index ∷ []) rest) (omega arith) in
+    let a = fixed_again mark (codes "mark") (spelled (format_version ∷ index ∷ []) rest) (omega arith) in
+    let b = fixed_again format_version (codes "version") (spelled (index ∷ []) rest) (omega arith) in
     rw (a, b, number_again index rest h) refl
 
 split_again : (least most block size : ℕ) (rest : List ℕ) → least < 2 ^ 32 → most < 2 ^ 32 → block < 2 ^ 32 → size < P

@@ -15,18 +15,18 @@ abbrev pub mark : ℕ
 mark = 0x8953484152440d0a
 
 -- the version of the format
-abbrev pub version : ℕ
-version = 2
+abbrev pub format_version : ℕ
+format_version = 2
 
 -- the nine words of a header before its fingerprints, as elements: the mark, the version, the index, `min`, `total`, the block size, the length, and the two keys
 abbrev pub header_words : Header → List F
 header_words h =
-    residue mark ∷ residue version ∷ residue h.index ∷ residue h.min ∷ residue h.total ∷ residue h.block ∷ residue h.length
+    residue mark ∷ residue format_version ∷ residue h.index ∷ residue h.min ∷ residue h.total ∷ residue h.block ∷ residue h.length
     ∷ h.keys.first ∷ h.keys.second ∷ []
 
 -- the beginning of a header is spelled by the mark, the version and the index, a word each
 abbrev pub beginning_spelling : ℕ → List ℕ
-beginning_spelling index = to_be_bytes w64 mark ++ (to_be_bytes w64 version ++ to_be_bytes w64 index)
+beginning_spelling index = to_be_bytes w64 mark ++ (to_be_bytes w64 format_version ++ to_be_bytes w64 index)
 
 -- the numbers of a split are spelled by `min`, `total`, the block size and the length, a word each
 abbrev pub split_spelling : (least most block size : ℕ) → List ℕ
@@ -86,7 +86,7 @@ scan_key bytes = do
 unfoldable pub scan_beginning : List ℕ → Result (List ℕ) Fault
 scan_beginning bytes = do
   after_mark ← scan_fixed mark (codes "mark") bytes
-  after_version ← scan_fixed version (codes "version") after_mark
+  after_version ← scan_fixed format_version (codes "version") after_mark
   scan_number after_version
 
 -- what a read of the numbers of a split leaves, or the first fault

@@ -41,7 +41,7 @@ abbrev pub capped : ℕ → ℕ
 capped n = min n (2 ^ 64 - 1)
 
 -- the index, `min` and `total` of a shard are those of the header, and it has as many cells as are wanted
-pub record IsShardOf (h : Header) (i m n size wanted : ℕ) : Type 0 where
+pub record IsShardOfHeader (h : Header) (i m n size wanted : ℕ) : Type 0 where
   pub index : i ≡ h.index
   pub least : m ≡ h.min
   pub most : n ≡ h.total

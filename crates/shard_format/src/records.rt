@@ -7,7 +7,7 @@
 ghost use Rattle.std.specs.Prelude.{◌≡◌, ◌≢◌, ◌↔◌, ◌+◌, ◌*◌, ◌<◌, ◌≤◌, ◌^◌, ◌++◌, List, length, take, drop, OnOk, IsTrue, IsFalse, IfOk, IfSome, IsNone};
 ghost use Rattle.std.specs.Int.{to_be_bytes, w64};
 ghost use Rattle.math_base.specs.declared.fields.goldilocks.F.{F};
-ghost use Rattle.shard_format.specs.Records.{AreCellsThatFit, HaveFingerprints, IsRecordOf, IsShardOf, block_count, block_size, capped, element_spelling, elements_spelling, file_size, numbers_spelling, record_place, record_size};
+ghost use Rattle.shard_format.specs.Records.{AreCellsThatFit, HaveFingerprints, IsRecordOf, IsShardOfHeader, block_count, block_size, capped, element_spelling, elements_spelling, file_size, numbers_spelling, record_place, record_size};
 
 use crate::header::{HEADER_SIZE, Header, number_of};
 use math_base::algebra::Mem;
@@ -84,7 +84,7 @@ pub fn is_shard_of(
     cells: usize,
     wanted: usize,
 ) -> bool
-    ensures { IsTrue result ↔ IsShardOf header.now index min total cells wanted }
+    ensures { IsTrue result ↔ IsShardOfHeader header.now index min total cells wanted }
 {
     index == header.index && min == header.min && total == header.total && cells == wanted
 }

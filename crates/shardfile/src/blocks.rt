@@ -4,7 +4,7 @@ ghost use Rattle.std.specs.Prelude.{◌≡◌, ◌≤◌, All, length, IfOk, OnO
 ghost use Rattle.shardfile.specs.Shards.{IsOfSplit};
 
 use crate::fault::Fault;
-use crate::sources::{ShardFile, Source, is_read};
+use crate::sources::{ShardFile, Source, read_part};
 use math_base::fields::goldilocks::F;
 use math_codec::codec::{self, decode};
 use shard_blocks::{Error, JoinedBlock, Shard, cells_for, join_block, join_block_corrected};
@@ -86,8 +86,9 @@ fn cells_of(split: &Header, block: Block) -> Result<u32, Fault>
     }
 }
 
-/// Whether the file has the record of a block, with so many cells, which then is in the buffer.
-fn is_record_read(
+/// Reads the bytes of the record of a block, with so many cells, into the buffer, and says whether
+/// they are there and could be read.
+fn read_record_bytes(
     rt: &HostRuntime,
     name: &str,
     source: &Source,
@@ -104,7 +105,7 @@ fn is_record_read(
         return Err(Fault::Memory(AllocError));
     };
     buffer.resize(size, 0)?;
-    is_read(rt, name, source, at, buffer)
+    read_part(rt, name, source, at, buffer)
 }
 
 /// Reads the record of a block in the file, with so many cells, or says what is wrong with it.
@@ -121,7 +122,7 @@ fn read_record(
     requires { 1 ≤ header.now.min }
 {
     let RecordRoom { bytes, elements } = room;
-    if !is_record_read(rt, name, source, header, block, cells, bytes)? {
+    if !read_record_bytes(rt, name, source, header, block, cells, bytes)? {
         return Ok(Some("it ends before, or cannot be read"));
     }
     if is_record_of(rt.alloc(), header, block.number, cells, bytes, elements)? {

@@ -107,13 +107,14 @@ pub fn is_want_of_room(error: &io::Error) -> bool {
         .is_some_and(|code| NO_ROOM.contains(&code))
 }
 
-/// Whether the bytes of a file from there on, as many as the buffer has, can be read into it.
-fn is_read_at(file: &File, at: u64, buffer: &mut [u8]) -> bool {
+/// Reads as many bytes of a file as the buffer has, from there on, and says whether it could.
+fn fill_from(file: &File, at: u64, buffer: &mut [u8]) -> bool {
     file.read_exact_at(buffer, at).is_ok()
 }
 
-/// Whether the file has as many bytes from there on as the buffer, and they can be read into it.
-pub fn is_read(
+/// Reads as many bytes of the file as the buffer has, from there on, and says whether they are there
+/// and could be read.
+pub fn read_part(
     rt: &HostRuntime,
     name: &str,
     source: &Source,
@@ -124,10 +125,10 @@ pub fn is_read(
         return Ok(false);
     }
     if let Some(file) = &source.file {
-        return Ok(is_read_at(file, at, buffer));
+        return Ok(fill_from(file, at, buffer));
     }
     match open_file(rt, name)? {
-        Some(file) => Ok(is_read_at(&file, at, buffer)),
+        Some(file) => Ok(fill_from(&file, at, buffer)),
         None => Ok(false),
     }
 }
@@ -149,7 +150,7 @@ fn open_source(
     };
     let mut bytes = [0u8; HEADER_SIZE];
     let size = metadata.len().min(HEADER_SIZE as u64) as usize;
-    if !is_read_at(&file, 0, &mut bytes[..size]) {
+    if !fill_from(&file, 0, &mut bytes[..size]) {
         return Ok(Err("cannot be read"));
     }
     match read_header(rt.alloc(), &bytes[..size])? {

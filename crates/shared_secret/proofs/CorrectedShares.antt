@@ -12,7 +12,7 @@ use Rattle.math_decoding.specs.Decodings.{IsDecoded, IsWithinRadius}
 use Rattle.math_decoding.proofs.AlikeValues.{AreAlike, alike-back, radius-alike, places-alike}
 use Rattle.shared_secret.specs.declared.shares.Share.{Share}
 use Rattle.shared_secret.specs.Shares.{point, points, values}
-use Rattle.shared_secret.specs.CorrectedShares.{AreWithinRadius, IsCorrected}
+use Rattle.shared_secret.specs.CorrectedShares.{AreSharesWithinRadius, IsCorrectedSecret}
 use Rattle.shared_secret.proofs.CombinedShares.{alike_points}
 
 module _ {A : Type 0} (R : RingOf A) (E : IsEquality R.same) (G : IsGroup R.same R.zero R.sum R.negative) where
@@ -50,7 +50,7 @@ module _ {A : Type 0} (R : RingOf A) (E : IsEquality R.same) (G : IsGroup R.same
 
     -- what is decoded from the points and copies is decoded from the shares
     pub corrected : (t : ℕ) (shares : List (Share A)) (xs vs a : List A) (wrong : List ℕ) (secret : A) → ArePointsOf shares xs → AreValuesOf shares vs
-        → IsDecoded R xs vs t a wrong → R.same secret (value_in_ring R a R.zero) → IsCorrected R t shares secret wrong
+        → IsDecoded R xs vs t a wrong → R.same secret (value_in_ring R a R.zero) → IsCorrectedSecret R t shares secret wrong
     corrected t shares xs vs a wrong secret h k d s =
         let ps = alike-points_of shares xs h in
         let ws = alike-values_of shares vs k in
@@ -69,7 +69,7 @@ module _ {A : Type 0} (R : RingOf A) (E : IsEquality R.same) (G : IsGroup R.same
 
     -- and where there is nothing within the radius of those, there is nothing within that of the shares
     pub none-corrected : (t : ℕ) (shares : List (Share A)) (xs vs : List A) → ArePointsOf shares xs → AreValuesOf shares vs
-        → ((a : List A) → ¬ (IsWithinRadius R xs vs t a)) → (p : List A) → ¬ (AreWithinRadius R t p shares)
+        → ((a : List A) → ¬ (IsWithinRadius R xs vs t a)) → (p : List A) → ¬ (AreSharesWithinRadius R t p shares)
     none-corrected t shares xs vs h k none p w =
         let ps = alike-points_of shares xs h in
         let ws = alike-values_of shares vs k in

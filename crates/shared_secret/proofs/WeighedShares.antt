@@ -10,7 +10,7 @@ use Rattle.math_theory.proofs.polynomials.ValuesRespect.{value_over-respects}
 use Rattle.math_base.specs.Members.{RingOf}
 use Rattle.math_base.specs.Polynomials.{AreWeightsAt, value_in_ring}
 use Rattle.shared_secret.specs.declared.shares.Share.{Share}
-use Rattle.shared_secret.specs.CorrectedShares.{IsCorrected}
+use Rattle.shared_secret.specs.CorrectedShares.{IsCorrectedSecret}
 use Rattle.shared_secret.specs.Shares.{point, points, values, AreCombinable}
 use Rattle.shared_secret.proofs.ExplainedValues.{zip-drop}
 use Rattle.shared_secret.proofs.NestedPolynomials.{through, length-through, value-through}
@@ -117,7 +117,7 @@ module _ {A : Type 0} (R : RingOf A) (E : IsEquality R.same) (G : IsGroup R.same
 
     -- where a further value is not what the weights give, the values are not those of one polynomial of t coefficients
     pub not-whole : (k : ℕ) (v : V) → k < length (drop t (values shares)) → get_or further k v ≡ v → ¬ (R.same (weighed R E G P (take t (values shares)) (items v)) (get_or (drop t (values shares)) k R.zero))
-        → (a : A) → ¬ (IsCorrected R t shares a [])
+        → (a : A) → ¬ (IsCorrectedSecret R t shares a [])
     not-whole k v l e differ a h =
         let below = below-further k l in
         differ (weighed-further R E G P t (points R shares) (values shares) enough count h.polynomial k (items v) (omega (arith, h.decoded.number))
@@ -129,7 +129,7 @@ module _ {A : Type 0} (R : RingOf A) (E : IsEquality R.same) (G : IsGroup R.same
       -- where each further value is what the weights give, none is wrong, and the weights give the secret
       pub whole : (a : A) → R.same a (weighed R E G P (take t (values shares)) secret)
           → ((k : ℕ) (d : V) → k < length (drop t (values shares)) → R.same (weighed R E G P (take t (values shares)) (items (get_or further k d))) (get_or (drop t (values shares)) k R.zero))
-          → IsCorrected R t shares a []
+          → IsCorrectedSecret R t shares a []
       whole a s h =
           let xs = points R shares in
           let vs = values shares in

@@ -13,6 +13,6 @@ pub record AreWeightsAtPoints {A : Type 0} (R : RingOf A) (t : ℕ) (points : Li
   pub further : AllZip (λ x w. AreWeightsAt R x (take t points) w.items) (drop t points) weights.further.items
 
 -- the shares are combinable, and the weights are those of the points of the first t
-pub record AreWeightsOf {A : Type 0} (R : RingOf A) (t : ℕ) (shares : List (Share A)) (weights : Weights A) : Type 0 where
+pub record AreWeightsOfShares {A : Type 0} (R : RingOf A) (t : ℕ) (shares : List (Share A)) (weights : Weights A) : Type 0 where
   pub combinable : AreCombinable R t shares
   pub at_points : AreWeightsAtPoints R t (points R shares) weights

@@ -2,7 +2,7 @@
 
 ghost use Rattle.std.specs.Prelude.{◌≡◌, ◌↔◌, ◌<◌, List, length, IfOk, IfErr, IfSome, IfNone};
 ghost use Rattle.math_base.specs.Polynomials.{value_in_ring};
-ghost use Rattle.shared_secret.specs.CorrectedShares.{AreWithinRadius, IsCorrected};
+ghost use Rattle.shared_secret.specs.CorrectedShares.{AreSharesWithinRadius, IsCorrectedSecret};
 ghost use Rattle.shared_secret.specs.Shares.{AreCombinable, IsRepeatedFirst, IsZeroFirst};
 ghost use Rattle.shared_secret.specs.declared.error.CombineError.TheVariants.{TooFewShares, ZeroIndex, RepeatedIndex};
 
@@ -43,9 +43,9 @@ pub fn combine_corrected<F: Field>(
 ) -> Result<Option<Corrected<F>>, CombineError>
     ensures combinable { IfOk result (λ _. AreCombinable F.Ring t shares.now) }
     ensures found { IfOk result (λ answer. IfSome answer (λ c.
-        IsCorrected F.Ring t shares.now c.secret c.wrong.items)) }
+        IsCorrectedSecret F.Ring t shares.now c.secret c.wrong.items)) }
     ensures none { IfOk result (λ answer. IfNone answer
-        ((p : List F) → ¬ (AreWithinRadius F.Ring t p shares.now))) }
+        ((p : List F) → ¬ (AreSharesWithinRadius F.Ring t p shares.now))) }
     ensures few { IfErr result (λ error. error ≡ TooFewShares ↔ length shares.now < t) }
     ensures zero { IfErr result (λ error. error ≡ ZeroIndex → IsZeroFirst F.Ring shares.now) }
     ensures repeated { IfErr result (λ error. error ≡ RepeatedIndex

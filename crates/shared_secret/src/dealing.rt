@@ -54,7 +54,15 @@ pub fn deal<F: Field + Random, G: Rng + CryptoRng>(
 /// verified.
 ///
 /// The commitment is public: it is the generator scaled by each coefficient, the secret being the
-/// first.
+/// first. It refuses as `deal` does.
+///
+/// ```
+/// use math_samples::quotients::Quotient;
+/// use shared_secret::{deal_committed, verify};
+/// let (shares, commitment) = deal_committed::<Quotient, _>(alloc, Quotient::new(5, 7), 2, 3, rng)?;
+/// commitment.degree(); // 1
+/// verify(alloc, &shares[2], &commitment)?; // true
+/// ```
 pub fn deal_committed<K: CryptoGroup, G: Rng + CryptoRng>(
     alloc: Global,
     secret: K::Scalar,

@@ -12,6 +12,14 @@ use std::alloc::Global;
 /// of its index, as it is for each share that `deal_committed` deals with this commitment.
 ///
 /// It says nothing of the index: `combine` refuses the index zero.
+///
+/// ```
+/// use math_samples::quotients::Quotient;
+/// use shared_secret::{deal_committed, verify};
+/// let (mut shares, commitment) = deal_committed::<Quotient, _>(alloc, Quotient::new(5, 7), 2, 3, rng)?;
+/// shares[0].index = 2;
+/// verify(alloc, &shares[0], &commitment)?; // false
+/// ```
 pub fn verify<K: CryptoGroup>(
     alloc: Global,
     share: &Share<K::Scalar>,

@@ -3,9 +3,9 @@
 ghost use Rattle.std.specs.Prelude.{◌≡◌, ◌↔◌, ◌<◌, ◌≤◌, ℕ, List, [], length, IfOk, IfErr, IfSome, IfNone};
 ghost use Rattle.math_theory.specs.Interpolation.{AreApart};
 ghost use Rattle.math_theory.specs.Sums.{weighted_sum};
-ghost use Rattle.shared_secret.specs.CorrectedShares.{IsCorrected};
+ghost use Rattle.shared_secret.specs.CorrectedShares.{IsCorrectedSecret};
 ghost use Rattle.shared_secret.specs.Shares.{IsRepeatedFirst, IsZeroFirst, values};
-ghost use Rattle.shared_secret.specs.Weights.{AreWeightsAtPoints, AreWeightsOf};
+ghost use Rattle.shared_secret.specs.Weights.{AreWeightsAtPoints, AreWeightsOfShares};
 ghost use Rattle.shared_secret.specs.declared.error.CombineError.TheVariants.{TooFewShares, ZeroIndex, RepeatedIndex};
 ghost use Rattle.shared_secret.specs.declared.shares.Share.{Share};
 
@@ -42,7 +42,7 @@ pub fn weigh<F: Field>(
     t: u32,
     shares: &[Share<F>],
 ) -> Result<Weights<F>, CombineError>
-    ensures weights { IfOk result (λ w. AreWeightsOf F.Ring t shares.now w) }
+    ensures weights { IfOk result (λ w. AreWeightsOfShares F.Ring t shares.now w) }
     ensures few { IfErr result (λ error. error ≡ TooFewShares ↔ length shares.now < t) }
     ensures zero { IfErr result (λ error. error ≡ ZeroIndex → IsZeroFirst F.Ring shares.now) }
     ensures repeated { IfErr result (λ error. error ≡ RepeatedIndex
@@ -76,6 +76,14 @@ fn weights_at_points<F: Field>(alloc: Global, t: usize, points: &[F]) -> Mem<Wei
 /// `None` exactly where there is no such polynomial.
 ///
 /// The sum of products is handed in: `msm` serves every field, and one with a cheaper way takes that.
+///
+/// ```
+/// use shared_secret::{deal, secret_of, weigh};
+/// let shares = deal(alloc, F::from(4), 2, 3, rng)?;
+/// let weights = weigh(alloc, 2, &shares)?;
+/// let values = [F::from(5), F::from(6), F::from(7)];
+/// secret_of(alloc, &weights, &values, |xs: &[F], ys: &[F]| F::msm(alloc, xs, ys))?; // Some(4)
+/// ```
 pub fn secret_of<F: Field, S: Fn(&[F], &[F]) -> Mem<F>>(
     alloc: Global,
     weights: &Weights<F>,
@@ -85,14 +93,14 @@ pub fn secret_of<F: Field, S: Fn(&[F], &[F]) -> Mem<F>>(
     requires callable { S.IsAlwaysCallable sum_of_products }
     requires sums { (xs : _) (ys : _) (sum : _) → S.post sum_of_products xs ys sum
         → IfOk sum (λ x. F.same x (weighted_sum F.zero F.sum F.product xs.now ys.now)) }
-    ensures found { (t : ℕ) (shares : List (Share F)) → AreWeightsOf F.Ring t shares weights.now
+    ensures found { (t : ℕ) (shares : List (Share F)) → AreWeightsOfShares F.Ring t shares weights.now
         → given.now ≡ values shares
         → IfOk result (λ answer. IfSome answer
-        (λ secret. IsCorrected F.Ring t shares secret [])) }
-    ensures none { (t : ℕ) (shares : List (Share F)) → AreWeightsOf F.Ring t shares weights.now
+        (λ secret. IsCorrectedSecret F.Ring t shares secret [])) }
+    ensures none { (t : ℕ) (shares : List (Share F)) → AreWeightsOfShares F.Ring t shares weights.now
         → given.now ≡ values shares
         → IfOk result (λ answer. IfNone answer
-        ((secret : F) → ¬ (IsCorrected F.Ring t shares secret []))) }
+        ((secret : F) → ¬ (IsCorrectedSecret F.Ring t shares secret []))) }
 {
     let t = weights.secret.len();
     if given.len() < t || given.len() - t != weights.further.len() {

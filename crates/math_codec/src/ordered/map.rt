@@ -190,13 +190,8 @@ impl<I: Ord + Drop, V: Drop> Map<I, V> {
         (self.keys, self.values)
     }
 
-    /// Returns the values alone, in the order of their keys.
-    ///
-    /// ```
-    /// let map = Map::try_from_iter(alloc, vec![in alloc; ('b', 4), ('a', 6)]?)?;
-    /// map.into_values(); // [6, 4]
-    /// ```
-    pub fn into_values(self) -> Vec<V>
+    /// The values alone, in the order of their keys.
+    pub(super) fn into_values(self) -> Vec<V>
         ensures { result.items ≡ values_of self }
     {
         self.values

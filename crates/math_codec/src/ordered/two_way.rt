@@ -179,7 +179,7 @@ impl<I: Ord + Drop, V: Ord + Drop> BiMap<I, V> {
     /// let map = BiMap::try_from_iter(alloc, vec![in alloc; ('b', 4), ('a', 6)]?)?;
     /// map.len(); // 2
     /// map.is_empty(); // false
-    /// map.into_map().into_values(); // [6, 4]
+    /// map.into_map().get(&'b'); // Some(4)
     /// ```
     pub fn into_map(self) -> Map<I, V>
         ensures pairs { result ≡ self }

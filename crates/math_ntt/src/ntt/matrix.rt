@@ -23,7 +23,7 @@ ghost use Rattle.math_transforms.specs.Matrices.{
   rows_of,
   row_of,
   IsOfSize,
-  AreSame,
+  AreSameMatrices,
   IsIterable,
   GivesAtMost,
   AreFilledUp,
@@ -260,7 +260,7 @@ impl<F: Drop> IndexMut<(usize, usize)> for Matrix<F> {
 impl<F: Object> Matrix<F> {
     /// Returns a matrix that equals this one.
     pub fn clone(&self, alloc: Global) -> Mem<Self>
-        ensures { IfOk result (λ copy. AreSame F.same copy self.now) }
+        ensures { IfOk result (λ copy. AreSameMatrices F.same copy self.now) }
     {
         let cells = copies(alloc, &self.cells)?;
         Ok(Matrix {
@@ -278,7 +278,7 @@ impl<F: Object> Matrix<F> {
     /// m.equals(alloc, &m.clone(alloc)?)?; // true
     /// ```
     pub fn equals(&self, alloc: Global, other: &Self) -> Mem<bool>
-        ensures ok { IfOk result (λ answer. IsTrue answer ↔ AreSame F.same self.now other.now) }
+        ensures ok { IfOk result (λ answer. IsTrue answer ↔ AreSameMatrices F.same self.now other.now) }
         ensures never { IsTrue F.NEVER_REFUSES → IsOk result }
     {
         if self.rows != other.rows || self.cols != other.cols {

@@ -26,7 +26,7 @@ ghost use Rattle.std.specs.Prelude.{
 ghost use Rattle.std.specs.Int.{IsNextPowerOfTwo, IsPowerOfTwo};
 ghost use Rattle.std.specs.Iterator.{YieldsFirstRef, item_count};
 ghost use Rattle.math_transforms.specs.DomainValues.{HasDomain, AreValuesOnDomain};
-ghost use Rattle.math_transforms.specs.Matrices.{rows_of, IsOfSize, AreSame};
+ghost use Rattle.math_transforms.specs.Matrices.{rows_of, IsOfSize, AreSameMatrices};
 ghost use Rattle.math_ntt.specs.AddedWork.{AddsUpTo};
 ghost use Rattle.math_ntt.specs.PolynomialRows.{AreEnough, FitsPadded, HaveSamePolynomials};
 
@@ -164,7 +164,7 @@ impl<F: Drop> PolynomialVector<F> {
 impl<F: Object> PolynomialVector<F> {
     /// Returns polynomials that equal these.
     pub fn clone(&self, alloc: Global) -> Mem<Self>
-        ensures { IfOk result (λ copy. AreSame F.same copy self.now) }
+        ensures { IfOk result (λ copy. AreSameMatrices F.same copy self.now) }
     {
         let coefficients = self.coefficients.clone(alloc)?;
         Ok(PolynomialVector { coefficients })
@@ -180,7 +180,7 @@ impl<F: Object> PolynomialVector<F> {
     /// polynomials.equals(alloc, &polynomials.clone(alloc)?)?; // true
     /// ```
     pub fn equals(&self, alloc: Global, other: &Self) -> Mem<bool>
-        ensures ok { IfOk result (λ answer. IsTrue answer ↔ AreSame F.same self.now other.now) }
+        ensures ok { IfOk result (λ answer. IsTrue answer ↔ AreSameMatrices F.same self.now other.now) }
         ensures never { IsTrue F.NEVER_REFUSES → IsOk result }
     {
         self.coefficients.equals(alloc, &other.coefficients)

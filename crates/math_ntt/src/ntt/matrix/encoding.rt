@@ -7,7 +7,7 @@
 ghost use Rattle.std.specs.Prelude.{◌≡◌, ◌++◌, ◌≤◌, length, take, IfOk, OnOk, OnErr};
 ghost use Rattle.math_codec.specs.Faults.{Agrees, OnMemory};
 ghost use Rattle.math_codec.specs.Lengths.{length_spelling};
-ghost use Rattle.math_transforms.specs.Matrices.{AreSame};
+ghost use Rattle.math_transforms.specs.Matrices.{AreSameMatrices};
 ghost use Rattle.math_ntt.specs.MatrixEncoding.{
   matrix_spelling,
   AdmitsMatrix,
@@ -30,7 +30,7 @@ use std::alloc::Global;
 impl<F: Encoding + Drop> Encoding for Matrix<F> {
     ghost spelling = { λ m. matrix_spelling F.spelling m };
 
-    ghost alike = { λ m n. AreSame F.alike m n };
+    ghost alike = { λ m n. AreSameMatrices F.alike m n };
 }
 
 /// Reads a length of at most `most` from the front of `input`, and moves `input` to what follows

@@ -1,6 +1,6 @@
 use Rattle.std.proofs.Common.{◌≡◌, ◌<◌, ◌≤◌, ◌^◌, length, slice_get, Some, ap, arith, refl, sym}
 use Rattle.std.specs.List.{All}
-use Rattle.secret_bytes.specs.Combined.{AreRecovered, IsDueCombining}
+use Rattle.secret_bytes.specs.Combined.{AreElementsOfShares, IsDueCombining}
 use Rattle.secret_bytes.specs.Keyed.{AreKeyed}
 use Rattle.secret_bytes.specs.Passes.{IsDueRecovering}
 use Rattle.secret_bytes.specs.Settled.{IsDueSettling, StandBelow, firsts}
@@ -58,7 +58,7 @@ returns-in_default-2-clause-due c =
     let is_first : slice_get shares 0 ≡ Some first = rw c.deref.ensures.value at (sym c.in-Some.ensures.value) in
     let width : c.len.result ≡ length first.values.items = omega (arith, c.len.ensures, first.values.ok) in
     let stand : StandBelow first.threshold first.deal (length first.values.items) shares (length shares) = rw (c.deref-2.ensures.value, width) at c.in_ok-settled.ensures.stand in
-    let recovered : AreRecovered first.threshold (length first.values.items) (firsts shares) c.in_ok-found.found.elements.items c.in_ok-found.found.wrong.items =
+    let recovered : AreElementsOfShares first.threshold (length first.values.items) (firsts shares) c.in_ok-found.found.elements.items c.in_ok-found.found.wrong.items =
     rw (c.in_ok-kept.ensures, width) at c.in_ok-found.ensures.recovered in (
       first,
       record { first_is = is_first; stand = stand },
@@ -75,7 +75,7 @@ returns-clause-combined c =
     let is_first : slice_get shares 0 ≡ Some first = rw c.deref.ensures.value at (sym c.in-Some.ensures.value) in
     let width : c.len.result ≡ length first.values.items = omega (arith, c.len.ensures, first.values.ok) in
     let stand : StandBelow first.threshold first.deal (length first.values.items) shares (length shares) = rw (c.deref-2.ensures.value, width) at c.in_ok-settled.ensures.stand in
-    let recovered : AreRecovered first.threshold (length first.values.items) (firsts shares) c.in_ok-found.found.elements.items c.in_ok-found.found.wrong.items =
+    let recovered : AreElementsOfShares first.threshold (length first.values.items) (firsts shares) c.in_ok-found.found.elements.items c.in_ok-found.found.wrong.items =
     rw (c.in_ok-kept.ensures, width) at c.in_ok-found.ensures.recovered in
     let keyed : AreKeyed c.in-Some-2.bytes.items c.in_ok-found.found.elements.items = rw (c.in-Some-2.is, c.deref-3.ensures.value) at c.in_ok-bytes.ensures.some in
     record { first = first; all = c.in_ok-found.found.elements.items; of_deal = record { first_is = is_first; stand = stand }; recovered = recovered; keyed = keyed }

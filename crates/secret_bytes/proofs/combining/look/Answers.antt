@@ -1,5 +1,5 @@
 use Rattle.std.proofs.Common.{◌≡◌, ◌+◌, [], ◌∷◌, ◌++◌, length, ap, arith}
-use Rattle.shared_secret.specs.CorrectedShares.{IsCorrected}
+use Rattle.shared_secret.specs.CorrectedShares.{IsCorrectedSecret}
 use Rattle.math_base.specs.Elements.{goldilocks}
 use Rattle.secret_bytes.specs.Columns.{column}
 use Rattle.secret_bytes.proofs.WeighedColumns.{elements-next}
@@ -13,7 +13,7 @@ loop-j-preserved c =
     let j = c.loop-j.j in
     let shares = c.args.shares.now in
     let element = c.in-Some.element in
-    let found : IsCorrected goldilocks c.args.t (column j shares) element [] = rw c.in-Some.is at c.in_ok-element.ensures.found in
+    let found : IsCorrectedSecret goldilocks c.args.t (column j shares) element [] = rw c.in-Some.is at c.in_ok-element.ensures.found in
     let pushed : c.push.new.self.items ≡ c.loop-j.elements.items ++ (element ∷ []) = c.in_ok-push.ensures.items in
     let count : length (c.loop-j.elements.items ++ (element ∷ [])) ≡ j + 1 =
     omega (arith, ap length pushed, c.loop-j.invariant.count, c.in_ok-push.ensures.len, c.push.new.self.ok, c.loop-j.elements.ok) in
@@ -22,7 +22,7 @@ loop-j-preserved c =
       elements = record {
         count = omega (arith, count, c.loop-j-test.true);
         fit = λ i l.
-            elements-next (λ i a. IsCorrected goldilocks c.args.t (column i shares) a []) j c.loop-j.elements.items element c.loop-j.invariant.count
+            elements-next (λ i a. IsCorrectedSecret goldilocks c.args.t (column i shares) a []) j c.loop-j.elements.items element c.loop-j.invariant.count
             (λ k m. c.loop-j.invariant.elements.fit k (omega (arith, m, c.loop-j.invariant.count))) found i (omega (arith, l, count));
       };
     }

@@ -1,6 +1,6 @@
 use Rattle.std.proofs.Common.{◌≡◌, ◌+◌, ◌<◌, ◌≤◌, ◌++◌, length, ap, arith}
 use Rattle.secret_bytes.specs.Combined.{others}
-use Rattle.secret_bytes.specs.Passes.{AreElements, AreReady, IsPass, indices_at}
+use Rattle.secret_bytes.specs.Passes.{AreFirstElements, AreReady, IsPass, indices_at}
 use Rattle.secret_bytes.specs.declared.combining.Pass.TheVariants.{Fit, TooManyWrong, Wrong}
 use Rattle.secret_bytes.proofs.RecoveredShares.{IsProgress, elements-left, progress-end, progress-next, progress-none, progress-ready}
 use Rattle.secret_bytes.proofs.RefusedRecoveries.{not-more, not-none}
@@ -20,7 +20,7 @@ pub returns-in-Fit-clause-recovered : goal.returns-in-Fit-clause-recovered
 returns-in-Fit-clause-recovered c =
     let kept = c.loop-elements.kept.items in
     let all = c.look.new.elements.items in
-    let found : AreElements c.args.t c.args.width kept all = rw c.deref.ensures.value at c.in_ok-look.ensures.elements in
+    let found : AreFirstElements c.args.t c.args.width kept all = rw c.deref.ensures.value at c.in_ok-look.ensures.elements in
     let pass : IsPass c.args.t c.args.width kept (length all) Fit = rw c.in-Fit.is at c.in_ok-look.ensures.pass in
     progress-end c.args.t c.args.width c.args.shares.items kept c.loop-elements.wrong.items all c.requires c.loop-elements.invariant.progress pass (λ j l. found.fit j (omega (arith, l, pass)))
 
@@ -54,7 +54,7 @@ loop-elements-preserved c =
     progress-next c.args.t c.args.width c.args.shares.items kept wrong pass.0 pass.1 places c.requires c.loop-elements.invariant.progress pass.2 pass.4 c.leave_out.new.shares.items few left in
     let ready : AreReady c.args.t c.args.width c.leave_out.new.shares.items =
     progress-ready c.args.t c.args.width c.args.shares.items c.leave_out.new.shares.items (wrong ++ indices_at kept places) c.requires next in
-    let all : AreElements c.args.t c.args.width kept c.look.new.elements.items = rw c.deref.ensures.value at c.in_ok-look.ensures.elements in
+    let all : AreFirstElements c.args.t c.args.width kept c.look.new.elements.items = rw c.deref.ensures.value at c.in_ok-look.ensures.elements in
     record {
       progress = rw found next;
       elements = elements-left c.args.t c.args.width kept c.leave_out.new.shares.items (wrong ++ indices_at kept places) c.look.new.elements.items ready left all;

@@ -1,5 +1,5 @@
 use Rattle.std.proofs.Common.{◌+◌, ◌-◌, length}
-use Rattle.secret_bytes.specs.Passes.{AreElements}
+use Rattle.secret_bytes.specs.Passes.{AreFirstElements}
 use Rattle.secret_bytes.proofs.RecoveredShares.{IsProgress}
 use Rattle.secret_bytes.proofs.combining.recover.Given as goal
 
@@ -7,7 +7,7 @@ use Rattle.secret_bytes.proofs.combining.recover.Given as goal
 abbrev pub invariant-loop-elements : goal.invariant-loop-elements
 invariant-loop-elements l = record {
   progress : IsProgress l.t l.width l.fn.shares.items l.kept.items l.wrong.items;
-  elements : AreElements l.t l.width l.kept.items l.elements.items;
+  elements : AreFirstElements l.t l.width l.kept.items l.elements.items;
 }
 
 -- each time more are found

@@ -1,6 +1,6 @@
 use Rattle.math_base.specs.ElementLaws.{equality, group}
 use Rattle.shared_secret.specs.Shares.{IsRepeatedFirst, IsZeroFirst}
-use Rattle.shared_secret.specs.Weights.{AreWeightsOf}
+use Rattle.shared_secret.specs.Weights.{AreWeightsOfShares}
 use Rattle.shared_secret.proofs.RefusedShares.{exclude}
 use Rattle.math_base.specs.Elements.{goldilocks}
 use Rattle.secret_bytes.specs.Columns.{column}
@@ -11,7 +11,7 @@ use Rattle.secret_bytes.proofs.combining.weights_once.Goals as goal
 pub returns-in-Ok : goal.returns-in-Ok
 returns-in-Ok c = λ j.
     let shares = c.args.shares.now in
-    let first : AreWeightsOf goldilocks c.args.t (column 0 shares) c.in-Ok.weights = rw (c.deref.ensures.value, c.in_ok-column.ensures) at c.in-Ok.ensures.weights in
+    let first : AreWeightsOfShares goldilocks c.args.t (column 0 shares) c.in-Ok.weights = rw (c.deref.ensures.value, c.in_ok-column.ensures) at c.in-Ok.ensures.weights in
     weights-of-column c.args.t 0 j shares c.in-Ok.weights first
 
 pub unreachable-requires-in-Err-ZeroIndex : goal.unreachable-requires-in-Err-ZeroIndex

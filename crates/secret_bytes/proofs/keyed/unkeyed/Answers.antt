@@ -3,7 +3,7 @@ use Rattle.math_base.specs.declared.fields.goldilocks.F.{F}
 use Rattle.math_base.specs.Elements.{same}
 use Rattle.secret_bytes.proofs.UnpackedBytes.{some-mapped}
 use Rattle.secret_bytes.specs.KeyChecks.{check_at}
-use Rattle.secret_bytes.specs.Packings.{ArePacked}
+use Rattle.secret_bytes.specs.Packings.{ArePackedBytes}
 use Rattle.secret_bytes.specs.Keyed.{AreKeyed}
 use Rattle.secret_bytes.proofs.KeyedBytes.{keyed-parts, none-found}
 use Rattle.secret_bytes.proofs.keyed.unkeyed.Goals as goal
@@ -47,4 +47,4 @@ returns-clause-none c =
     none-found c.bytes_of.result (λ bytes. AreKeyed bytes c.args.all.now) _
     (λ bytes k.
     let e = keyed-parts c.args.all.now elements key check bytes (last ∙ ap (λ x. x ++ (check ∷ [])) before ∙ append_assoc elements (key ∷ []) (check ∷ [])) k in
-    c.bytes_of.ensures.found bytes (subst (λ (es : List F). ArePacked es bytes) e.0 k.packed))
+    c.bytes_of.ensures.found bytes (subst (λ (es : List F). ArePackedBytes es bytes) e.0 k.packed))

@@ -1,6 +1,6 @@
 use Rattle.std.proofs.Common.{refl}
 use Rattle.math_base.specs.Elements.{residue}
-use Rattle.shard_format.specs.Headers.{mark, version}
+use Rattle.shard_format.specs.Headers.{mark, format_version}
 use Rattle.shard_fingerprints.specs.EqualElements.{element_equal}
 use Rattle.shard_format.proofs.header.words_of.Goals as goal
 
@@ -8,7 +8,7 @@ pub returns : goal.returns
 returns c =
     let h = c.args.header.now in
     let a = element_equal c.from.result (residue mark) c.from.ensures in
-    let b = element_equal c.from-2.result (residue version) c.from-2.ensures in
+    let b = element_equal c.from-2.result (residue format_version) c.from-2.ensures in
     let d = element_equal c.from-3.result (residue h.index) c.from-3.ensures in
     let e = element_equal c.from-4.result (residue h.min) c.from-4.ensures in
     let f = element_equal c.from-5.result (residue h.total) c.from-5.ensures in
