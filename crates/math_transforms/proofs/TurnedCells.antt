@@ -121,6 +121,13 @@ module _ {A : Type 0} (R : RingOf A) (E : IsEquality R.same) (G : IsGroup R.same
       turned-same forward e' f' g' a b c d new_a new_b new_c new_d
       (rw (class_same E e e' he, class_same E f f' hf, class_same E g g' hg) at (turned-class forward e f g a b c d new_a new_b new_c new_d h))
 
+  -- of the same cells
+  pub turned-of : (forward : Bool) (e f g a a' b b' c c' d d' new_a new_b new_c new_d : A) → R.same a a' → R.same b b' → R.same c c' → R.same d d'
+      → IsTurned R forward e f g a b c d new_a new_b new_c new_d → IsTurned R forward e f g a' b' c' d' new_a new_b new_c new_d
+  turned-of forward e f g a a' b b' c c' d d' new_a new_b new_c new_d ha hb hc hd h =
+      turned-same forward e f g a' b' c' d' new_a new_b new_c new_d
+      (rw (class_same E a a' ha, class_same E b b' hb, class_same E c c' hc, class_same E d d' hd) at (turned-class forward e f g a b c d new_a new_b new_c new_d h))
+
   module _ (n : ℕ) (e f g a b c d : A) where
     -- where the number that stands for forward is not zero
     at-forward : n ≢ 0 → (e f g new_a new_b new_c new_d : A) → IsTurned R true e f g a b c d new_a new_b new_c new_d → IsTurned R (not (eqb n 0)) e f g a b c d new_a new_b new_c new_d

@@ -113,6 +113,48 @@ fn turn_four<F: FieldNTT, const FORWARD: bool>(
     Ok(())
 }
 
+/// As `turn_four`, on copies of the cells, which are put in their places at the end. A compiler that
+/// cannot tell whether the rows lie apart reads each cell anew after a write to another; a copy it
+/// holds in a register.
+fn turn_copies<F: FieldNTT, const FORWARD: bool>(
+    alloc: Global,
+    a: &mut F,
+    b: &mut F,
+    c: &mut F,
+    d: &mut F,
+    e: &F,
+    eg: &F,
+    g: &F,
+    one: &F,
+    turn: &F,
+    work: &mut Work,
+) -> Mem<()>
+    requires order { 2 ≤ F.MAX_LG_ROOT_ORDER }
+    requires turn { F.same turn.now (F.root 2) ⊎ F.same turn.now (F.inverse (F.root 2)) }
+    requires product { F.same eg.now (F.product e.now g.now) }
+    requires one { F.same one.now F.one }
+    requires room { work.old.butterflies + 4 < 2 ^ 128 }
+    ensures turned { OnOk result
+        (IsTurned F.Ring FORWARD e.now (F.product e.now turn.now) g.now
+        a.old b.old c.old d.old a.new b.new c.new d.new) }
+    ensures counted { OnOk result (work.new.butterflies ≡ work.old.butterflies + 4) }
+    ensures bounded { AddsAtMost 8 work.old work.new }
+    ensures never { IsTrue F.NEVER_REFUSES → IsOk result }
+{
+    let mut w = a.clone(alloc)?;
+    let mut x = b.clone(alloc)?;
+    let mut y = c.clone(alloc)?;
+    let mut z = d.clone(alloc)?;
+    turn_four::<F, FORWARD>(
+        alloc, &mut w, &mut x, &mut y, &mut z, e, eg, g, one, turn, work,
+    )?;
+    *a = w;
+    *b = x;
+    *c = y;
+    *d = z;
+    Ok(())
+}
+
 /// Turns four cells where e and g are one: no product is taken but that by the root of order four.
 fn turn_at_one<F: FieldNTT, const FORWARD: bool>(
     alloc: Global,
@@ -151,7 +193,75 @@ fn turn_at_one<F: FieldNTT, const FORWARD: bool>(
     Ok(())
 }
 
-/// Turns the cells of four quarters, place by place, where e and g are one.
+/// As `turn_at_one`, on copies of the cells, like `turn_copies`.
+fn turn_copies_at_one<F: FieldNTT, const FORWARD: bool>(
+    alloc: Global,
+    a: &mut F,
+    b: &mut F,
+    c: &mut F,
+    d: &mut F,
+    one: &F,
+    turn: &F,
+    work: &mut Work,
+) -> Mem<()>
+    requires order { 2 ≤ F.MAX_LG_ROOT_ORDER }
+    requires turn { F.same turn.now (F.root 2) ⊎ F.same turn.now (F.inverse (F.root 2)) }
+    requires one { F.same one.now F.one }
+    requires room { work.old.butterflies + 4 < 2 ^ 128 }
+    ensures turned { OnOk result (IsTurned F.Ring FORWARD F.one turn.now F.one
+        a.old b.old c.old d.old a.new b.new c.new d.new) }
+    ensures counted { OnOk result (work.new.butterflies ≡ work.old.butterflies + 4) }
+    ensures bounded { AddsAtMost 8 work.old work.new }
+    ensures never { IsTrue F.NEVER_REFUSES → IsOk result }
+{
+    let mut w = a.clone(alloc)?;
+    let mut x = b.clone(alloc)?;
+    let mut y = c.clone(alloc)?;
+    let mut z = d.clone(alloc)?;
+    turn_at_one::<F, FORWARD>(alloc, &mut w, &mut x, &mut y, &mut z, one, turn, work)?;
+    *a = w;
+    *b = x;
+    *c = y;
+    *d = z;
+    Ok(())
+}
+
+/// Turns the cells of four quarters after the first of each, place by place, where e and g are one.
+fn turn_further_cells_at_one<F: FieldNTT, const FORWARD: bool>(
+    alloc: Global,
+    a: &mut [F],
+    b: &mut [F],
+    c: &mut [F],
+    d: &mut [F],
+    one: &F,
+    turn: &F,
+    work: &mut Work,
+) -> Mem<()>
+    requires order { 2 ≤ F.MAX_LG_ROOT_ORDER }
+    requires turn { F.same turn.now (F.root 2) ⊎ F.same turn.now (F.inverse (F.root 2)) }
+    requires second { length b.old ≡ length a.old }
+    requires third { length c.old ≡ length a.old }
+    requires fourth { length d.old ≡ length a.old }
+    requires some { 0 < length a.old }
+    requires one { F.same one.now F.one }
+    requires room { work.old.butterflies + 4 * length a.old < 2 ^ 128 + 4 }
+    ensures turned { OnOk result (AreTurned F.Ring FORWARD F.one turn.now F.one 1 (length a.old)
+        a.old b.old c.old d.old a.new b.new c.new d.new) }
+    ensures counted { OnOk result
+        (work.new.butterflies + 4 ≡ work.old.butterflies + 4 * length a.old) }
+    ensures bounded { AddsAtMost (8 * (length a.old - 1)) work.old work.new }
+    ensures never { IsTrue F.NEVER_REFUSES → IsOk result }
+{
+    for p in 1..a.len() {
+        turn_copies_at_one::<F, FORWARD>(
+            alloc, &mut a[p], &mut b[p], &mut c[p], &mut d[p], one, turn, work,
+        )?;
+    }
+    Ok(())
+}
+
+/// Turns the cells of four quarters, place by place, where e and g are one: the first of each in its
+/// place, so that nothing is refused before a pair is combined.
 fn turn_cells_at_one<F: FieldNTT, const FORWARD: bool>(
     alloc: Global,
     a: &mut [F],
@@ -167,6 +277,7 @@ fn turn_cells_at_one<F: FieldNTT, const FORWARD: bool>(
     requires second { length b.old ≡ length a.old }
     requires third { length c.old ≡ length a.old }
     requires fourth { length d.old ≡ length a.old }
+    requires some { 0 < length a.old }
     requires one { F.same one.now F.one }
     requires room { work.old.butterflies + 4 * length a.old < 2 ^ 128 }
     ensures turned { OnOk result (AreTurned F.Ring FORWARD F.one turn.now F.one 0 (length a.old)
@@ -177,11 +288,10 @@ fn turn_cells_at_one<F: FieldNTT, const FORWARD: bool>(
     ensures refused { OnErr result (work.old.butterflies < work.new.butterflies) }
     ensures never { IsTrue F.NEVER_REFUSES → IsOk result }
 {
-    for p in 0..a.len() {
-        turn_at_one::<F, FORWARD>(
-            alloc, &mut a[p], &mut b[p], &mut c[p], &mut d[p], one, turn, work,
-        )?;
-    }
+    turn_at_one::<F, FORWARD>(
+        alloc, &mut a[0], &mut b[0], &mut c[0], &mut d[0], one, turn, work,
+    )?;
+    turn_further_cells_at_one::<F, FORWARD>(alloc, a, b, c, d, one, turn, work)?;
     Ok(())
 }
 
@@ -216,7 +326,7 @@ fn turn_further_cells<F: FieldNTT, const FORWARD: bool>(
     let mut eg = e.clone(alloc)?;
     eg.mul_assign(alloc, g)?;
     for p in 1..a.len() {
-        turn_four::<F, FORWARD>(
+        turn_copies::<F, FORWARD>(
             alloc, &mut a[p], &mut b[p], &mut c[p], &mut d[p], e, &eg, g, &one, turn, work,
         )?;
     }

@@ -9,7 +9,7 @@ pub loop-p-preserved : goal.loop-p-preserved
 loop-p-preserved g c = record {
   turned =
       turned-then _ _ _ _ _ _ _ _ _ _ _ _ _ _ _ _ _ _ _ _ (omega arith) (omega arith) c.loop-p.invariant.turned
-      (turned-one _ _ _ _ _ _ _ _ _ _ _ _ _ _ (omega arith) (omega arith) (omega arith) (omega arith) _ _ _ _ c.in_ok-turn_four.ensures.turned);
-  butterflies = omega (arith, c.loop-p.invariant.butterflies, c.in_ok-turn_four.ensures.counted);
-  root_products = omega (arith, c.in_ok-turn_four.ensures.bounded.root_products, c.loop-p.invariant.root_products);
+      (turned-one _ _ _ _ _ _ _ _ _ _ _ _ _ _ (omega arith) (omega arith) (omega arith) (omega arith) _ _ _ _ c.in_ok-turn_copies.ensures.turned);
+  butterflies = omega (arith, c.loop-p.invariant.butterflies, c.in_ok-turn_copies.ensures.counted);
+  root_products = omega (arith, c.in_ok-turn_copies.ensures.bounded.root_products, c.loop-p.invariant.root_products);
 }
