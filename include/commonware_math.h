@@ -236,6 +236,17 @@ CWM_MUST_USE uint32_t cwm_split_bytes(const uint8_t *data, size_t n, uint32_t mi
 CWM_MUST_USE uint32_t cwm_join_bytes(const uint32_t *indices, size_t k, uint32_t min, uint32_t total, const uint8_t *shards,
                                      size_t n, uint8_t *data, size_t m, size_t *written);
 
+/* As cwm_join_bytes, where some of the shards are wrong, and nobody knows which. As for cwm_join_corrected, an index whose
+ * shards are unequal counts as missing, and of the i distinct indices that are left at most (i - min) / 2, rounded down,
+ * have wrong shards: then the data are the only such ones. Writes the positions of the shards that are not shards of the
+ * data, rising, over the first of the `room` places of `left_out`, and how many they are into *many. The position of a
+ * shard is its row. Where more shards are wrong than that, they may have other data, which are then given.
+ * Sizes, words and statuses as for cwm_join_bytes; but there is no CWM_CONFLICT, and CWM_TOO_FEW says that i is below min.
+ * room is k or more, else CWM_WRONG_SIZE. Where it is not CWM_DONE, nothing is written. Takes memory as cwm_join_bytes does. */
+CWM_MUST_USE uint32_t cwm_join_bytes_corrected(const uint32_t *indices, size_t k, uint32_t min, uint32_t total,
+                                               const uint8_t *shards, size_t n, uint8_t *data, size_t m, size_t *written,
+                                               size_t *left_out, size_t room, size_t *many);
+
 #ifdef __cplusplus
 }
 #endif

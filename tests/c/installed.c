@@ -85,5 +85,24 @@ int main(void) {
   WANT(cwm_join_bytes(last_two, 2, 2, 3, byte_shards + 24, 48, bytes_back, 9, &written) == CWM_WRONG_SIZE);
   WANT(cwm_join_bytes(last_two, 2, 2, 3, byte_shards + 24, 48, bytes_back, 10, &written) == CWM_DONE && written == 10);
   WANT(cwm_join_bytes(last_two, 1, 2, 3, byte_shards + 24, 24, bytes_back, 48, &written) == CWM_TOO_FEW);
+
+  /* of three shards of these bytes, one is wrong */
+  uint8_t three[120];
+  WANT(cwm_shard_bytes_sizes(10, 1, 3, &size) == CWM_DONE && size == 40);
+  WANT(cwm_split_bytes(bytes, 10, 1, 3, three, 120) == CWM_DONE);
+  three[47] ^= 1;
+  bytes_back[0] = 7;
+  WANT(cwm_join_bytes_corrected(all, 3, 1, 3, three, 120, bytes_back, 9, &written, left_out, 3, &many) == CWM_WRONG_SIZE);
+  WANT(cwm_join_bytes_corrected(all, 3, 1, 3, three, 120, bytes_back, 10, &written, left_out, 2, &many) == CWM_WRONG_SIZE);
+  WANT(cwm_join_bytes_corrected(all, 3, 1, 3, three, 119, bytes_back, 10, &written, left_out, 3, &many) == CWM_WRONG_SIZE);
+  WANT(bytes_back[0] == 7);
+  WANT(cwm_join_bytes_corrected(all, 3, 1, 3, three, 120, bytes_back, 10, &written, left_out, 3, &many) == CWM_DONE);
+  WANT(written == 10 && memcmp(bytes, bytes_back, 10) == 0 && many == 1 && left_out[0] == 1);
+  WANT(cwm_join_bytes(all, 3, 1, 3, three, 120, bytes_back, 40, &written) == CWM_INCONSISTENT);
+  WANT(cwm_join_bytes_corrected(all, 0, 1, 3, three, 0, bytes_back, 10, &written, left_out, 3, &many) == CWM_TOO_FEW);
+
+  /* the shards of no word, of which one is wrong, are those of no bytes */
+  for (int i = 0; i < 48; i++) byte_shards[i] = (uint8_t)(shards[i / 8] >> 8 * (7 - i % 8));
+  WANT(cwm_join_bytes_corrected(all, 3, 1, 3, byte_shards, 48, bytes_back, 16, &written, left_out, 3, &many) == CWM_INCONSISTENT);
   return 0;
 }

@@ -150,8 +150,9 @@ static void shards(uint32_t min, uint32_t total) {
           min * cols + 9 * (rows * min + 64 * rows) + 3 * k + 16384);
     count("cwm_join_bytes", cwm_join_bytes(indices, k, min, total, bytes, k * size, back, ROOM, &written), 10, words);
   }
-  for (uint32_t i = 0; i < (total - min) / 2; i++) cells[i * cols] = 1;
+  for (uint32_t i = 0; i < (total - min) / 2; i++) cells[i * cols] = 1, memset(bytes + i * size, 1, 8);
   count("cwm_join_corrected", cwm_join_corrected(indices, total, min, total, cells, total * cols, b, CELLS, &written, wrong, total, &many), 9, words);
+  count("cwm_join_bytes_corrected", cwm_join_bytes_corrected(indices, total, min, total, bytes, total * size, back, ROOM, &written, wrong, total, &many), 10, words);
   __real_free(bytes), __real_free(back), __real_free(cells);
 }
 
@@ -176,7 +177,7 @@ int main(void) {
   for (size_t i = 0; i < sizeof splits / sizeof *splits; i++) shards(splits[i][0], splits[i][1]);
   large();
   for (int i = 0; calls[i].name != NULL; i++) {
-    printf("%-22s %5.2f of %5.2f%s\n", calls[i].name, calls[i].taken, calls[i].most, calls[i].taken > calls[i].most ? ", FAILED" : "");
+    printf("%-24s %5.2f of %5.2f%s\n", calls[i].name, calls[i].taken, calls[i].most, calls[i].taken > calls[i].most ? ", FAILED" : "");
     failed |= calls[i].taken > calls[i].most;
   }
   return failed;

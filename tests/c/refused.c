@@ -19,7 +19,7 @@ struct given {
   uint64_t data[WORDS], shards[TOTAL * SHARD], spoiled[TOTAL * SHARD];
   uint64_t values[POINTS], coefficients[FEW], rows[SMALL];
   size_t wrong[POINTS], count, many;
-  uint8_t block[BLOCK], block_shards[TOTAL * BLOCK_SHARD];
+  uint8_t block[BLOCK], block_shards[TOTAL * BLOCK_SHARD], spoiled_bytes[TOTAL * BLOCK_SHARD];
 };
 
 static struct given now, before, answer;
@@ -49,6 +49,10 @@ static uint32_t split_bytes(void) { return cwm_split_bytes(now.block, BLOCK, MIN
 static uint32_t join_bytes(void) {
   return cwm_join_bytes(now.indices, MIN + 1, MIN, TOTAL, now.block_shards, (MIN + 1) * BLOCK_SHARD, now.block, BLOCK, &now.count);
 }
+static uint32_t join_bytes_corrected(void) {
+  return cwm_join_bytes_corrected(now.indices, TOTAL, MIN, TOTAL, now.spoiled_bytes, TOTAL * BLOCK_SHARD, now.block, BLOCK, &now.count,
+                                  now.wrong, POINTS, &now.many);
+}
 static uint32_t shard_bytes_sizes(void) { return cwm_shard_bytes_sizes(BLOCK, MIN, TOTAL, &now.count); }
 
 static const struct {
@@ -60,12 +64,12 @@ static const struct {
     {"cwm_recover", recover, 1},   {"cwm_weights", weights, 1},         {"cwm_weights_at_roots", weights_at_roots, 1},
     {"cwm_split", split, 1},       {"cwm_join", join, 1},               {"cwm_encode_poly", encode_poly, 1},
     {"cwm_decode_poly", decode_poly, 0}, {"cwm_decode", decode, 1},     {"cwm_correct", correct, 1},
-    {"cwm_join_corrected", join_corrected, 1},
+    {"cwm_join_corrected", join_corrected, 1}, {"cwm_join_bytes_corrected", join_bytes_corrected, 1},
     {"cwm_split_bytes", split_bytes, 1}, {"cwm_join_bytes", join_bytes, 1}, {"cwm_shard_bytes_sizes", shard_bytes_sizes, 0},
 };
 
-/* Words below P, a third of the rows missing, three coefficients in bytes, shards with rising indices, the same with one
- * that is wrong, and values and rows of constants of which one is wrong. */
+/* Words below P, a third of the rows missing, three coefficients in bytes, shards of words and of bytes with rising indices,
+ * the same with one that is wrong, and values and rows of constants of which one is wrong. */
 static int make(void) {
   for (int i = 0; i < ROWS * COLS; i++) before.cells[i] = (uint64_t)i * 0x9e3779b97f4a7c15 % CWM_MODULUS;
   for (int i = 0; i < ROWS; i++) before.filled[i] = i % 3 != 0;
@@ -82,6 +86,8 @@ static int make(void) {
              && cwm_split(before.data, WORDS, MIN, TOTAL, before.shards, TOTAL * SHARD) == CWM_DONE;
   memcpy(before.spoiled, before.shards, sizeof before.spoiled);
   before.spoiled[2 * SHARD] ^= 1;
+  memcpy(before.spoiled_bytes, before.block_shards, sizeof before.spoiled_bytes);
+  before.spoiled_bytes[2 * BLOCK_SHARD + 7] ^= 1;
   return made;
 }
 

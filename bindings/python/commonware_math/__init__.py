@@ -17,7 +17,6 @@ from __future__ import annotations
 import builtins
 import ctypes
 import operator
-import sys
 from array import array
 from typing import Any, Iterable, Mapping, Sequence, Union
 
@@ -159,6 +158,20 @@ def _indices(values: Iterable[int]) -> tuple[Any, int]:
     return (ctypes.c_uint32 * max(1, len(numbers)))(*numbers), len(numbers)
 
 
+def _rows(shards: Mapping[int, Bytes]) -> tuple[Any, int, Any, int]:
+    """The indices of the shards and how many they are, and their bytes, one behind the other, and how many these are."""
+    indices, count = _indices(shards)
+    rows = [memoryview(shard) for shard in shards.values()]
+    if any(row.nbytes != rows[0].nbytes for row in rows):
+        raise Mismatch()
+    return indices, count, *_library.read_bytes(b"".join(rows))
+
+
+def _room(count: int, length: int, min: int) -> int:
+    """How many bytes at most come back from so many shards that have so many bytes together."""
+    return builtins.min(_number(min, 32), count) * (length // count if count else 0)
+
+
 def _marks(filled: Any) -> tuple[Any, int]:
     """One byte a row: those of a buffer of bytes, or items that are true or false."""
     try:
@@ -232,13 +245,8 @@ def join(shards: Mapping[int, Bytes], min: int, total: int) -> bytes:
     Traceback (most recent call last):
     commonware_math.TooFew: too few
     """
-    indices, count = _indices(shards)
-    rows = [memoryview(shard) for shard in shards.values()]
-    if any(row.nbytes != rows[0].nbytes for row in rows):
-        raise Mismatch()
-    together = b"".join(rows)
-    at, length = _library.read_bytes(together)
-    room = builtins.min(_number(min, 32), count) * (length // count if count else 0)
+    indices, count, at, length = _rows(shards)
+    room = _room(count, length, min)
     out, written = _library.bytes_of(room), ctypes.c_size_t()
     _done(_lib.cwm_join_bytes(indices, count, min, _number(total, 32), at, length, out, room, ctypes.byref(written)))
     return bytes(memoryview(out).cast("B")[: written.value])
@@ -253,36 +261,16 @@ def join_corrected(shards: Mapping[int, Bytes], min: int, total: int) -> tuple[b
     >>> join_corrected({0: shards[0], 1: shards[1], 2: shards[0], 3: shards[3]}, 2, 4)
     (b'0123456789', [2])
     """
-    indices, count = _indices(shards)
-    rows = [memoryview(shard) for shard in shards.values()]
-    if any(row.nbytes != rows[0].nbytes for row in rows):
-        raise Mismatch()
-    together = b"".join(rows)
-    if len(together) % 8:
-        raise WrongSize()
-    cells = array("Q", together)
-    if sys.byteorder == "little":
-        cells.byteswap()
-    at, length = _library.read(cells)
-    room = builtins.min(_number(min, 32), count) * (length // count if count else 0)
-    out, written, many = _library.words(room), ctypes.c_size_t(), ctypes.c_size_t()
+    indices, count, at, length = _rows(shards)
+    room = _room(count, length, min)
+    out, written, many = _library.bytes_of(room), ctypes.c_size_t(), ctypes.c_size_t()
     wrong = (ctypes.c_size_t * builtins.max(1, count))()
     _done(
-        _lib.cwm_join_corrected(
+        _lib.cwm_join_bytes_corrected(
             indices, count, min, _number(total, 32), at, length, out, room, ctypes.byref(written), wrong, count, ctypes.byref(many)
         )
     )
-    # The words are the number of the bytes, and then these, the lowest first, with zeros after the last.
-    words = _array(out, written.value)
-    size = words[0] if words else 0
-    if not words or -(-size // 8) != len(words) - 1:
-        raise Inconsistent()
-    if sys.byteorder == "big":
-        words.byteswap()
-    data = words[1:].tobytes()
-    if any(data[size:]):
-        raise Inconsistent()
-    return data[:size], sorted(indices[i] for i in wrong[: many.value])
+    return bytes(memoryview(out).cast("B")[: written.value]), sorted(indices[i] for i in wrong[: many.value])
 
 
 def evaluate(cells: Words, cols: int = 1) -> None:

@@ -94,6 +94,7 @@ _SIGNATURES = {
     "cwm_shard_bytes_sizes": [_size, _u32, _u32, _at],
     "cwm_split_bytes": [_at, _size, _u32, _u32, _at, _size],
     "cwm_join_bytes": [_at, _size, _u32, _u32, _at, _size, _at, _size, _at],
+    "cwm_join_bytes_corrected": [_at, _size, _u32, _u32, _at, _size, _at, _size, _at, _at, _size, _at],
 }
 
 library = _load()

@@ -422,20 +422,65 @@ pub fn split_bytes(data: &[u8], min: u32, total: u32) -> Result<Vec<Vec<u8>>, Er
 /// # Ok::<(), Error>(())
 /// ```
 pub fn join_bytes<S: AsRef<[u8]>>(shards: &[(u32, S)], min: u32, total: u32) -> Result<Vec<u8>, Error> {
+    let (indices, rows) = rows_of(shards)?;
+    let size = rows.len() / indices.len().max(1);
+    let mut data = zeros((min as usize).min(indices.len()) * size)?;
+    let mut written = 0;
+    library::join_bytes(&indices, min, total, &rows, &mut data, &mut written)?;
+    data.truncate(written);
+    Ok(data)
+}
+
+/// What [`join_bytes_corrected`] found.
+#[derive(Clone, Debug, PartialEq, Eq)]
+pub struct JoinedBytes {
+    /// The bytes.
+    pub data: Vec<u8>,
+    /// The positions, in the slice that was handed in, of those that are no shards of the bytes, by rising number.
+    pub left_out: Vec<usize>,
+}
+
+/// As [`join_bytes`], where some of the shards are wrong and nobody knows which: gives the bytes and which are wrong.
+///
+/// An index whose shards are unequal counts as missing. Of i distinct indices that are left at most (i - `min`) / 2 may
+/// have wrong shards; where there are no bytes so near: [`Error::Inconsistent`].
+///
+/// ```
+/// use commonware_math::{join_bytes_corrected, split_bytes, Error};
+///
+/// let mut shards = split_bytes(b"0123456789", 2, 4)?;
+/// shards[2][0] ^= 1;
+/// let left = [(3, &shards[3]), (2, &shards[2]), (1, &shards[1]), (0, &shards[0])];
+/// let found = join_bytes_corrected(&left, 2, 4)?;
+/// assert_eq!(found.data, b"0123456789");
+/// assert_eq!(found.left_out, [1]);
+/// assert_eq!(join_bytes_corrected(&left[..3], 2, 4), Err(Error::Inconsistent));
+/// # Ok::<(), Error>(())
+/// ```
+pub fn join_bytes_corrected<S: AsRef<[u8]>>(shards: &[(u32, S)], min: u32, total: u32) -> Result<JoinedBytes, Error> {
+    let (indices, rows) = rows_of(shards)?;
+    let size = rows.len() / indices.len().max(1);
+    let mut data = zeros((min as usize).min(indices.len()) * size)?;
+    let mut left_out = zeros(indices.len())?;
+    let (mut written, mut many) = (0, 0);
+    library::join_bytes_corrected(&indices, min, total, &rows, &mut data, &mut written, &mut left_out, &mut many)?;
+    data.truncate(written);
+    left_out.truncate(many);
+    Ok(JoinedBytes { data, left_out })
+}
+
+/// The indices of the shards, and the shards one behind the other, all of one length.
+fn rows_of<S: AsRef<[u8]>>(shards: &[(u32, S)]) -> Result<(Vec<u32>, Vec<u8>), Error> {
     let size = shards.first().map_or(0, |(_, shard)| shard.as_ref().len());
-    let mut together = Vec::new();
-    together.try_reserve_exact(size.saturating_mul(shards.len())).map_err(|_| Error::OutOfMemory)?;
+    let mut rows = Vec::new();
+    rows.try_reserve_exact(size.saturating_mul(shards.len())).map_err(|_| Error::OutOfMemory)?;
     let mut indices = Vec::new();
     for (index, shard) in shards {
         if shard.as_ref().len() != size {
             return Err(Error::Mismatch);
         }
         indices.push(*index);
-        together.extend_from_slice(shard.as_ref());
+        rows.extend_from_slice(shard.as_ref());
     }
-    let mut data = zeros((min as usize).min(shards.len()) * size)?;
-    let mut written = 0;
-    library::join_bytes(&indices, min, total, &together, &mut data, &mut written)?;
-    data.truncate(written);
-    Ok(data)
+    Ok((indices, rows))
 }

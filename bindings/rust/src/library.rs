@@ -32,6 +32,7 @@ mod declared {
         pub fn cwm_shard_bytes_sizes(bytes: usize, min: u32, total: u32, size: *mut usize) -> u32;
         pub fn cwm_split_bytes(data: *const u8, n: usize, min: u32, total: u32, shards: *mut u8, m: usize) -> u32;
         pub fn cwm_join_bytes(indices: *const u32, k: usize, min: u32, total: u32, shards: *const u8, n: usize, data: *mut u8, m: usize, written: *mut usize) -> u32;
+        pub fn cwm_join_bytes_corrected(indices: *const u32, k: usize, min: u32, total: u32, shards: *const u8, n: usize, data: *mut u8, m: usize, written: *mut usize, left_out: *mut usize, room: usize, many: *mut usize) -> u32;
     }
 }
 
@@ -147,4 +148,11 @@ pub fn split_bytes(data: &[u8], min: u32, total: u32, shards: &mut [u8]) -> Resu
 pub fn join_bytes(indices: &[u32], min: u32, total: u32, shards: &[u8], data: &mut [u8], written: &mut usize) -> Result<(), Error> {
     // SAFETY: as above.
     done(unsafe { declared::cwm_join_bytes(indices.as_ptr(), indices.len(), min, total, shards.as_ptr(), shards.len(), data.as_mut_ptr(), data.len(), written) })
+}
+
+#[rustfmt::skip]
+#[allow(clippy::too_many_arguments)]
+pub fn join_bytes_corrected(indices: &[u32], min: u32, total: u32, shards: &[u8], data: &mut [u8], written: &mut usize, left_out: &mut [usize], many: &mut usize) -> Result<(), Error> {
+    // SAFETY: as above.
+    done(unsafe { declared::cwm_join_bytes_corrected(indices.as_ptr(), indices.len(), min, total, shards.as_ptr(), shards.len(), data.as_mut_ptr(), data.len(), written, left_out.as_mut_ptr(), left_out.len(), many) })
 }

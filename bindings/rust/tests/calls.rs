@@ -51,7 +51,16 @@ fn shards_of_bytes_come_back() {
         let count = min + words.below(total - min + 1);
         let left: Vec<(u32, &[u8])> =
             words.choice(total, count).into_iter().map(|i| (i as u32, &shards[i][..])).collect();
-        assert_eq!(join_bytes(&left, min as u32, total as u32), Ok(data));
+        assert_eq!(join_bytes(&left, min as u32, total as u32), Ok(data.clone()));
+        // of all shards as many wrong as can be
+        let mut all: Vec<(u32, Vec<u8>)> = (0..).zip(shards).collect();
+        let mut wrong = words.choice(total, (total - min) / 2);
+        wrong.sort();
+        for i in &wrong {
+            all[*i].1[7] ^= 1;
+        }
+        let found = join_bytes_corrected(&all, min as u32, total as u32).unwrap();
+        assert_eq!((found.data, found.left_out), (data, wrong));
     }
 }
 
@@ -159,6 +168,13 @@ fn every_error() {
     assert_eq!(join_bytes(&[(0, &a[..9]), (1, &b[..9])], 2, 4), Err(Error::WrongSize));
     assert_eq!(join_bytes(&[(0, a), (1, a), (2, a)], 2, 4), Err(Error::Inconsistent));
     assert_eq!(join_bytes(&[(0, [0xff; 24]), (1, [0xff; 24])], 2, 4), Err(Error::OutOfRange));
+    assert_eq!(join_bytes_corrected(&none, 1, 1), Err(Error::TooFew));
+    assert_eq!(join_bytes_corrected(&[(0, a), (4, b)], 2, 4), Err(Error::WrongIndex));
+    assert_eq!(join_bytes_corrected(&[(0, a), (0, b), (1, b)], 2, 4), Err(Error::TooFew));
+    assert_eq!(join_bytes_corrected(&[(0, &a[..8]), (1, b)], 2, 4), Err(Error::Mismatch));
+    assert_eq!(join_bytes_corrected(&[(0, &a[..9]), (1, &b[..9])], 2, 4), Err(Error::WrongSize));
+    assert_eq!(join_bytes_corrected(&[(0, a), (1, a), (2, a)], 2, 4), Err(Error::Inconsistent));
+    assert_eq!(join_bytes_corrected(&[(0, [0xff; 24]), (1, [0xff; 24])], 2, 4), Err(Error::OutOfRange));
     assert_eq!(join(&[0], 1, 1, &[MODULUS]), Err(Error::OutOfRange));
 }
 

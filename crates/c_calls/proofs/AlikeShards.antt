@@ -256,7 +256,7 @@ some_corrected : (words : List ℕ) (shards : List Shard) → CorrectTo words sh
 some_corrected words [] h = absurd (corrected_of_some words h)
 some_corrected words (s ∷ ss) h = omega arith
 
-correct_given : (words positions : List ℕ) (min total : ℕ) (indices cells : List ℕ) (shards : List Shard) → DoCorrectTo words positions min total indices cells
+pub correct_given : (words positions : List ℕ) (min total : ℕ) (indices cells : List ℕ) (shards : List Shard) → DoCorrectTo words positions min total indices cells
     → AreWordShards min total indices cells shards → CorrectTo words shards
 correct_given words positions min total indices cells shards h k = correct_alike words h.0 shards (alike_shards min total indices cells h.0 shards h.1 k) h.2.0
 

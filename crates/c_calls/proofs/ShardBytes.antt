@@ -10,10 +10,11 @@ use Rattle.math_shards.specs.declared.shards.Shard.{Shard}
 use Rattle.math_shards.specs.Shards.{width_for}
 use Rattle.shard_blocks.specs.BlockWords.{words_of_bytes}
 use Rattle.shard_blocks.specs.Blocks.{JoinToBlock}
-use Rattle.c_calls.specs.ShardBytes.{AreByteRowsOf, DoJoinToBlock, HaveShardBytes, SpellElements, word_bytes}
+use Rattle.shard_blocks.specs.Correcting.{CorrectToBlock}
+use Rattle.c_calls.specs.ShardBytes.{AreByteRowsOf, DoCorrectToBlock, DoJoinToBlock, HaveShardBytes, SpellElements, word_bytes}
 use Rattle.c_calls.specs.WordElements.{AreElements}
 use Rattle.c_calls.specs.WordShards.{AreWordShards}
-use Rattle.c_calls.proofs.AlikeShards.{below_there, join_given, rows_there}
+use Rattle.c_calls.proofs.AlikeShards.{below_corrected, below_there, correct_given, join_given, rows_corrected, rows_there}
 use Rattle.c_calls.proofs.WrittenWords.{length-bytes}
 
 -- bytes are those of one list of words
@@ -64,3 +65,22 @@ block_given block min total indices cells shards below (others, e, there, are, j
     let others_below = below_there words min total indices others (there, are, join.1) in
     let one : others ≡ cells = one_spelling others cells (fit_in_words others others_below) (fit_in_words cells below) (sym e) in
     (join.0, join_given words min total indices cells shards (there, subst (λ ws. AreWordShards min total indices ws there) one are, join.1) k)
+
+-- so it is of bytes that are corrected
+pub byte_rows_corrected : (block positions : List ℕ) (min total : ℕ) (indices bytes : List ℕ) → DoCorrectToBlock block positions min total indices bytes
+    → AreByteRowsOf (length bytes) (length indices)
+byte_rows_corrected block positions min total indices bytes (cells, e, shards, are, correct) =
+    let rows = rows_corrected (words_of_bytes block) positions min total indices cells (shards, are, correct.1) in
+    (rows.0, ap length e ∙ length-bytes cells ∙ ap (λ n. 8 * n) rows.1)
+
+pub spell_corrected : (block positions : List ℕ) (min total : ℕ) (indices bytes : List ℕ) → DoCorrectToBlock block positions min total indices bytes → SpellElements bytes
+spell_corrected block positions min total indices bytes (cells, e, shards, are, correct) =
+    (cells, below_corrected (words_of_bytes block) positions min total indices cells (shards, are, correct.1), e)
+
+pub corrected_given : (block positions : List ℕ) (min total : ℕ) (indices cells : List ℕ) (shards : List Shard) → AreElements cells
+    → DoCorrectToBlock block positions min total indices (word_bytes cells) → AreWordShards min total indices cells shards → CorrectToBlock block shards
+corrected_given block positions min total indices cells shards below (others, e, there, are, correct) k =
+    let words = words_of_bytes block in
+    let others_below = below_corrected words positions min total indices others (there, are, correct.1) in
+    let one : others ≡ cells = one_spelling others cells (fit_in_words others others_below) (fit_in_words cells below) (sym e) in
+    (correct.0, correct_given words positions min total indices cells shards (there, subst (λ ws. AreWordShards min total indices ws there) one are, correct.1) k)

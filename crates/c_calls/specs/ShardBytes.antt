@@ -7,6 +7,7 @@ use Rattle.math_shards.specs.declared.shards.Error.{Error}
 use Rattle.math_shards.specs.Shards.{width_for}
 use Rattle.shard_blocks.specs.BlockWords.{words_of_bytes}
 use Rattle.shard_blocks.specs.Blocks.{IsBlockDue, JoinToBlock}
+use Rattle.shard_blocks.specs.Correcting.{AreCorrectedBlock, IsBlockDueCorrecting}
 use Rattle.c_calls.specs.WordElements.{AreElements}
 use Rattle.c_calls.specs.WordShards.{AreWordShards, AreWordsOfShards}
 
@@ -40,3 +41,13 @@ DoJoinToBlock block min total indices bytes =
 abbrev pub AreBlockRefused : Error → ℕ → ℕ → List ℕ → List ℕ → Type 0
 AreBlockRefused e min total indices bytes =
     (cells : List ℕ) × (bytes ≡ word_bytes cells) × (shards : List Shard) × AreWordShards min total indices cells shards × IsBlockDue shards e
+
+-- the shards that the bytes are have this block, however some are wrong, and these positions are those of the wrong ones
+abbrev pub DoCorrectToBlock : List ℕ → List ℕ → ℕ → ℕ → List ℕ → List ℕ → Type 0
+DoCorrectToBlock block positions min total indices bytes =
+    (cells : List ℕ) × (bytes ≡ word_bytes cells) × (shards : List Shard) × AreWordShards min total indices cells shards × AreCorrectedBlock block positions shards
+
+-- this is wrong with the shards that the bytes are, where they are corrected
+abbrev pub AreBlockRefusedCorrecting : Error → ℕ → ℕ → List ℕ → List ℕ → Type 0
+AreBlockRefusedCorrecting e min total indices bytes =
+    (cells : List ℕ) × (bytes ≡ word_bytes cells) × (shards : List Shard) × AreWordShards min total indices cells shards × IsBlockDueCorrecting shards e

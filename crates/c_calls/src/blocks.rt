@@ -5,7 +5,7 @@
 
 ghost use Rattle.std.specs.Prelude.{◌≡◌, ◌↔◌, ◌<◌, ◌≤◌, ◌*◌, ◌⊎◌, ℕ, List, IsTrue, IsSome, IfOk, IfErr, IfSome, IfNone, MatchResult, None, OnOk, OnErr, length};
 ghost use Rattle.math_shards.specs.Joining.{IsMemory};
-ghost use Rattle.c_calls.specs.ShardBytes.{AreBlockRefused, AreByteRowsOf, AreBytesOfShards, DoJoinToBlock, HaveShardBytes, SpellElements, word_bytes};
+ghost use Rattle.c_calls.specs.ShardBytes.{AreBlockRefused, AreBlockRefusedCorrecting, AreByteRowsOf, AreBytesOfShards, DoCorrectToBlock, DoJoinToBlock, HaveShardBytes, SpellElements, word_bytes};
 ghost use Rattle.c_calls.specs.WordElements.{AreElements};
 ghost use Rattle.c_calls.specs.WordEncodings.{StandInFront};
 ghost use Rattle.c_calls.specs.WordShards.{IsSplit};
@@ -15,7 +15,7 @@ use crate::shards;
 use commonware_math::algebra::Mem;
 use commonware_math::codec::Read;
 use commonware_math::shards::shards_of_rows;
-use shard_blocks::{Error, cells_for, join_block, split_block_rows};
+use shard_blocks::{Error, cells_for, join_block, join_block_corrected, split_block_rows};
 use std::alloc::Global;
 
 /// 2^60: all shards have fewer bytes.
@@ -141,4 +141,50 @@ pub fn write_block(
     }
     out[..n].copy_from_slice(&block);
     Ok(Some(n))
+}
+
+/// Writes the block of the shards, however some are wrong, over the first bytes of `out`, and the
+/// positions of the wrong ones over the first items of `left_out`, and gives the numbers of both.
+///
+/// The shards are handed in as words. `None` where there is no room for the block. It refuses as
+/// `join_block_corrected` does.
+pub fn write_corrected_block(
+    alloc: Global,
+    indices: &[u32],
+    min: u32,
+    total: u32,
+    cells: &[u64],
+    cols: usize,
+    out: &mut [u8],
+    left_out: &mut [usize],
+) -> Result<Option<(usize, usize)>, Error>
+    requires count { length cells.now ≡ length indices.now * cols }
+    requires below { AreElements cells.now }
+    requires room { length indices.now ≤ length left_out.old }
+    ensures some { IfOk result (λ answer. IfSome answer (λ n. (block positions : List ℕ)
+        × DoCorrectToBlock block positions min total indices.now (word_bytes cells.now)
+        × (n.0 ≡ length block) × StandInFront block out.old out.new
+        × (n.1 ≡ length positions) × StandInFront positions left_out.old left_out.new)) }
+    ensures none { IfOk result (λ answer. IfNone answer ((block positions : List ℕ)
+        × DoCorrectToBlock block positions min total indices.now (word_bytes cells.now)
+        × (length out.old < length block))) }
+    ensures kept { IfOk result (λ answer. IfNone answer
+        ((out.new ≡ out.old) × (left_out.new ≡ left_out.old))) }
+    ensures err { OnErr result ((out.new ≡ out.old) × (left_out.new ≡ left_out.old)) }
+    ensures due { IfErr result (λ e. IsMemory e
+        ⊎ AreBlockRefusedCorrecting e min total indices.now (word_bytes cells.now)) }
+    ensures found { (block positions : List ℕ)
+        → DoCorrectToBlock block positions min total indices.now (word_bytes cells.now)
+        → length block ≤ length out.old → MatchResult result (λ answer. IsSome answer) IsMemory }
+{
+    let shards = shards_of_rows(alloc, indices, min, total, cells, cols)?;
+    let joined = join_block_corrected(alloc, &shards)?;
+    let length = joined.bytes.len();
+    let many = joined.left_out.len();
+    if length > out.len() {
+        return Ok(None);
+    }
+    out[..length].copy_from_slice(&joined.bytes);
+    left_out[..many].copy_from_slice(&joined.left_out);
+    Ok(Some((length, many)))
 }

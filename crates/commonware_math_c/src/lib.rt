@@ -21,7 +21,7 @@ ghost use Rattle.c_calls.specs.WordRows.{AreWordValues, AreRecoveredWords, AreFi
 ghost use Rattle.c_calls.specs.WordWeights.{AreRising, AreWordWeights, AreWordWeightsAtRoots};
 ghost use Rattle.c_calls.specs.WordShards.{AreRefused, AreRefusedCorrecting, AreRowsOf, AreWordsOfShards, DoCorrectTo, DoJoinTo, HaveShardSizes, IsSplit};
 ghost use Rattle.math_shards.specs.declared.shards.Error.{Error};
-ghost use Rattle.c_calls.specs.ShardBytes.{AreBlockRefused, AreByteRowsOf, AreBytesOfShards, DoJoinToBlock, HaveShardBytes, SpellElements};
+ghost use Rattle.c_calls.specs.ShardBytes.{AreBlockRefused, AreBlockRefusedCorrecting, AreByteRowsOf, AreBytesOfShards, DoCorrectToBlock, DoJoinToBlock, HaveShardBytes, SpellElements};
 ghost use Rattle.commonware_math_c.specs.Version.{version};
 ghost use Rattle.c_calls.specs.WordEncodings.{IsCoefficientCount, IsEncodedBy, StandInFront, polynomial_spelling, scan_polynomial};
 
@@ -564,6 +564,62 @@ pub extern "C" fn cwm_join_bytes(
     match blocks::write_block(alloc, indices, min, total, &cells, cols, out) {
         Ok(Some(many)) => {
             *written = many;
+            Status::Done.code()
+        }
+        Ok(None) => Status::WrongSize.code(),
+        Err(error) => status::of_shards(&error).code(),
+    }
+}
+
+/// As `cwm_join_bytes`, however some of the shards are wrong: writes the positions of these, rising,
+/// over the first items of `left_out` too.
+#[unsafe(no_mangle)]
+pub extern "C" fn cwm_join_bytes_corrected(
+    alloc: Global,
+    indices: &[u32],
+    min: u32,
+    total: u32,
+    shards: &[u8],
+    out: &mut [u8],
+    written: &mut usize,
+    left_out: &mut [usize],
+    many: &mut usize,
+) -> u32
+    ensures corrected { result ≡ done → (block positions : List ℕ)
+        × DoCorrectToBlock block positions min total indices.now shards.now
+        × (written.new ≡ length block) × StandInFront block out.old out.new
+        × (many.new ≡ length positions) × StandInFront positions left_out.old left_out.new }
+    ensures kept { result ≢ done → (out.new ≡ out.old) × (written.new ≡ written.old)
+        × (left_out.new ≡ left_out.old) × (many.new ≡ many.old) }
+    ensures range { result ≡ out_of_range → ¬ (SpellElements shards.now) }
+    ensures size { result ≡ wrong_size → ¬ (AreByteRowsOf (length shards.now) (length indices.now))
+        ⊎ ((length left_out.old < length indices.now)
+        ⊎ ((block positions : List ℕ)
+        × DoCorrectToBlock block positions min total indices.now shards.now
+        × (length out.old < length block))) }
+    ensures refused { (e : Error) → result ≡ status_of_shards e → result ≢ out_of_memory
+        → AreBlockRefusedCorrecting e min total indices.now shards.now }
+    ensures found { (block positions : List ℕ)
+        → DoCorrectToBlock block positions min total indices.now shards.now
+        → length block ≤ length out.old → length indices.now ≤ length left_out.old
+        → (result ≡ done) ⊎ (result ≡ out_of_memory) }
+    ensures statuses { result ≤ 8 }
+{
+    let Some(cols) = blocks::cols_of(shards.len(), indices.len()) else {
+        return Status::WrongSize.code();
+    };
+    if left_out.len() < indices.len() {
+        return Status::WrongSize.code();
+    }
+    let cells = match blocks::words_below(alloc, shards) {
+        Ok(Some(cells)) => cells,
+        Ok(None) => return Status::OutOfRange.code(),
+        Err(_) => return Status::OutOfMemory.code(),
+    };
+    match blocks::write_corrected_block(alloc, indices, min, total, &cells, cols, out, left_out) {
+        Ok(Some((bytes, positions))) => {
+            *written = bytes;
+            *many = positions;
             Status::Done.code()
         }
         Ok(None) => Status::WrongSize.code(),
