@@ -1,6 +1,6 @@
 -- Rows that fit no data: whether two of one index are unequal, and how many indices are distinct.
-use Rattle.std.proofs.Common.{◌≡◌, ◌∙◌, inl, inr, ℕ, zero, suc, ◌+◌, ◌<◌, ◌≤◌, ◌==◌, List, [], ◌∷◌, Bool, true, length, map, get_or, set, replicate, nat_lt, refl, sym, ap, subst, arith}
-use Rattle.std.specs.List.{All, AllZip, count_by, range_with_len}
+use Rattle.std.proofs.Common.{◌≡◌, ◌∙◌, inl, inr, ℕ, suc, ◌+◌, ◌<◌, ◌≤◌, ◌==◌, List, [], ◌∷◌, Bool, length, map, get_or, set, replicate, nat_lt, refl, sym, ap, subst, arith}
+use Rattle.std.specs.List.{AllZip, count_by, range_with_len}
 use Rattle.std.proofs.lemmas.Bool.{cases_eq, cases_lt, eq-eqb, le-ltb, lt-ltb, ne_eqb}
 use Rattle.std.proofs.lemmas.List.{get_or-map, get_or-replicate, get_or-set_other, get_or-set_same, get_or_default, length-map, length-replicate, length-set}
 use Rattle.std.proofs.lemmas.List.Folds.{list_any_at, list_any_none}

@@ -1,5 +1,5 @@
 -- The words of a slice among those of data.
-use Rattle.std.proofs.Common.{◌≡◌, ◌∙◌, ℕ, ◌+◌, ◌-◌, ◌≤◌, ◌<◌, List, ◌++◌, length, map, take, drop, get_or, refl, sym, ap, arith}
+use Rattle.std.proofs.Common.{◌≡◌, ◌∙◌, ℕ, ◌+◌, ◌≤◌, ◌<◌, List, ◌++◌, length, map, take, drop, get_or, refl, sym, ap, arith}
 use Rattle.std.proofs.lemmas.List.{drop-map, get_or_append_left, get_or-append-add, length-map, take-map}
 use Rattle.math_transforms.proofs.WrittenRows.{part-read}
 use Rattle.math_shards.specs.declared.shards.sources.Source.{Source}

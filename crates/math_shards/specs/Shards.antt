@@ -46,10 +46,14 @@ pub record IsShardOf (words : List ℕ) (min total : ℕ) (s : Shard) : Type 0 w
   pub values : (lg k : ℕ) → IsNextPowerOfTwo total (2 ^ lg) → k < width_for min words
       → same (slice_index_or s.cells.items k (residue 0)) (value_at_index lg (column_of (residue 0) (rows_for min words) k) s.index)
 
--- the shards are those of the indices from 0 to total - 1, in order
-pub record AreShardsOf (words : List ℕ) (min total : ℕ) (shards : List Shard) : Type 0 where
-  pub indices : map (λ s. s.index) shards ≡ range_with_len 0 total
+-- the shards are those of these indices, in this order
+pub record AreShardsAt (words : List ℕ) (min total : ℕ) (wanted : List ℕ) (shards : List Shard) : Type 0 where
+  pub indices : map (λ s. s.index) shards ≡ wanted
   pub each : All (IsShardOf words min total) shards
+
+-- the shards are those of the indices from 0 to total - 1, in order
+abbrev pub AreShardsOf : List ℕ → ℕ → ℕ → List Shard → Type 0
+AreShardsOf words min total shards = AreShardsAt words min total (range_with_len 0 total) shards
 
 -- whether some shard has the index i
 abbrev pub has_index : List Shard → ℕ → Bool

@@ -6,7 +6,7 @@ use Rattle.math_theory.specs.Coefficients.{HaveSameCoefficients}
 use Rattle.math_base.specs.declared.fields.goldilocks.F.{F}
 use Rattle.math_base.specs.Elements.{residue, root_of, same, goldilocks}
 use Rattle.math_transforms.specs.DomainValues.{matrix_of}
-use Rattle.math_transforms.specs.Matrices.{cell_of, column_of}
+use Rattle.math_transforms.specs.Matrices.{MatrixOf, cell_of, column_of}
 use Rattle.math_transforms.specs.RootTrees.{IsTreeOf}
 use Rattle.math_shards.specs.declared.shards.Shard.{Shard}
 use Rattle.math_shards.specs.declared.shards.strips.Layout.{Layout}
@@ -61,9 +61,22 @@ pub record IsExtendedBy (row : List F) (s t : Shard) : Type 0 where
   pub most : t.total ≡ s.total
   pub behind : t.cells.items ≡ s.cells.items ++ row
 
--- shard by shard, the new shard is the old one with the row of its place behind its cells; a row has c cells
+-- shard by shard, the new shard is so to the old one
+abbrev pub AreEach : (Shard → Shard → Type 0) → List Shard → List Shard → Type 0
+AreEach R old new = (i : ℕ) (d : Shard) → i < length old → R (slice_index_or old i d) (slice_index_or new i d)
+
+-- each shard gets the row of its index behind its cells; a row has c cells
 abbrev pub AreExtended : ℕ → List F → List Shard → List Shard → Type 0
-AreExtended c cells old new = (i : ℕ) (d : Shard) → i < length old → IsExtendedBy (take c (drop (i * c) cells)) (slice_index_or old i d) (slice_index_or new i d)
+AreExtended c cells old new = AreEach (λ s t. IsExtendedBy (take c (drop (s.index * c) cells)) s t) old new
+
+-- the row has, for each column of the matrix, its value at power i of the root of order 2^lg
+pub record HasValuesAt (lg i : ℕ) (m : MatrixOf F) (row : List F) : Type 0 where
+  pub count : length row ≡ m.cols
+  pub values : (k : ℕ) → k < m.cols → slice_index_or row k (residue 0) ≡ value_at_index lg (column_of (residue 0) m k) i
+
+-- each shard gets the values at its index of the columns of the matrix behind its cells
+abbrev pub AreValued : ℕ → MatrixOf F → List Shard → List Shard → Type 0
+AreValued lg m old new = AreEach (λ s t. (row : List F) × HasValuesAt lg s.index m row × IsExtendedBy row s t) old new
 
 -- s is the shard with index i of the data as far as its first n cells, on a domain of 2^lg points
 pub record IsBegun (words : List ℕ) (min total lg n i : ℕ) (s : Shard) : Type 0 where
@@ -73,6 +86,7 @@ pub record IsBegun (words : List ℕ) (min total lg n i : ℕ) (s : Shard) : Typ
   pub count : length s.cells.items ≡ n
   pub values : (k : ℕ) → k < n → same (slice_index_or s.cells.items k (residue 0)) (value_at_index lg (column_of (residue 0) (rows_for min words) k) i)
 
--- each shard is begun so, with its place as its index
-abbrev pub AreBegun : List ℕ → ℕ → ℕ → ℕ → ℕ → List Shard → Type 0
-AreBegun words min total lg n shards = (i : ℕ) (d : Shard) → i < length shards → IsBegun words min total lg n i (slice_index_or shards i d)
+-- each shard is begun so, with the index that stands in its place
+abbrev pub AreBegun : List ℕ → ℕ → ℕ → ℕ → ℕ → List ℕ → List Shard → Type 0
+AreBegun words min total lg n indices shards =
+    (i : ℕ) (d : Shard) → i < length shards → IsBegun words min total lg n (slice_index indices i) (slice_index_or shards i d)

@@ -26,6 +26,7 @@ mod sources;
 mod splitting;
 mod strips;
 mod unpacking;
+mod wanting;
 mod weighing;
 
 pub use correcting::{Joined, join_corrected};
@@ -34,7 +35,7 @@ pub use joining_rows::{join_rows, shards_of_rows};
 use math_base::fields::goldilocks::F;
 pub use rooms::Room;
 pub use sources::{Source, Word};
-pub use splitting::{split, split_rows, split_source, split_source_rows};
+pub use splitting::{split, split_rows, split_source, split_source_at, split_source_rows};
 use std::alloc::{AllocError, AllocFailed};
 pub use strips::shard_width;
 use thiserror::Error;

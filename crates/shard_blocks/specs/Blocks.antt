@@ -4,7 +4,7 @@ use Rattle.std.specs.Int.{to_be_bytes, w64}
 use Rattle.std.specs.List.{flat_map}
 use Rattle.math_shards.specs.declared.shards.Shard.{Shard}
 use Rattle.math_shards.specs.declared.shards.Error.{Error}
-use Rattle.math_shards.specs.Shards.{AreShardsOf, IsSameAsOne, JoinTo, distinct_indices}
+use Rattle.math_shards.specs.Shards.{AreShardsOf, IsSameAsOne, IsShardOf, JoinTo, distinct_indices}
 use Rattle.math_shards.specs.ShardRows.{AreRowsOfShards}
 use Rattle.math_shards.specs.Joining.{HaveConflict, IsDueFor, RefusesWhereDue}
 use Rattle.shard_blocks.specs.BlockWords.{AreBytes, words_of_bytes}
@@ -34,3 +34,10 @@ abbrev pub ChosenShardsGiveBlock : Type 0
 ChosenShardsGiveBlock =
     (bytes : List ℕ) (min total : ℕ) (shards chosen : List Shard) → AreBytes bytes → 1 ≤ min → min ≤ total → total < 2 ^ 32
     → AreShardsOf (words_of_bytes bytes) min total shards → All (IsSameAsOne shards) chosen → min ≤ distinct_indices total chosen → JoinToBlock bytes chosen
+
+-- a shard of the block that some shards give back is the same as the one of its index among those that these were taken of: so lost shards come back
+abbrev pub LostShardsComeBack : Type 0
+LostShardsComeBack =
+    (bytes other : List ℕ) (min total : ℕ) (shards chosen : List Shard) (s : Shard) → AreBytes bytes → 1 ≤ min → min ≤ total → total < 2 ^ 32
+    → AreShardsOf (words_of_bytes bytes) min total shards → All (IsSameAsOne shards) chosen → JoinToBlock other chosen → IsShardOf (words_of_bytes other) min total s
+    → IsSameAsOne shards s

@@ -1,8 +1,8 @@
 //! Blocks to shards, and these to blocks.
 
-ghost use Rattle.std.specs.Prelude.{◌≡◌, ◌*◌, ◌≤◌, ℕ, List, length, IfOk, IfErr, MatchResult, OnErr, OnOk};
+ghost use Rattle.std.specs.Prelude.{◌≡◌, ◌*◌, ◌<◌, ◌≤◌, ℕ, All, List, length, IfOk, IfErr, MatchResult, OnErr, OnOk};
 ghost use Rattle.math_shards.specs.Joining.{IsMemory};
-ghost use Rattle.math_shards.specs.Shards.{AreShardsOf, width_for};
+ghost use Rattle.math_shards.specs.Shards.{AreShardsAt, AreShardsOf, width_for};
 ghost use Rattle.math_shards.specs.declared.shards.Error.TheVariants.{TooFew, Mismatch, Index};
 ghost use Rattle.math_shards.specs.declared.shards.Error.TheVariants.{Conflict, Inconsistent};
 ghost use Rattle.shard_blocks.specs.BlockWords.{words_of_bytes};
@@ -10,7 +10,9 @@ ghost use Rattle.shard_blocks.specs.Blocks.{AreByteRows, IsBlockDue, JoinToBlock
 
 use crate::words::{bytes_of, source_of};
 use math_base::algebra::Mem;
-use math_shards::shards::{Error, Shard, join, shard_width, split_source, split_source_rows};
+use math_shards::shards::{
+    Error, Shard, join, shard_width, split_source, split_source_at, split_source_rows,
+};
 use std::alloc::Global;
 
 /// Cuts the bytes into shards, one for each index below `total`, in the order of the indices. Any
@@ -32,6 +34,36 @@ pub fn split_block(alloc: Global, bytes: &[u8], min: u32, total: u32) -> Mem<Vec
         (λ shards. AreShardsOf (words_of_bytes bytes.now) min total shards.items) }
 {
     let shards = split_source(alloc, &source_of(bytes), min, total)?;
+    Ok(shards)
+}
+
+/// Gives the shards of these indices, in their order: those that `split_block` gives of all. An
+/// index may stand there twice.
+///
+/// The conditions are those of `split_block`, and each index is below `total`. Of a block that some
+/// of its shards gave back, these are the shards that it had: so lost ones come back. Takes memory
+/// as `split_block` does, for these shards.
+///
+/// ```
+/// use shard_blocks::{join_block, split_block_at};
+/// let shards = split_block_at(alloc, b"data", 2, 5, &[4, 1])?;
+/// shards[0].index; // 4
+/// join_block(alloc, &shards)?; // [100, 97, 116, 97]
+/// ```
+pub fn split_block_at(
+    alloc: Global,
+    bytes: &[u8],
+    min: u32,
+    total: u32,
+    indices: &[u32],
+) -> Mem<Vec<Shard>>
+    requires some { 1 ≤ min }
+    requires within { min ≤ total }
+    requires below { All (λ i. i < total) indices.now }
+    ensures { IfOk result
+        (λ shards. AreShardsAt (words_of_bytes bytes.now) min total indices.now shards.items) }
+{
+    let shards = split_source_at(alloc, &source_of(bytes), min, total, indices)?;
     Ok(shards)
 }
 
@@ -84,9 +116,9 @@ pub fn cells_for(bytes: usize, min: u32) -> usize
 /// Gives the bytes of the shards back: the only bytes of which each shard is one. A shard that is
 /// handed in twice counts once.
 ///
-/// It refuses as `join` does, and words that are those of no block with `Inconsistent`. Where more
-/// than `min` shards are there, damage to one is so found, and where just `min` are there it is
-/// not.
+/// It refuses as `join` does, and words that are those of no block with `Inconsistent`. Where shards
+/// of more than `min` distinct indices are there, damage to cells of one is so found, and where just
+/// `min` are there it may not be.
 ///
 /// Takes memory as `join` does: who takes shards from strangers bounds `total` first.
 ///

@@ -1,11 +1,13 @@
 -- A record as bytes: its numbers, and then elements.
-use Rattle.std.proofs.Common.{◌≡◌, ℕ, ◌+◌, ◌*◌, List, [], ◌∷◌, ◌++◌, length, take, refl, sym, ◌∙◌, ap, subst, arith}
+use Rattle.std.proofs.Common.{◌≡◌, ℕ, ◌+◌, ◌*◌, List, [], ◌∷◌, ◌++◌, length, take, refl, sym, ◌∙◌, ap, ap₂, subst, arith}
 use Rattle.std.proofs.Math.Seq.{take-append_seam}
 use Rattle.std.proofs.lemmas.List.{append_cancel_left, length-append}
 use Rattle.math_base.specs.declared.fields.goldilocks.F.{F}
 use Rattle.shard_fingerprints.specs.declared.pairs.Fingerprints.{Fingerprints}
+use Rattle.shard_fingerprints.specs.EqualElements.{element_equal}
+use Rattle.shard_fingerprints.specs.Fingerprints.{cell_words, fingerprint}
 use Rattle.shard_format.specs.declared.header.Header.{Header}
-use Rattle.shard_format.specs.Records.{AreCellsThatFit, HaveFingerprints, IsRecordOf, elements_spelling, numbers_spelling}
+use Rattle.shard_format.specs.Records.{AreCellsThatFit, HaveFingerprints, IsRecordOf, elements_spelling, numbers_spelling, record_spelling}
 use Rattle.shard_format.proofs.SpelledElements.{length_spelled, spelled_once}
 
 -- what follows the numbers of a record
@@ -31,24 +33,39 @@ elements_fit h block count bytes numbers words elements n e w r =
     let same : r.elements ≡ elements = spelled_once r.elements elements (sym (after_numbers h block count bytes numbers words n e r) ∙ w) in
     subst (AreCellsThatFit h block count) same r.fits
 
--- a record that was written into bytes of its length
-pub record_written : (h : Header) (block n : ℕ) (bytes rest numbers : List ℕ) (cells : List F) (stored : Fingerprints) → numbers ≡ numbers_spelling h (length cells)
-    → bytes ≡ numbers ++ elements_spelling (cells ++ (stored.first ∷ stored.second ∷ [])) → n ≡ length numbers + 8 * length cells + 16 → HaveFingerprints h block cells stored
-    → IsRecordOf h block (length cells) (take n (bytes ++ rest))
-record_written h block n bytes rest numbers cells stored e b size fits =
+-- what was written into bytes of the length of a record
+written_whole : (h : Header) (n : ℕ) (bytes rest numbers : List ℕ) (cells : List F) (stored : Fingerprints) → numbers ≡ numbers_spelling h (length cells)
+    → bytes ≡ numbers ++ elements_spelling (cells ++ (stored.first ∷ stored.second ∷ [])) → n ≡ length numbers + 8 * length cells + 16
+    → take n (bytes ++ rest) ≡ numbers_spelling h (length cells) ++ elements_spelling (cells ++ (stored.first ∷ stored.second ∷ []))
+written_whole h n bytes rest numbers cells stored e b size =
     let all : List F = cells ++ (stored.first ∷ stored.second ∷ []) in
     let count : length all ≡ length cells + 2 = length-append cells (stored.first ∷ stored.second ∷ []) in
     let long : n ≡ length bytes = omega (arith, size, ap length b, length-append numbers (elements_spelling all), length_spelled all, count) in
-    let whole : take n (bytes ++ rest) ≡ bytes = ap (λ k. take k (bytes ++ rest)) long ∙ take-append_seam bytes rest in
-    let listed : AreCellsThatFit h block (length cells) all = record {
-      cells = cells;
-      stored = stored;
-      counted = refl;
-      fits = fits;
-      listed = refl;
-    } in
-    record {
-      elements = all;
-      fits = listed;
-      spelled = whole ∙ b ∙ ap (λ (x : List ℕ). x ++ elements_spelling all) e;
-    }
+    ap (λ k. take k (bytes ++ rest)) long ∙ take-append_seam bytes rest ∙ b ∙ ap (λ (x : List ℕ). x ++ elements_spelling all) e
+
+-- is the record of the cells
+pub record_exact : (h : Header) (block n : ℕ) (bytes rest numbers : List ℕ) (cells : List F) (stored : Fingerprints) → numbers ≡ numbers_spelling h (length cells)
+    → bytes ≡ numbers ++ elements_spelling (cells ++ (stored.first ∷ stored.second ∷ [])) → n ≡ length numbers + 8 * length cells + 16 → HaveFingerprints h block cells stored
+    → take n (bytes ++ rest) ≡ record_spelling h block cells
+record_exact h block n bytes rest numbers cells stored e b size fits =
+    let words = cell_words block h.index cells in
+    let first : stored.first ≡ fingerprint words h.keys.first = element_equal stored.first (fingerprint words h.keys.first) fits.first in
+    let second : stored.second ≡ fingerprint words h.keys.second = element_equal stored.second (fingerprint words h.keys.second) fits.second in
+    written_whole h n bytes rest numbers cells stored e b size
+    ∙ ap₂ (λ (x y : F). numbers_spelling h (length cells) ++ elements_spelling (cells ++ (x ∷ y ∷ []))) first second
+
+-- and a record
+pub record_written : (h : Header) (block n : ℕ) (bytes rest numbers : List ℕ) (cells : List F) (stored : Fingerprints) → numbers ≡ numbers_spelling h (length cells)
+    → bytes ≡ numbers ++ elements_spelling (cells ++ (stored.first ∷ stored.second ∷ [])) → n ≡ length numbers + 8 * length cells + 16 → HaveFingerprints h block cells stored
+    → IsRecordOf h block (length cells) (take n (bytes ++ rest))
+record_written h block n bytes rest numbers cells stored e b size fits = record {
+  elements = cells ++ (stored.first ∷ stored.second ∷ []);
+  fits = record {
+    cells = cells;
+    stored = stored;
+    counted = refl;
+    fits = fits;
+    listed = refl;
+  };
+  spelled = written_whole h n bytes rest numbers cells stored e b size;
+}

@@ -78,6 +78,12 @@ pub record IsRecordOf (h : Header) (block count : ℕ) (bytes : List ℕ) : Type
   pub fits : AreCellsThatFit h block count elements
   pub spelled : bytes ≡ numbers_spelling h count ++ elements_spelling elements
 
+-- the bytes of the record of this block in the file with this header that has these cells: its numbers, and then the cells and their two fingerprints
+abbrev pub record_spelling : Header → ℕ → List F → List ℕ
+record_spelling h block cells =
+    let words = cell_words block h.index cells in
+    numbers_spelling h (length cells) ++ elements_spelling (cells ++ (fingerprint words h.keys.first ∷ fingerprint words h.keys.second ∷ []))
+
 -- the first record begins behind the header, and each further one where the one before it ends
 pub record RecordsFollow (h : Header) (cells : ℕ) : Type 0 where
   pub first : record_place h cells 0 ≡ length (header_spelling h)

@@ -7,7 +7,7 @@
 ghost use Rattle.std.specs.Prelude.{◌≡◌, ◌≢◌, ◌↔◌, ◌+◌, ◌*◌, ◌<◌, ◌≤◌, ◌^◌, ◌++◌, List, length, take, drop, OnOk, IsTrue, IsFalse, IfOk, IfSome, IsNone};
 ghost use Rattle.std.specs.Int.{to_be_bytes, w64};
 ghost use Rattle.math_base.specs.declared.fields.goldilocks.F.{F};
-ghost use Rattle.shard_format.specs.Records.{AreCellsThatFit, HaveFingerprints, IsRecordOf, IsShardOfHeader, block_count, block_size, capped, element_spelling, elements_spelling, file_size, numbers_spelling, record_place, record_size};
+ghost use Rattle.shard_format.specs.Records.{AreCellsThatFit, HaveFingerprints, IsRecordOf, IsShardOfHeader, block_count, block_size, capped, element_spelling, elements_spelling, file_size, numbers_spelling, record_place, record_size, record_spelling};
 
 use crate::header::{HEADER_SIZE, Header, number_of};
 use math_base::algebra::Mem;
@@ -225,7 +225,8 @@ fn put_record(bytes: &mut [u8], numbers: &[u8], first: &[F], last: &[F])
 }
 
 /// Writes the record of this block in the file with this header, in place of what `out` had: the
-/// cells, fewer than 2^32, and before and behind them what `is_record_of` asks for.
+/// cells, fewer than 2^32, and before and behind them what `is_record_of` asks for. So the bytes
+/// are the same whenever the header, the block and the cells are.
 pub fn write_record(
     alloc: Global,
     header: &Header,
@@ -234,7 +235,8 @@ pub fn write_record(
     out: &mut Vec<u8>,
 ) -> Mem<()>
     requires { length cells.now < 2 ^ 32 }
-    ensures { OnOk result (IsRecordOf header.now block (length cells.now) out.new.items) }
+    ensures exact { OnOk result (out.new.items ≡ record_spelling header.now block cells.now) }
+    ensures read { OnOk result (IsRecordOf header.now block (length cells.now) out.new.items) }
 {
     let stored = cells_fingerprints(&header.keys, block, header.index, cells);
     let numbers = record_numbers(alloc, header, cells.len() as u32)?;

@@ -25,6 +25,24 @@ pub struct Block {
     pub bytes: u32,
 }
 
+/// Which shards of a block are looked at.
+#[derive(Clone, Copy, PartialEq, Eq)]
+pub enum Look {
+    /// As many as give the block.
+    First,
+    /// All of them. The first that fit give the block.
+    Each,
+    /// All of them, and they are compared.
+    Compared,
+}
+
+impl Look {
+    /// All that are compared, or those of the other kind.
+    pub fn compared_or(compares_all: bool, other: Look) -> Look {
+        if compares_all { Look::Compared } else { other }
+    }
+}
+
 /// Room for one record, and for its elements.
 #[derive(Drop)]
 pub struct RecordRoom {
@@ -284,7 +302,7 @@ pub fn block_in(
     files: &mut [ShardFile],
     split: &Header,
     block: Block,
-    compares_all: bool,
+    look: Look,
     room: &mut RecordRoom,
 ) -> Result<Vec<u8>, Fault>
     requires { 1 ≤ split.now.min }
@@ -295,10 +313,15 @@ pub fn block_in(
         places: Vec::new(rt.alloc()),
         looked_at: 0,
     };
-    if !compares_all {
+    if look != Look::Compared {
         let wanted = split.min as usize;
         find_shards(rt, files, split, block, wanted, room, &mut found)?;
         if let Some(bytes) = bytes_given(rt.alloc(), split, &found.shards, block.bytes)? {
+            if look == Look::Each {
+                for file in files.iter_mut().skip(found.looked_at) {
+                    sound_index(rt, file, split, block, room)?;
+                }
+            }
             return Ok(bytes);
         }
     }
@@ -329,6 +352,30 @@ fn sound_index(
             file.add_lost_block(block.number, why);
             Ok(None)
         }
+    }
+}
+
+/// The bytes of the record of a block that the file has, as they stand there, where it fits.
+pub fn record_in<'a>(
+    rt: &HostRuntime,
+    file: &ShardFile,
+    split: &Header,
+    block: Block,
+    room: &'a mut RecordRoom,
+) -> Result<Option<&'a [u8]>, Fault>
+    requires { 1 ≤ split.now.min }
+{
+    let Some(source) = &file.source else {
+        return Ok(None);
+    };
+    let header = &Header {
+        index: source.header.index,
+        ..*split
+    };
+    let cells = cells_of(header, block)?;
+    match read_record(rt, file.name.as_str(), source, header, block, cells, room)? {
+        None => Ok(Some(room.bytes.as_slice())),
+        Some(_) => Ok(None),
     }
 }
 

@@ -2,7 +2,7 @@
 
 ghost use Rattle.std.specs.Prelude.{◌≤◌};
 
-use crate::blocks::{Block, RecordRoom, block_in, check_block};
+use crate::blocks::{Block, Look, RecordRoom, block_in, check_block};
 use crate::fault::Fault;
 use crate::joining::check_count;
 use crate::listing::{line_of, list};
@@ -10,16 +10,9 @@ use crate::names::Wanted;
 use crate::output::owned;
 use crate::progress::Progress;
 use crate::sources::{ShardFile, count_there, gather, is_want_of_room};
-use shard_blocks::cells_for;
+use crate::vain::Vain;
 use shard_format::header::Header;
-use shard_format::records::{block_count, record_size};
-
-/// How many bytes of records are read of blocks no record of which fits, before no more blocks are
-/// looked at. So files that claim to be large, and are not, do not keep a check busy.
-const MOST_IN_VAIN: u64 = 1 << 30;
-
-/// How many bytes a record counts for at least that was read so.
-const LEAST_RECORD: u64 = 1 << 14;
+use shard_format::records::block_count;
 
 /// What was found of the blocks that were looked at.
 #[derive(Drop)]
@@ -27,35 +20,10 @@ struct Findings {
     blocks: u64,
     refused: u64,
     first: Option<Fault>,
-    /// How many of them have no record that fits, and how many bytes were read for that.
-    without: u64,
-    in_vain: u64,
+    vain: Vain,
 }
 
 impl Findings {
-    /// Those of no block.
-    fn new() -> Findings {
-        Findings {
-            blocks: 0,
-            refused: 0,
-            first: None,
-            without: 0,
-            in_vain: 0,
-        }
-    }
-
-    /// Notes that a block has no record that fits, where so many have a place for it in a file.
-    fn add_block_without_record(&mut self, records: u64, bytes: u64) {
-        self.without = self.without.saturating_add(1);
-        let read = records.saturating_mul(bytes.max(LEAST_RECORD));
-        self.in_vain = self.in_vain.saturating_add(read);
-    }
-
-    /// Whether so much was read in vain that no more blocks are looked at.
-    fn is_given_up(&self) -> bool {
-        self.in_vain >= MOST_IN_VAIN
-    }
-
     /// Notes that a block is refused. Where memory or room for an open file ran out nothing is
     /// found.
     fn add_refused_block(&mut self, fault: Fault) -> Result<(), Fault> {
@@ -77,20 +45,6 @@ pub struct Checked {
     pub fault: Option<Fault>,
 }
 
-/// In how many blocks shards are not used, those of all files added up.
-fn count_lost(files: &[ShardFile]) -> u64 {
-    let mut lost = 0u64;
-    for file in files {
-        lost = lost.saturating_add(file.lost);
-    }
-    lost
-}
-
-/// How many of the files are of the split.
-fn count_used(files: &[ShardFile]) -> u64 {
-    files.iter().filter(|file| file.is_used()).count() as u64
-}
-
 /// Looks at all shards of each block, notes what is wrong, and which blocks have too few that fit
 /// their fingerprints. Only where all are to be compared are the shards of a block joined too.
 ///
@@ -105,8 +59,12 @@ fn try_blocks(
     requires some { 1 ≤ split.now.min }
     requires block { 1 ≤ split.now.block }
 {
-    let mut findings = Findings::new();
-    let used = count_used(files);
+    let mut findings = Findings {
+        blocks: 0,
+        refused: 0,
+        first: None,
+        vain: Vain::new(files),
+    };
     let mut progress = Progress::new(rt, split.length);
     let mut room = RecordRoom::new(rt.alloc());
     let mut left = split.length;
@@ -115,16 +73,13 @@ fn try_blocks(
             number: findings.blocks,
             bytes: left.min(u64::from(split.block)) as u32,
         };
-        let lost = count_lost(files);
-        if let Err(fault) = try_block(rt, split, files, block, compares_all, &mut room) {
+        let tried = try_block(rt, split, files, block, compares_all, &mut room);
+        findings.vain.add_block(split, files, block, tried.is_err());
+        if let Err(fault) = tried {
             findings.add_refused_block(fault)?;
-            if count_lost(files).saturating_sub(lost) == used {
-                let cells = cells_for(block.bytes as usize, split.min);
-                findings.add_block_without_record(used, record_size(split, cells));
-            }
         }
         findings.blocks = findings.blocks.saturating_add(1);
-        if findings.is_given_up() {
+        if findings.vain.is_given_up() {
             break;
         }
         left -= u64::from(block.bytes);
@@ -146,7 +101,7 @@ fn try_block(
     requires { 1 ≤ split.now.min }
 {
     if compares_all {
-        block_in(rt, files, split, block, true, room)?;
+        block_in(rt, files, split, block, Look::Compared, room)?;
         return Ok(());
     }
     check_block(rt, files, split, block, room)
@@ -163,7 +118,7 @@ fn reason_of(rt: &HostRuntime, fault: &Fault) -> Result<String, Fault> {
 /// give; and why it is refused, where not all shards are there and fit.
 pub fn check(rt: &HostRuntime, wanted: &Wanted, compares_all: bool) -> Result<Checked, Fault> {
     let mut files = Vec::new(rt.alloc());
-    match gather(rt, wanted, &mut files) {
+    match gather(rt, wanted, &mut files, false) {
         Ok(split) => check_split(rt, wanted, &split, &mut files, compares_all),
         Err(fault) if is_of_headers(&fault) => {
             let mut text = String::new(rt.alloc());
@@ -242,7 +197,7 @@ fn write_findings(
         "any {min} of {total} give back {length} bytes in {blocks} blocks"
     )?;
     if findings.blocks < blocks {
-        let (from, without) = (findings.blocks, findings.without);
+        let (from, without) = (findings.blocks, findings.vain.blocks);
         writeln!(
             text,
             "given up at block {from}, since {without} blocks before it have no shard that fits"

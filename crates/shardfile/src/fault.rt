@@ -15,8 +15,16 @@ pub enum WrongWord {
     Option(String),
     #[error("{0}: no option of {1}")]
     OptionOf(&'static str, &'static str),
-    #[error("--to: no folder is given after it")]
-    NoFolder,
+    #[error("{0}: no {1} is given after it")]
+    NoWord(&'static str, &'static str),
+    #[error("-: --name NAME says what its shard files are called")]
+    NoName,
+    #[error("--name: goes with - alone, which is standard input")]
+    NameOfFile,
+    #[error("{0}: --only takes numbers below 65536, with commas between them")]
+    Only(String),
+    #[error("-: --partial writes no stream, but a file")]
+    PartialStream,
     #[error("a word is empty")]
     Empty,
     #[error("{1} words are given where {0} are wanted")]
@@ -30,7 +38,7 @@ pub enum WrongWord {
 /// Why the work was not done. Texts name the file or the block that is meant.
 #[derive(Debug, Drop, Error)]
 pub enum Fault {
-    #[error("{0}\nusage: shardfile split [--force] [--to FOLDER] MIN TOTAL FILE | join [--force] [--all] FILE OUT | join [--force] [--all] --shards OUT SHARD .. | check [--all] FILE | check [--all] --shards SHARD .. | clean FOLDER | --help | --version")]
+    #[error("{0}\nusage: shardfile split [--force] [--to FOLDER] MIN TOTAL FILE | split [--force] [--to FOLDER] --name NAME MIN TOTAL - | join [--force] [--all] [--partial] FILE OUT | join [--force] [--all] [--partial] --shards OUT SHARD .. | repair [--force] [--all] [--only N,M] FILE | repair [--force] [--all] [--only N,M] --shards NAME SHARD .. | check [--all] FILE | check [--all] --shards SHARD .. | clean FOLDER | --help | --version")]
     Usage(WrongWord),
     #[error("refused: a word is no UTF-8 text: give the file such a name, or a link to it (ln -s), and call it by this")]
     Words,
@@ -69,6 +77,12 @@ pub enum Fault {
     Block(u64, shard_blocks::Error),
     #[error("refused: {0}: not all shards are there and fit")]
     Unsound(String),
+    #[error("refused: {0}: shard files that do not fit stay: repair --force replaces them")]
+    Stays(String),
+    #[error("refused: {0}: some blocks cannot be restored, and are zeros")]
+    Holes(String),
+    #[error("refused: {0} is no number of a shard: there are {1}, from 0 on")]
+    NoNumber(u32, u32),
     #[error("refused: a shard with too many cells")]
     Cells,
     #[error("refused: the system gives no random words that can be keys")]

@@ -7,14 +7,14 @@ use crate::sources::ShardFile;
 /// What is to be said of a shard file.
 pub fn line_of(rt: &HostRuntime, file: &ShardFile) -> Result<String, Fault> {
     let name = &file.name;
-    if let Some(fault) = file.fault {
-        return Ok(format!(in rt.alloc(); "{name}: {fault}")?);
-    }
     if file.lost > 0 {
         let (lost, first, why) = (file.lost, file.first_lost, file.why);
         return Ok(format!(in rt.alloc();
             "{name}: left out of {lost} blocks, first of block {first}: {why}"
         )?);
+    }
+    if let Some(fault) = file.fault {
+        return Ok(format!(in rt.alloc(); "{name}: {fault}")?);
     }
     Ok(format!(in rt.alloc(); "{name}: fits")?)
 }

@@ -1,17 +1,17 @@
 //! Files that stand under their final names only once all of them is written.
 
-ghost use Rattle.std.specs.Prelude.{◌≡◌, ◌+◌, ◌≤◌, length, IfOk, OnOk, OnErr};
+ghost use Rattle.std.specs.Prelude.{◌≡◌, ◌+◌, ◌<◌, ◌≤◌, All, length, IfOk, OnOk};
 
 use crate::fault::Fault;
 use crate::names::folder_and_name;
-use shard_blocks::Shard;
-use shard_format::header::Header;
+use shard_blocks::{Shard, split_block_at};
+use shard_format::header::{HEADER_SIZE, Header, header_bytes};
 use shard_format::records::write_record;
 use std::alloc::Global;
 use std::fs;
 use std::fs::{File, Metadata, OpenOptions, Permissions};
-use std::io::{self, ErrorKind};
-use std::os::unix::fs::{MetadataExt, OpenOptionsExt, PermissionsExt};
+use std::io::{self, ErrorKind, Seek};
+use std::os::unix::fs::{FileExt, MetadataExt, OpenOptionsExt, PermissionsExt};
 use std::random::RandomSource;
 
 /// How many shard files are kept open at once, at most. Others are opened again for each block.
@@ -184,6 +184,42 @@ impl Partial {
         }
     }
 
+    /// Leaves out so many bytes, which are zeros where more follow.
+    fn pass_over(&mut self, rt: &HostRuntime, count: u64) -> Result<(), Fault> {
+        let passed = match (&mut self.file, i64::try_from(count)) {
+            (Some(file), Ok(count)) => file.seek_relative(count),
+            _ => Err(io::Error::from(ErrorKind::Unsupported)),
+        };
+        match passed {
+            Ok(()) => Ok(()),
+            Err(error) => Err(self.fault(rt, error)?),
+        }
+    }
+
+    /// Gives the file this length, where it is shorter since its last bytes were left out.
+    fn lengthen(&self, rt: &HostRuntime, length: u64) -> Result<(), Fault> {
+        let lengthened = match &self.file {
+            Some(file) => file.set_len(length),
+            None => Err(io::Error::from(ErrorKind::Unsupported)),
+        };
+        match lengthened {
+            Ok(()) => Ok(()),
+            Err(error) => Err(self.fault(rt, error)?),
+        }
+    }
+
+    /// Writes the bytes over the first ones.
+    fn write_first(&self, rt: &HostRuntime, bytes: &[u8]) -> Result<(), Fault> {
+        let written = match &self.file {
+            Some(file) => file.write_all_at(bytes, 0),
+            None => write_first_to(rt, self.beside.as_str(), bytes),
+        };
+        match written {
+            Ok(()) => Ok(()),
+            Err(error) => Err(self.fault(rt, error)?),
+        }
+    }
+
     /// Closes the file, which is opened again for each write.
     fn close(&mut self) {
         self.file = None;
@@ -254,6 +290,12 @@ fn append_to(rt: &HostRuntime, path: &str, bytes: &[u8]) -> io::Result<()> {
     io::Write::write_all(&mut file, bytes)
 }
 
+/// Writes the bytes over the first ones of the file that is there.
+fn write_first_to(rt: &HostRuntime, path: &str, bytes: &[u8]) -> io::Result<()> {
+    let file = OpenOptions::new().write(true).open(rt, path)?;
+    file.write_all_at(bytes, 0)
+}
+
 /// Has the system write all of the file to the device, and takes away each right but these.
 fn settle_file(file: &File, rights: u32) -> io::Result<()> {
     let given = rights_of(&file.metadata()?);
@@ -279,10 +321,12 @@ fn sync_folder(rt: &HostRuntime, folder: String) -> Result<(), Fault> {
     }
 }
 
-/// A file of known length that is being written.
+/// A file of known length that is being written, or standard output.
 #[derive(Drop)]
 pub struct Restored {
-    partial: Partial,
+    /// The file; none where the bytes go to standard output.
+    partial: Option<Partial>,
+    length: u64,
     /// The number of bytes that are still to be written.
     pub left: u64,
 }
@@ -299,9 +343,21 @@ impl Restored {
     {
         let partial = Partial::create(rt, path, how, 0)?;
         Ok(Restored {
-            partial,
+            partial: Some(partial),
+            length,
             left: length,
         })
+    }
+
+    /// So many bytes on standard output, none of which is written.
+    pub fn to_standard_output(length: u64) -> Restored
+        ensures { result.left ≡ length }
+    {
+        Restored {
+            partial: None,
+            length,
+            left: length,
+        }
     }
 
     /// Writes the next bytes.
@@ -309,8 +365,23 @@ impl Restored {
         requires { length bytes.now ≤ self.old.left }
         ensures { OnOk result (self.new.left + length bytes.now ≡ self.old.left) }
     {
-        self.partial.append(rt, bytes)?;
+        match &mut self.partial {
+            Some(partial) => partial.append(rt, bytes)?,
+            None => io::Write::write_all(&mut io::writer(rt), bytes)?,
+        }
         self.left -= bytes.len() as u64;
+        Ok(())
+    }
+
+    /// Leaves out the next bytes of the file, which are zeros there.
+    pub fn pass_over(&mut self, rt: &HostRuntime, count: u64) -> Result<(), Fault>
+        requires { count ≤ self.old.left }
+        ensures { OnOk result (self.new.left + count ≡ self.old.left) }
+    {
+        if let Some(partial) = &mut self.partial {
+            partial.pass_over(rt, count)?;
+        }
+        self.left -= count;
         Ok(())
     }
 
@@ -318,35 +389,43 @@ impl Restored {
     pub fn finish(self, rt: &HostRuntime) -> Result<(), Fault>
         requires { self.left ≡ 0 }
     {
-        let done = named(rt, &self.partial);
+        let Some(partial) = &self.partial else {
+            return Ok(());
+        };
+        let done = named(rt, partial, self.length);
         if done.is_err() {
-            self.partial.remove(rt);
+            partial.remove(rt);
         }
         done
     }
 
     /// Removes what was written.
     pub fn discard(self, rt: &HostRuntime) {
-        self.partial.remove(rt);
+        if let Some(partial) = &self.partial {
+            partial.remove(rt);
+        }
     }
 }
 
-/// Gives a file its final name. No memory is taken once it has it.
-fn named(rt: &HostRuntime, partial: &Partial) -> Result<(), Fault> {
+/// Gives a file of this length its final name. No memory is taken once it has it.
+fn named(rt: &HostRuntime, partial: &Partial, length: u64) -> Result<(), Fault> {
+    partial.lengthen(rt, length)?;
     partial.settle(rt)?;
     let (folder, _) = folder_and_name(rt, partial.path.as_str())?;
     partial.take_name(rt)?;
     sync_folder(rt, folder)
 }
 
-/// The shard files of a file of known length that are being written.
+/// Shard files of one split that are being written. Their headers are written last.
 #[derive(Drop)]
 pub struct ShardFiles {
     partials: Vec<Partial>,
-    /// The number of bytes of the file whose shards are still to be written.
+    /// The index of the shards of each of them.
+    indices: Vec<u32>,
+    /// The number of bytes that are known and whose shards are still to be written.
     pub left: u64,
     /// The header of the split.
-    split: Header,
+    pub split: Header,
     /// The number of the next block.
     block: u64,
     /// Room for one record.
@@ -356,10 +435,13 @@ pub struct ShardFiles {
 impl ShardFiles {
     /// No file yet, for a file that is split so.
     pub fn new(alloc: Global, split: &Header) -> ShardFiles
-        ensures { result.left ≡ split.now.length }
+        ensures left { result.left ≡ split.now.length }
+        ensures split { result.split ≡ split.now }
+        ensures below { All (λ i. i < split.now.total) result.indices.items }
     {
         ShardFiles {
             partials: Vec::new(alloc),
+            indices: Vec::new(alloc),
             left: split.length,
             split: *split,
             block: 0,
@@ -367,20 +449,25 @@ impl ShardFiles {
         }
     }
 
-    /// Adds a file that begins with these bytes.
+    /// Adds a file for the shards with this index. Its header is zeros.
     pub fn add(
         &mut self,
         rt: &HostRuntime,
         path: String,
+        index: u32,
         how: &Manner,
-        header: &[u8],
     ) -> Result<(), Fault>
-        ensures { self.new.left ≡ self.old.left }
+        requires index { index < self.old.split.total }
+        requires below { All (λ i. i < self.old.split.total) self.old.indices.items }
+        ensures left { self.new.left ≡ self.old.left }
+        ensures split { self.new.split ≡ self.old.split }
+        ensures below { All (λ i. i < self.new.split.total) self.new.indices.items }
     {
         self.partials.reserve(1)?;
+        self.indices.push(index)?;
         let number = self.partials.len();
         let mut partial = Partial::create(rt, path, how, number)?;
-        let written = partial.append(rt, header);
+        let written = partial.append(rt, &[0; HEADER_SIZE]);
         if number >= MOST_KEPT_OPEN {
             partial.close();
         }
@@ -388,29 +475,68 @@ impl ShardFiles {
         written
     }
 
-    /// Writes the shards of the next so many bytes of the file, one to each of the files.
-    pub fn write(&mut self, rt: &HostRuntime, shards: &[Shard], bytes: u64) -> Result<(), Fault>
-        requires { bytes ≤ self.old.left }
-        ensures { OnOk result (self.new.left + bytes ≡ self.old.left) }
+    /// Writes the bytes at the end of the file that was added last.
+    pub fn append_to_last(&mut self, rt: &HostRuntime, bytes: &[u8]) -> Result<(), Fault>
+        ensures left { self.new.left ≡ self.old.left }
+        ensures split { self.new.split ≡ self.old.split }
+        ensures indices { self.new.indices ≡ self.old.indices }
+    {
+        match self.partials.last_mut() {
+            Some(partial) => partial.append(rt, bytes),
+            None => Ok(()),
+        }
+    }
+
+    /// Notes that so many bytes follow, of a file whose length was not known.
+    pub fn lengthen(&mut self, bytes: u64) -> Result<(), Fault>
+        requires { self.old.left ≡ 0 }
+        ensures left { OnOk result (self.new.left ≡ bytes) }
+        ensures least { self.new.split.min ≡ self.old.split.min }
+        ensures most { self.new.split.total ≡ self.old.split.total }
+        ensures block { self.new.split.block ≡ self.old.split.block }
+        ensures indices { self.new.indices ≡ self.old.indices }
+    {
+        let Some(length) = self.split.length.checked_add(bytes) else {
+            return Err(Fault::Cells);
+        };
+        self.split.length = length;
+        self.left = bytes;
+        Ok(())
+    }
+
+    /// Writes the shards of the next block, one to each of the files.
+    pub fn write(&mut self, rt: &HostRuntime, bytes: &[u8]) -> Result<(), Fault>
+        requires some { 1 ≤ self.old.split.min }
+        requires within { self.old.split.min ≤ self.old.split.total }
+        requires below { All (λ i. i < self.old.split.total) self.old.indices.items }
+        requires left { length bytes.now ≤ self.old.left }
+        ensures left { OnOk result (self.new.left + length bytes.now ≡ self.old.left) }
+        ensures split { self.new.split ≡ self.old.split }
+        ensures indices { self.new.indices ≡ self.old.indices }
     {
         let ShardFiles {
             partials,
+            indices,
             split,
             block,
             record,
             ..
         } = self;
-        append_all(rt, partials, shards, split, *block, record)?;
+        if !indices.is_empty() {
+            let shards = split_block_at(rt.alloc(), bytes, split.min, split.total, indices)?;
+            append_all(rt, partials, &shards, split, *block, record)?;
+        }
         self.block = self.block.saturating_add(1);
-        self.left -= bytes;
+        self.left -= bytes.len() as u64;
         Ok(())
     }
 
-    /// Gives the files their names, once the shards of all bytes are written.
+    /// Writes the headers, and gives the files their names, once the shards of all bytes are
+    /// written.
     pub fn finish(self, rt: &HostRuntime) -> Result<(), Fault>
         requires { self.left ≡ 0 }
     {
-        let done = all_named(rt, &self.partials);
+        let done = all_named(rt, &self.partials, &self.indices, &self.split);
         if done.is_err() {
             self.discard(rt);
         }
@@ -449,18 +575,43 @@ fn append_all(
     Ok(())
 }
 
-/// Gives the files, which lie in one folder, their final names, the first one last, once the system
-/// has written all of them to the device. No memory is taken once one has it.
-fn all_named(rt: &HostRuntime, partials: &[Partial]) -> Result<(), Fault> {
-    let Some(first) = partials.first() else {
-        return Ok(());
-    };
+/// The folders of the files, each once where files of one folder stand together.
+fn folders_of(rt: &HostRuntime, partials: &[Partial]) -> Result<Vec<String>, Fault> {
+    let mut folders: Vec<String> = Vec::new(rt.alloc());
     for partial in partials {
+        let (folder, _) = folder_and_name(rt, partial.path.as_str())?;
+        if folders
+            .last()
+            .is_none_or(|last| last.as_str() != folder.as_str())
+        {
+            folders.push(folder)?;
+        }
+    }
+    Ok(folders)
+}
+
+/// Writes the headers, and gives the files their final names, the first one last, once the system
+/// has written all of them to the device. No memory is taken once one has it.
+fn all_named(
+    rt: &HostRuntime,
+    partials: &[Partial],
+    indices: &[u32],
+    split: &Header,
+) -> Result<(), Fault> {
+    for (partial, index) in partials.iter().zip(indices) {
+        let header = Header {
+            index: *index,
+            ..*split
+        };
+        partial.write_first(rt, &header_bytes(rt.alloc(), &header)?)?;
         partial.settle(rt)?;
     }
-    let (folder, _) = folder_and_name(rt, first.path.as_str())?;
+    let folders = folders_of(rt, partials)?;
     for partial in partials.iter().rev() {
         partial.take_name(rt)?;
     }
-    sync_folder(rt, folder)
+    for folder in folders {
+        sync_folder(rt, folder)?;
+    }
+    Ok(())
 }

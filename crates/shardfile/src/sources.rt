@@ -52,6 +52,8 @@ pub struct ShardFile {
     pub first_lost: u64,
     /// What is wrong with the first of them.
     pub why: &'static str,
+    /// Whether a file that is being written takes its place.
+    pub is_replaced: bool,
 }
 
 impl ShardFile {
@@ -204,6 +206,7 @@ fn shard_file(
         lost: 0,
         first_lost: 0,
         why: "",
+        is_replaced: false,
     })
 }
 
@@ -263,12 +266,14 @@ fn leave_out_others(file: &mut ShardFile, split: &Header) {
 ///
 /// Of the splits of which MIN shards or more are there, each number counted once, it is that of
 /// which the most are there, and where there is none such, one of which the most are there. It
-/// refuses where no shard is there, where equally many of two such splits are, and where no file of
-/// the split is as long as its header says or longer: then its last block is in none.
+/// refuses where no shard is there, where equally many of two such splits are, and, unless the last
+/// blocks may be missing, where no file of the split is as long as its header says or longer: then
+/// its last block is in none.
 pub fn gather(
     rt: &HostRuntime,
     wanted: &Wanted,
     files: &mut Vec<ShardFile>,
+    may_end_before: bool,
 ) -> Result<Header, Fault>
     ensures { IfOk result IsPossible }
 {
@@ -280,7 +285,7 @@ pub fn gather(
     for shard in files.iter_mut() {
         leave_out_others(shard, &split);
     }
-    let is_long = files.iter().any(|shard| is_whole(shard));
+    let is_long = may_end_before || files.iter().any(|shard| is_whole(shard));
     for shard in files.iter_mut() {
         note_length(shard, is_long);
     }

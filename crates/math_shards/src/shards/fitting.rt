@@ -309,7 +309,6 @@ pub(super) fn have_values<R: Row>(
     let lg = coset_lg(layout);
     let table = evaluation_table::<F>(alloc, lg)?;
     let most = most_cols(layout.width, lg);
-    let coset = Layout { lg, ..layout };
-    let mut room = strip_room(alloc, coset, most)?;
+    let mut room = strip_room(alloc, size_of(lg), most)?;
     Ok(have_strips(alloc, rows, elements, layout, lg, &table, most, &mut room))
 }

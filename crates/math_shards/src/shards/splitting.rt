@@ -11,14 +11,16 @@ ghost use Rattle.std.specs.Prelude.{
   ◌≤◌,
   ◌^◌,
   ℕ,
+  All,
   IfOk,
   List,
   OnErr,
   OnOk,
   length,
 };
+ghost use Rattle.std.specs.List.{range_with_len};
 ghost use Rattle.math_shards.specs.DataWords.{words_in};
-ghost use Rattle.math_shards.specs.Shards.{AreShardsOf, width_for};
+ghost use Rattle.math_shards.specs.Shards.{AreShardsAt, AreShardsOf, width_for};
 ghost use Rattle.math_shards.specs.ShardRows.{AreColumnsWritten};
 ghost use Rattle.math_shards.specs.ShardRows.{AreRowsOfShards, HaveColumns};
 ghost use Rattle.math_shards.specs.Strips.{AreBegun, AreExtended, IsExtendedBy, IsLayoutOf};
@@ -28,6 +30,7 @@ use super::Shard;
 use super::rooms::Room;
 use super::sources::{Source, Word, source_of};
 use super::strips::{Layout, layout_of, most_cols, strip_room, write_values};
+use super::wanting::{append_values, are_products_cheaper};
 use math_base::algebra::Mem;
 use math_base::fields::goldilocks::F;
 use math_transforms::transform::{evaluation_table, size_of};
@@ -74,12 +77,40 @@ pub fn split_source<W: Word>(
     ensures { IfOk result
         (λ shards. AreShardsOf (words_in W.word source.now) min total shards.items) }
 {
+    let indices = all_indices(alloc, total)?;
+    split_source_at(alloc, source, min, total, &indices)
+}
+
+/// Gives the shards of these indices, in their order: those that `split_source` gives of all. An
+/// index may stand there twice.
+///
+/// The conditions are those of `split`, and each index is below `total`. Where there are few indices,
+/// each value is a sum of `min` products; else all values of a strip are computed as `split` does, and
+/// those of these indices are kept. Beside the shards it takes memory as `split` does, or less.
+///
+/// ```
+/// let source = Source { first: None, words: &[4_u64, 6], last: None };
+/// let shards = split_source_at(alloc, &source, 1, 5, &[3])?;
+/// shards[0].index; // 3
+/// join(alloc, &shards)?; // [4, 6]
+/// ```
+pub fn split_source_at<W: Word>(
+    alloc: Global,
+    source: &Source<'_, W>,
+    min: u32,
+    total: u32,
+    indices: &[u32],
+) -> Mem<Vec<Shard>>
+    requires some { 1 ≤ min }
+    requires within { min ≤ total }
+    requires few { length (words_in W.word source.now) < 2 ^ 61 }
+    requires below { All (λ i. i < total) indices.now }
+    ensures { IfOk result
+        (λ shards. AreShardsAt (words_in W.word source.now) min total indices.now shards.items) }
+{
     let layout = layout_of(source, min, total);
-    let table = evaluation_table::<F>(alloc, layout.lg)?;
-    let mut shards = empty_shards(alloc, min, total, layout.width)?;
-    let most = most_cols(layout);
-    let mut room = strip_room(alloc, layout, most)?;
-    append_strips(alloc, source, layout, &table, most, &mut room, &mut shards)?;
+    let mut shards = empty_shards(alloc, indices, min, total, layout.width)?;
+    append_columns(alloc, source, layout, &mut shards)?;
     Ok(shards)
 }
 
@@ -134,7 +165,7 @@ pub fn split_source_rows<W: Word, R: Room>(
     let layout = layout_of(source, min, total);
     let table = evaluation_table::<F>(alloc, layout.lg)?;
     let most = most_cols(layout);
-    let mut room = strip_room(alloc, layout, most)?;
+    let mut room = strip_room(alloc, size_of(layout.lg), most)?;
     write_rows(
         alloc,
         source,
@@ -204,23 +235,83 @@ fn write_columns<R: Room>(
     }
 }
 
-/// A shard without cells for each index below `total`, each with room for so many cells.
-fn empty_shards(alloc: Global, min: u32, total: u32, width: usize) -> Mem<Vec<Shard>>
-    ensures count { IfOk result (λ shards. length shards.items ≡ total) }
-    ensures empty { IfOk result
-        (λ shards. (words : List ℕ) (lg : ℕ) → AreBegun words min total lg 0 shards.items) }
+/// The indices below `total`, in order.
+fn all_indices(alloc: Global, total: u32) -> Mem<Vec<u32>>
+    ensures { IfOk result (λ indices. indices.items ≡ range_with_len 0 total) }
 {
-    let mut shards = Vec::with_capacity(alloc, total as usize)?;
+    let mut indices = Vec::with_capacity(alloc, total as usize)?;
     for index in 0..total {
+        indices.push(index)?;
+    }
+    Ok(indices)
+}
+
+/// A shard without cells for each of these indices, each with room for so many cells.
+fn empty_shards(
+    alloc: Global,
+    indices: &[u32],
+    min: u32,
+    total: u32,
+    width: usize,
+) -> Mem<Vec<Shard>>
+    ensures count { IfOk result (λ shards. length shards.items ≡ length indices.now) }
+    ensures empty { IfOk result (λ shards. (words : List ℕ) (lg : ℕ)
+        → AreBegun words min total lg 0 indices.now shards.items) }
+{
+    let mut shards = Vec::with_capacity(alloc, indices.len())?;
+    for i in 0..indices.len() {
         let cells = Vec::with_capacity(alloc, width)?;
         shards.push(Shard {
-            index,
+            index: indices[i],
             min,
             total,
             cells,
         })?;
     }
     Ok(shards)
+}
+
+/// Adds the values of all columns to the shards, in the way that takes less work.
+fn append_columns<W: Word>(
+    alloc: Global,
+    source: &Source<'_, W>,
+    layout: Layout,
+    shards: &mut [Shard],
+) -> Mem<()>
+    requires layout { IsLayoutOf (words_in W.word source.now) layout }
+    requires points { All (λ s. s.index < 2 ^ layout.lg) shards.old }
+    requires wide { 1 ≤ layout.width }
+    ensures { OnOk result ((total : ℕ) (indices : List ℕ)
+        → AreBegun (words_in W.word source.now) layout.min total layout.lg 0 indices shards.old
+        → AreBegun (words_in W.word source.now) layout.min total layout.lg layout.width indices
+        shards.new) }
+{
+    if are_products_cheaper(layout, shards.len()) {
+        append_values(alloc, source, layout, shards)
+    } else {
+        append_transformed(alloc, source, layout, shards)
+    }
+}
+
+/// Adds the values of all columns to the shards, by transforms.
+fn append_transformed<W: Word>(
+    alloc: Global,
+    source: &Source<'_, W>,
+    layout: Layout,
+    shards: &mut [Shard],
+) -> Mem<()>
+    requires layout { IsLayoutOf (words_in W.word source.now) layout }
+    requires points { All (λ s. s.index < 2 ^ layout.lg) shards.old }
+    requires wide { 1 ≤ layout.width }
+    ensures { OnOk result ((total : ℕ) (indices : List ℕ)
+        → AreBegun (words_in W.word source.now) layout.min total layout.lg 0 indices shards.old
+        → AreBegun (words_in W.word source.now) layout.min total layout.lg layout.width indices
+        shards.new) }
+{
+    let table = evaluation_table::<F>(alloc, layout.lg)?;
+    let most = most_cols(layout);
+    let mut room = strip_room(alloc, size_of(layout.lg), most)?;
+    append_strips(alloc, source, layout, &table, most, &mut room, shards)
 }
 
 /// Adds the values of all columns to the shards, strip by strip of at most so many columns, each in
@@ -235,13 +326,13 @@ fn append_strips<W: Word>(
     shards: &mut [Shard],
 ) -> Mem<()>
     requires layout { IsLayoutOf (words_in W.word source.now) layout }
-    requires points { length shards.old ≤ 2 ^ layout.lg }
+    requires points { All (λ s. s.index < 2 ^ layout.lg) shards.old }
     requires table { IsTableOf layout.lg table.now }
     requires some { 1 ≤ most }
     requires room { length room.old ≡ 2 ^ layout.lg * most }
-    ensures { OnOk result ((total : ℕ)
-        → AreBegun (words_in W.word source.now) layout.min total layout.lg 0 shards.old
-        → AreBegun (words_in W.word source.now) layout.min total layout.lg layout.width
+    ensures { OnOk result ((total : ℕ) (indices : List ℕ)
+        → AreBegun (words_in W.word source.now) layout.min total layout.lg 0 indices shards.old
+        → AreBegun (words_in W.word source.now) layout.min total layout.lg layout.width indices
         shards.new) }
 {
     let mut from = 0;
@@ -249,20 +340,21 @@ fn append_strips<W: Word>(
         let cols = most.min(layout.width - from);
         let strip = &mut room[..size_of(layout.lg) * cols];
         write_values(alloc, source, layout, from, cols, table, strip);
-        append_rows(strip, cols, shards)?;
+        append_rows(strip, cols, size_of(layout.lg), shards)?;
         from += cols;
     }
     Ok(())
 }
 
-/// Adds row i of the cells to shard i, for each shard.
-fn append_rows(cells: &[F], cols: usize, shards: &mut [Shard]) -> Mem<()>
-    requires { length shards.old * cols ≤ length cells.now }
+/// Adds to each shard the row of its index, of so many rows of `cols` cells.
+fn append_rows(cells: &[F], cols: usize, rows: usize, shards: &mut [Shard]) -> Mem<()>
+    requires size { length cells.now ≡ rows * cols }
+    requires below { All (λ s. s.index < rows) shards.old }
     ensures { OnOk result (AreExtended cols cells.now shards.old shards.new) }
 {
     for i in 0..shards.len() {
-        let from = i * cols;
-        append_row(&mut shards[i], &cells[from..from + cols])?;
+        let row = shards[i].index as usize;
+        append_row(&mut shards[i], &cells[row * cols..(row + 1) * cols])?;
     }
     Ok(())
 }

@@ -187,19 +187,21 @@ fn write_packed<W: Word>(source: &Source<'_, W>, first: usize, cells: &mut [F])
     }
 }
 
-/// Writes over the cells the strip of `cols` columns from column `from` on, with a row for each
-/// point: the rows that the data fill, and then rows of zeros.
-fn write_strip<W: Word>(
+/// Writes over the cells the strip of `cols` columns from column `from` on, with so many rows: those
+/// that the data fill, and then rows of zeros.
+pub(super) fn write_strip<W: Word>(
     source: &Source<'_, W>,
     layout: Layout,
+    rows: usize,
     from: usize,
     cols: usize,
     cells: &mut [F],
 )
     requires layout { IsLayoutOf (words_in W.word source.now) layout }
+    requires tall { layout.min ≤ rows }
     requires within { from + cols ≤ layout.width }
-    requires size { length cells.old ≡ 2 ^ layout.lg * cols }
-    ensures { IsStripOf (words_in W.word source.now) layout.min (2 ^ layout.lg) from cols cells.new }
+    requires size { length cells.old ≡ rows * cols }
+    ensures { IsStripOf (words_in W.word source.now) layout.min rows from cols cells.new }
 {
     for row in 0..layout.min {
         let at = row * cols;
@@ -226,19 +228,18 @@ pub(super) fn write_values<W: Word>(
     ensures { HasStripValues (words_in W.word source.now) layout.min layout.lg
         from cols cells.new }
 {
-    write_strip(source, layout, from, cols, cells);
+    write_strip(source, layout, size_of(layout.lg), from, cols, cells);
     let Ok(()) = evaluate_rows(alloc, cells, cols, layout.lg, table, &mut Work::new()) else {
         unreachable!()
     };
 }
 
-/// Room for a strip of so many columns: zeros.
-pub(super) fn strip_room(alloc: Global, layout: Layout, cols: usize) -> Mem<Vec<F>>
-    requires small { layout.lg ≤ 32 }
-    requires size { 2 ^ layout.lg * cols < 2 ^ 64 }
-    ensures { IfOk result (λ room. length room.items ≡ 2 ^ layout.lg * cols) }
+/// Room for so many rows of a strip of so many columns: zeros.
+pub(super) fn strip_room(alloc: Global, rows: usize, cols: usize) -> Mem<Vec<F>>
+    requires { rows * cols < 2 ^ 64 }
+    ensures { IfOk result (λ room. length room.items ≡ rows * cols) }
 {
-    let count = size_of(layout.lg) * cols;
+    let count = rows * cols;
     let mut room = Vec::with_capacity(alloc, count)?;
     room.resize(count, F::from(0))?;
     Ok(room)

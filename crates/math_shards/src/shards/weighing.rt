@@ -120,7 +120,13 @@ fn weights_of(alloc: Global, indices: &[u32], min: u32, total: u32) -> Mem<Matri
 }
 
 /// Puts the cells of a column into `column`, in place of what was there.
-fn gather(column: &mut Vec<F>, cells: &[F], width: usize, k: usize, count: usize) -> Mem<()>
+pub(super) fn gather(
+    column: &mut Vec<F>,
+    cells: &[F],
+    width: usize,
+    k: usize,
+    count: usize,
+) -> Mem<()>
     requires size { length cells.now ≡ count * width }
     requires within { k < width }
     ensures { OnOk result

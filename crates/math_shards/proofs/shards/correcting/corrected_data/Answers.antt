@@ -1,7 +1,7 @@
 use Rattle.std.proofs.Common.{List, subst, sym}
 use Rattle.std.proofs.lemmas.Result.{err_from_is_err_and}
 use Rattle.math_base.specs.declared.fields.goldilocks.F.{F}
-use Rattle.math_shards.specs.Correcting.{AreCorrected, CorrectTo, settled_indices}
+use Rattle.math_shards.specs.Correcting.{CorrectTo, settled_indices}
 use Rattle.math_shards.specs.Fitting.{AreDataOf}
 use Rattle.math_shards.proofs.DueErrors.{due_beside, unsound_due}
 use Rattle.math_shards.proofs.JoinedCorrection.{joined_corrected}

@@ -1,10 +1,9 @@
-use Rattle.std.proofs.Common.{◌≡◌, ◌∙◌, ◌+◌, ◌-◌, ◌*◌, ◌≤◌, ◌^◌, ◌++◌, length, drop, take, subst, refl, ap, arith}
+use Rattle.std.proofs.Common.{◌≡◌, ◌∙◌, ◌+◌, ◌-◌, ◌*◌, ◌≤◌, ◌^◌, ◌++◌, length, drop, take, subst, refl, arith}
 use Rattle.std.proofs.lemmas.List.{length-drop, length-take-le}
 use Rattle.std.proofs.lemmas.Nat.{mul-le}
 use Rattle.math_transforms.proofs.WrittenCells.{row-within}
 use Rattle.math_shards.proofs.CosetCells.{HoldMultiples, begun-at, coset_columns, coset_valued, length-begun, multiple_at, multiples-first, multiples-more, zeros_over}
 use Rattle.math_shards.proofs.RootPowers.{raised, raised-more, raised-one}
-use Rattle.math_shards.proofs.SameCells.{nought}
 use Rattle.math_shards.proofs.shards.fitting.write_coset.Goals as goal
 
 pub loop-row-init : goal.loop-row-init

@@ -1,5 +1,4 @@
-use Rattle.std.proofs.Common.{◌≤◌, length, nat_lt, take, arith}
-use Rattle.std.specs.List.{count_by}
+use Rattle.std.proofs.Common.{nat_lt, take, arith}
 use Rattle.std.proofs.lemmas.List.{length-take}
 use Rattle.std.proofs.lemmas.List.Sums.{count_by-le-length}
 use Rattle.math_shards.proofs.shards.joining.count_below.Goals as goal

@@ -1,4 +1,4 @@
-use Rattle.std.proofs.Common.{◌∙◌, ◌≤◌, ◌^◌, List, length, map, subst, sym, arith}
+use Rattle.std.proofs.Common.{◌∙◌, ◌≤◌, ◌^◌, List, map, subst, sym, arith}
 use Rattle.std.proofs.lemmas.Bool.{false≢true}
 use Rattle.std.proofs.lemmas.List.{length-map}
 use Rattle.std.specs.Int.{IsNextPowerOfTwo}

@@ -1,4 +1,4 @@
-use Rattle.std.proofs.Common.{List, refl, subst, sym}
+use Rattle.std.proofs.Common.{List, subst, sym}
 use Rattle.std.proofs.lemmas.Result.{err_from_is_err_and}
 use Rattle.math_base.specs.declared.fields.goldilocks.F.{F}
 use Rattle.math_shards.specs.Fitting.{AreDataOf}

@@ -1,4 +1,4 @@
-use Rattle.std.proofs.Common.{◌≡◌, ◌∙◌, ℕ, List, ◌++◌, drop, length, map, nat_lt, subst, sym, take, ap, arith}
+use Rattle.std.proofs.Common.{◌≡◌, ◌∙◌, ℕ, List, length, map, nat_lt, subst, sym, ap, arith}
 use Rattle.std.specs.List.{count_by}
 use Rattle.math_base.proofs.WholeWrites.{take-written}
 use Rattle.math_shards.specs.Fitting.{distinct_among}

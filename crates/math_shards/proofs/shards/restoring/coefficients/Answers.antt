@@ -1,5 +1,4 @@
-use Rattle.std.proofs.Common.{◌≡◌, ◌∙◌, ◌*◌, ◌<◌, ◌≤◌, ◌^◌, ℕ, List, length, map, sym, ap, subst, arith}
-use Rattle.std.specs.Int.{IsNextPowerOfTwo}
+use Rattle.std.proofs.Common.{◌≡◌, ◌∙◌, ◌*◌, ◌<◌, ◌≤◌, ℕ, List, length, map, sym, ap, subst, arith}
 use Rattle.std.specs.List.{All}
 use Rattle.math_base.specs.declared.fields.goldilocks.F.{F}
 use Rattle.math_transforms.specs.DomainValues.{matrix_of}

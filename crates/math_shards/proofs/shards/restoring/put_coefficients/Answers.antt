@@ -1,6 +1,5 @@
-use Rattle.std.proofs.Common.{◌≤◌, ◌^◌, ℕ, List, subst, arith}
+use Rattle.std.proofs.Common.{◌≤◌, ◌^◌, ℕ, subst, arith}
 use Rattle.std.specs.Int.{IsNextPowerOfTwo}
-use Rattle.std.specs.List.{All}
 use Rattle.math_transforms.proofs.PresentIndices.{lg-only}
 use Rattle.math_restoring.specs.Restored.{HaveCellsAsValues}
 use Rattle.math_shards.proofs.CosetSizes.{least_lg}

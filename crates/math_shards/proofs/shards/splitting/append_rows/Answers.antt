@@ -1,5 +1,8 @@
-use Rattle.std.proofs.Common.{◌≡◌, ◌+◌, ◌-◌, ◌*◌, refl, arith}
-use Rattle.math_shards.proofs.BegunShards.{left-more, rows-more}
+use Rattle.std.proofs.Common.{◌≡◌, ◌+◌, ◌-◌, ◌*◌, ℕ, get_or, take, drop, ap, subst, refl, arith}
+use Rattle.std.proofs.lemmas.List.{get_or_default}
+use Rattle.math_shards.specs.declared.shards.Shard.{Shard}
+use Rattle.math_shards.specs.Strips.{IsExtendedBy}
+use Rattle.math_shards.proofs.BegunShards.{done-more, left-more}
 use Rattle.math_shards.proofs.shards.splitting.append_rows.Goals as goal
 
 pub loop-i-init : goal.loop-i-init
@@ -12,11 +15,19 @@ loop-i-preserved c =
     let i = c.loop-i.i in
     let start = c.args.shards.now in
     let shards = c.loop-i.shards in
-    let wide : i * cols + cols - i * cols ≡ cols = omega arith in
+    let new = c.append_row.new.shard in
+    let first = c.index-shards-i.result in
+    let second = c.index-shards-i-in-loop-i.result in
+    let R : Shard → Shard → Type 0 = λ s t. IsExtendedBy (take cols (drop (s.index * cols) cells)) s t in
+    let r = (get_or shards i first).index in
+    let wide : (r + 1) * cols - r * cols ≡ cols = omega arith in
+    let row : r ≡ (get_or shards i second).index = ap (λ (s : Shard). s.index) (get_or_default shards i first second (omega arith)) in
+    let here : R (get_or shards i second) new =
+    subst (λ (k : ℕ). IsExtendedBy (take cols (drop (k * cols) cells)) (get_or shards i second) new) row
+    (subst (λ (n : ℕ). IsExtendedBy (take n (drop (r * cols) cells)) (get_or shards i second) new) wide c.in_ok-append_row.ensures) in
     record {
-      have = rows-more cols (i * cols + cols - i * cols) i cells start shards c.index-shards-i.result c.append_row.new.shard (omega arith) wide c.loop-i.invariant.have c.loop-i.invariant.left
-          c.in_ok-append_row.ensures;
-      left = left-more cols i cells start shards c.append_row.new.shard c.loop-i.invariant.left;
+      have = done-more R i start shards second new (omega arith) c.loop-i.invariant.have c.loop-i.invariant.left here;
+      left = left-more R i start shards new c.loop-i.invariant.left;
     }
 
 pub returns : goal.returns

@@ -1,4 +1,5 @@
-use Rattle.std.proofs.Common.{ℕ, ◌-◌, ◌≤◌}
+use Rattle.std.proofs.Common.{ℕ, ◌-◌, ◌<◌, ◌≤◌, ◌^◌, List}
+use Rattle.std.specs.List.{All}
 use Rattle.math_shards.specs.DataWords.{words_in}
 use Rattle.math_shards.specs.Strips.{AreBegun}
 use Rattle.math_shards.proofs.shards.splitting.append_strips.Given as goal
@@ -7,7 +8,9 @@ use Rattle.math_shards.proofs.shards.splitting.append_strips.Given as goal
 abbrev pub invariant-loop-from : goal.invariant-loop-from
 invariant-loop-from g l = record {
   within : l.from ≤ l.layout.width;
-  begun : (total : ℕ) → AreBegun (words_in g.W.Word.word l.source) l.layout.min total l.layout.lg 0 l.initial.shards → AreBegun (words_in g.W.Word.word l.source) l.layout.min total l.layout.lg l.from l.shards;
+  below : All (λ s. s.index < 2 ^ l.layout.lg) l.shards;
+  begun : (total : ℕ) (indices : List ℕ) → AreBegun (words_in g.W.Word.word l.source) l.layout.min total l.layout.lg 0 indices l.initial.shards
+      → AreBegun (words_in g.W.Word.word l.source) l.layout.min total l.layout.lg l.from indices l.shards;
 }
 
 abbrev pub decreases-loop-from : goal.decreases-loop-from

@@ -3,8 +3,8 @@ use Rattle.math_shards.specs.Strips.{AreBegun}
 use Rattle.math_shards.proofs.shards.splitting.empty_shards.Given as goal
 
 -- the shards of the first indices
-abbrev pub invariant-loop-index : goal.invariant-loop-index
-invariant-loop-index l = record {
-  count : length l.shards.items ≡ l.index;
-  empty : (words : List ℕ) (lg : ℕ) → AreBegun words l.min l.total lg 0 l.shards.items;
+abbrev pub invariant-loop-i : goal.invariant-loop-i
+invariant-loop-i l = record {
+  count : length l.shards.items ≡ l.i;
+  empty : (words : List ℕ) (lg : ℕ) → AreBegun words l.min l.total lg 0 l.indices l.shards.items;
 }

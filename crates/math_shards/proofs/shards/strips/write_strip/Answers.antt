@@ -1,4 +1,4 @@
-use Rattle.std.proofs.Common.{◌≡◌, ◌∙◌, ◌+◌, ◌-◌, ◌*◌, ◌≤◌, ◌^◌, length, drop, take, subst, refl, arith}
+use Rattle.std.proofs.Common.{◌≡◌, ◌∙◌, ◌+◌, ◌-◌, ◌*◌, ◌≤◌, length, drop, take, subst, refl, arith}
 use Rattle.std.proofs.lemmas.List.{length-drop, length-take-le}
 use Rattle.std.proofs.lemmas.Nat.{mul-le}
 use Rattle.math_shards.specs.DataWords.{words_in}
@@ -14,7 +14,7 @@ loop-row-preserved g c =
     let layout = c.args.layout in
     let old = c.loop-row.cells in
     let n = i * cols + cols - i * cols in
-    let up : (i + 1) * cols ≤ 2 ^ layout.lg * cols = mul-le (i + 1) cols (2 ^ layout.lg) cols (omega (arith, c.requires.layout.points)) (omega arith) in
+    let up : (i + 1) * cols ≤ c.args.rows * cols = mul-le (i + 1) cols c.args.rows cols (omega (arith, c.requires.tall)) (omega arith) in
     let next : (i + 1) * cols ≡ i * cols + cols = omega arith in
     let within : i * cols + cols ≤ length old = omega (arith, up, next, c.requires.size, c.loop-row.auto.cells) in
     let e : n ≡ cols = omega arith in
@@ -31,9 +31,9 @@ returns g c =
     let old = c.loop-row.cells in
     let m = length old - layout.min * cols in
     let all : c.loop-row.row ≡ layout.min = omega arith in
-    let count : length old ≡ 2 ^ layout.lg * cols = c.loop-row.auto.cells ∙ c.requires.size in
+    let count : length old ≡ c.args.rows * cols = c.loop-row.auto.cells ∙ c.requires.size in
     let rows : HoldRows words (width_for layout.min words) from cols layout.min old =
     subst (λ w. HoldRows words w from cols layout.min old) c.requires.layout.width (subst (λ n. HoldRows words layout.width from cols n old) all c.loop-row.invariant) in
-    strip_written words layout.min (2 ^ layout.lg) from cols m (length (take m (drop (layout.min * cols) old))) old c.fill.new.self c.from.result
-    c.requires.layout.some c.requires.layout.points (rw c.requires.layout.width at c.requires.within) count rows refl
+    strip_written words layout.min c.args.rows from cols m (length (take m (drop (layout.min * cols) old))) old c.fill.new.self c.from.result
+    c.requires.layout.some c.requires.tall (rw c.requires.layout.width at c.requires.within) count rows refl
     (length-take-le m (drop (layout.min * cols) old) (omega (arith, length-drop (layout.min * cols) old))) c.from.ensures (c.fill.ensures.after (λ y e. e))
