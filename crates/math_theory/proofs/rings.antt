@@ -1,6 +1,5 @@
 pub mod RingLaws
 pub mod Normal
-pub mod Identities
 pub mod PowerLaws
 pub mod WeightedSumLaws
 pub mod CongruenceLaws

@@ -37,8 +37,7 @@ module _ {A : Type 0} (R : CommutativeRing A) where
   open R use {sum, negative, product}
 
   -- the first fact: it is kept by a step of division
-  pub IsKept-step : (points values r v r' v' q r'' v'' : List A) (n : ℕ)
-      → IsKept R points values r v → IsKept R points values r' v' → IsDivision R n r r' q r''
+  pub IsKept-step : (points values r v r' v' q r'' v'' : List A) (n : ℕ) → IsKept R points values r v → IsKept R points values r' v' → IsDivision R n r r' q r''
       → HaveSameCoefficients R v'' (polynomial_difference R v (polynomial_product R q v'))
       → IsKept R points values r'' v''
   IsKept-step points values r v r' v' q r'' v'' n h h' d e i l =

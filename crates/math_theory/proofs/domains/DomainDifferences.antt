@@ -26,32 +26,32 @@ module _ {A : Type 0} (R : CommutativeRing A) where
   abbrev square : A → A
   square x = product x x
 
-  -- some points and their negatives, without the point q at place k of the first: at q these are 2 q times the differences of the squares
-  removed-negatives_left : (xs : List A) (k : ℕ) (q : A) → k < length xs → get_or xs k R.zero ≡ q
-      → product (root_product R q (remove xs k)) (root_product R q (map negative xs)) ≡ product (sum q q) (root_product R (product q q) (remove (map square xs) k))
-  removed-negatives_left xs k q l e =
-      combine2 R (q ∷ root_product R q (remove xs k) ∷ root_product R q (map negative xs) ∷ root_product R q (map negative (remove xs k)) ∷ root_product R (product q q)
-      (remove (map square xs) k) ∷ [])
-      (v1 ⊗ v2) ((v0 ⊕ v0) ⊗ v4)
-      v1 v2 ((v0 ⊖ minus v0) ⊗ v3)
-      (v0 ⊕ v0) (v1 ⊗ v3) v4
-      (root_product-remove R q (map negative xs) k R.zero (omega (arith, length-map xs negative))
-      ∙ ap₂ (λ x ys. product (sum q (negative x)) (root_product R q ys)) (get_or-map negative xs k R.zero R.zero l ∙ ap negative e) (remove-map negative xs k))
-      (root_product-negatives R q (remove xs k) ∙ ap (root_product R (product q q)) (sym (remove-map square xs k))) refl
+  module _ (xs : List A) (k : ℕ) (q : A) (l : k < length xs) (e : get_or xs k R.zero ≡ q) where
+    -- some points and their negatives, without the point q at place k of the first: at q these are 2 q times the differences of the squares
+    removed-negatives_left : product (root_product R q (remove xs k)) (root_product R q (map negative xs)) ≡ product (sum q q) (root_product R (product q q) (remove (map square xs) k))
+    removed-negatives_left =
+        combine2 R (q ∷ root_product R q (remove xs k) ∷ root_product R q (map negative xs) ∷ root_product R q (map negative (remove xs k)) ∷ root_product R (product q q)
+        (remove (map square xs) k) ∷ [])
+        (v1 ⊗ v2) ((v0 ⊕ v0) ⊗ v4)
+        v1 v2 ((v0 ⊖ minus v0) ⊗ v3)
+        (v0 ⊕ v0) (v1 ⊗ v3) v4
+        (root_product-remove R q (map negative xs) k R.zero (omega (arith, length-map xs negative))
+        ∙ ap₂ (λ x ys. product (sum q (negative x)) (root_product R q ys)) (get_or-map negative xs k R.zero R.zero l ∙ ap negative e) (remove-map negative xs k))
+        (root_product-negatives R q (remove xs k) ∙ ap (root_product R (product q q)) (sym (remove-map square xs k))) refl
 
-  -- the same at the negative of q, which is left out of the negatives
-  removed-negatives_right : (xs : List A) (k : ℕ) (q : A) → k < length xs → get_or xs k R.zero ≡ q
-      → product (root_product R (negative q) xs) (root_product R (negative q) (remove (map negative xs) k)) ≡ product (negative (sum q q)) (root_product R (product q q) (remove (map square xs) k))
-  removed-negatives_right xs k q l e =
-      let p = negative q in
-      ap₂ product
-      (root_product-remove R p xs k R.zero l ∙ ap (λ x. product (sum p (negative x)) (root_product R p (remove xs k))) e)
-      (ap (root_product R p) (remove-map negative xs k))
-      ∙ combine R (q ∷ root_product R p (remove xs k) ∷ root_product R p (map negative (remove xs k)) ∷ root_product R (product q q) (remove (map square xs) k) ∷ [])
-      (((minus v0 ⊖ v0) ⊗ v1) ⊗ v2) (minus (v0 ⊕ v0) ⊗ v3)
-      (minus (v0 ⊕ v0)) (v1 ⊗ v2) v3
-      (root_product-negatives R p (remove xs k)
-      ∙ ap₂ (root_product R) (ring R (q ∷ []) (minus v0 ⊗ minus v0) (v0 ⊗ v0) refl) (sym (remove-map square xs k))) refl
+    -- the same at the negative of q, which is left out of the negatives
+    removed-negatives_right : product (root_product R (negative q) xs) (root_product R (negative q) (remove (map negative xs) k))
+        ≡ product (negative (sum q q)) (root_product R (product q q) (remove (map square xs) k))
+    removed-negatives_right =
+        let p = negative q in
+        ap₂ product
+        (root_product-remove R p xs k R.zero l ∙ ap (λ x. product (sum p (negative x)) (root_product R p (remove xs k))) e)
+        (ap (root_product R p) (remove-map negative xs k))
+        ∙ combine R (q ∷ root_product R p (remove xs k) ∷ root_product R p (map negative (remove xs k)) ∷ root_product R (product q q) (remove (map square xs) k) ∷ [])
+        (((minus v0 ⊖ v0) ⊗ v1) ⊗ v2) (minus (v0 ⊕ v0) ⊗ v3)
+        (minus (v0 ⊕ v0)) (v1 ⊗ v2) v3
+        (root_product-negatives R p (remove xs k)
+        ∙ ap₂ (root_product R) (ring R (q ∷ []) (minus v0 ⊗ minus v0) (v0 ⊗ v0) refl) (sym (remove-map square xs k))) refl
 
   -- the number of points in the ring: 1 + 1 to the power lg
   abbrev pub size : ℕ → A

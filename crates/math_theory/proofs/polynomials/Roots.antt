@@ -7,7 +7,6 @@ use Rattle.math_theory.specs.OverRing.{AreDistinct, value, IsZeroPolynomial, Hav
 use Rattle.math_theory.specs.Rings.{CommutativeRing, Field}
 use Rattle.math_theory.proofs.lists.Apart.{AreApart-head, AreApart-tail}
 use Rattle.math_theory.proofs.polynomials.Coefficients.{length-difference, HaveSameCoefficients-from_difference, value-HaveSameCoefficients}
-use Rattle.math_theory.proofs.rings.Identities.{zero-after-inverse}
 use Rattle.math_theory.proofs.rings.Normal.{ring, combine, combine2, ◌⊕◌, ◌⊗◌, ◌⊖◌, minus, 𝟘, 𝟙, v0, v1, v2, v3, v4, v5}
 use Rattle.math_theory.proofs.rings.RingLaws.{difference-zero}
 use Rattle.math_theory.proofs.polynomials.Values.{horner, value-horner, value-difference}
@@ -49,7 +48,8 @@ module _ {A : Type 0} (F : Field A) where
 
   -- a field has no divisors of zero
   pub no_zero_divisors : (a b : A) → a ≢ F.zero → product a b ≡ F.zero → b ≡ F.zero
-  no_zero_divisors a b h k = zero-after-inverse R a b (inverse a) k (F.product_inverse a h)
+  no_zero_divisors a b h k =
+      combine2 R (a ∷ b ∷ inverse a ∷ []) v1 𝟘 v2 (v0 ⊗ v1) 𝟘 (minus v1) (v0 ⊗ v2) 𝟙 k (F.product_inverse a h) refl
 
   pub product-nonzero : (a b : A) → a ≢ F.zero → b ≢ F.zero → product a b ≢ F.zero
   product-nonzero a b h k e = k (no_zero_divisors a b h e)
