@@ -75,29 +75,27 @@ module _ {A : Type 0} {same : A → A → Type 0} {zero_of : A} {sum : A → A �
                 (raised-class from by c t ∙ ap (λ x. class E (product x c)) (get_or_past by t zero_of g) ∙ ring C (class E c ∷ []) (𝟘 ⊗ v0) 𝟘 refl)
           ]
 
-  -- and back: below `from`, and from there on
-  pub subtracted-below : (from : ℕ) (old new by : List A) (c : A) → HaveSameCoefficients same zero_of new (less old from by c)
-      → (k : ℕ) → k < from → same (coefficient zero_of new k) (coefficient zero_of old k)
-  subtracted-below from old new by c h k l =
-      same_class E _ _
-      (class_same E _ _ (h k) ∙ less-class old from by c k
-      ∙ ap (λ y. C.sum (class E (coefficient zero_of old k)) (C.negative y)) (raised-below C from k (OverRing.polynomial_multiple C (classes by) (class E c)) l)
-      ∙ ring C (class E (coefficient zero_of old k) ∷ []) (v0 ⊖ 𝟘) v0 refl)
+  module _ (from : ℕ) (old new by : List A) (c : A) (h : HaveSameCoefficients same zero_of new (less old from by c)) where
+    -- and back: below `from`, and from there on
+    pub subtracted-below : (k : ℕ) → k < from → same (coefficient zero_of new k) (coefficient zero_of old k)
+    subtracted-below k l =
+        same_class E _ _
+        (class_same E _ _ (h k) ∙ less-class old from by c k
+        ∙ ap (λ y. C.sum (class E (coefficient zero_of old k)) (C.negative y)) (raised-below C from k (OverRing.polynomial_multiple C (classes by) (class E c)) l)
+        ∙ ring C (class E (coefficient zero_of old k) ∷ []) (v0 ⊖ 𝟘) v0 refl)
 
-  pub subtracted-from : (from : ℕ) (old new by : List A) (c : A) → HaveSameCoefficients same zero_of new (less old from by c)
-      → (t : ℕ) → same (coefficient zero_of new (from + t)) (sum (coefficient zero_of old (from + t)) (negative (product (coefficient zero_of by t) c)))
-  subtracted-from from old new by c h t =
-      same_class E _ _
-      (class_same E _ _ (h (from + t)) ∙ less-class old from by c (from + t)
-      ∙ ap (λ y. C.sum (class E (coefficient zero_of old (from + t))) (C.negative y)) (raised-class from by c t))
+    pub subtracted-from : (t : ℕ) → same (coefficient zero_of new (from + t)) (sum (coefficient zero_of old (from + t)) (negative (product (coefficient zero_of by t) c)))
+    subtracted-from t =
+        same_class E _ _
+        (class_same E _ _ (h (from + t)) ∙ less-class old from by c (from + t)
+        ∙ ap (λ y. C.sum (class E (coefficient zero_of old (from + t))) (C.negative y)) (raised-class from by c t))
 
-  -- the same over the classes
-  pub subtracted-classes : (from : ℕ) (old new by : List A) (c : A) → HaveSameCoefficients same zero_of new (less old from by c) → (i : ℕ)
-      → coefficient C.zero (classes new) i
-      ≡ C.sum (coefficient C.zero (classes old) i) (C.negative (coefficient C.zero (raised C from (OverRing.polynomial_multiple C (classes by) (class E c))) i))
-  subtracted-classes from old new by c h i =
-      coefficient-class E G P R new i ∙ class_same E _ _ (h i) ∙ less-class old from by c i
-      ∙ ap (λ x. C.sum x (C.negative (coefficient C.zero (raised C from (OverRing.polynomial_multiple C (classes by) (class E c))) i))) (sym (coefficient-class E G P R old i))
+    -- the same over the classes
+    pub subtracted-classes : (i : ℕ) → coefficient C.zero (classes new) i
+        ≡ C.sum (coefficient C.zero (classes old) i) (C.negative (coefficient C.zero (raised C from (OverRing.polynomial_multiple C (classes by) (class E c))) i))
+    subtracted-classes i =
+        coefficient-class E G P R new i ∙ class_same E _ _ (h i) ∙ less-class old from by c i
+        ∙ ap (λ x. C.sum x (C.negative (coefficient C.zero (raised C from (OverRing.polynomial_multiple C (classes by) (class E c))) i))) (sym (coefficient-class E G P R old i))
 
   -- from a polynomial with the same coefficients
   pub less-respects : (from : ℕ) (old old' new by : List A) (c : A) → HaveSameCoefficients same zero_of old old' → HaveSameCoefficients same zero_of new (less old from by c)
