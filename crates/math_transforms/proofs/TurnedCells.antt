@@ -11,38 +11,36 @@ use Rattle.math_transforms.specs.Quarters.{IsTurned}
 use Rattle.math_transforms.proofs.PointsBelow.{plain}
 
 module _ {K : Type 0} (C : CommutativeRing K) (e f g a b c d : K) where
-  -- forward, by three products and one by the root of order four
-  four-forward-plain : (turn eg one a1 b1 b2 c1 d1 d2 new_a new_b new_c new_d : K) → eg ≡ C.product e g → one ≡ C.one
-      → IsCombined (plain C) true g a c a1 c1 → b1 ≡ C.product b e → IsCombined (plain C) true eg b1 d b2 d1 → d2 ≡ C.product d1 turn
-      → IsCombined (plain C) true one a1 b2 new_a new_b → IsCombined (plain C) true one c1 d2 new_c new_d
-      → IsTurned (plain C) true e (C.product e turn) g a b c d new_a new_b new_c new_d
-  four-forward-plain turn eg one a1 b1 b2 c1 d1 d2 new_a new_b new_c new_d product_is one_is h hb k hd l m =
-      let xs : List K = a ∷ b ∷ c ∷ d ∷ e ∷ g ∷ turn ∷ [] in
-      record {
-        first = rw (l.sum, h.sum, k.sum, hb, product_is, one_is) (ring C xs ((v0 ⊕ (v2 ⊗ v5)) ⊕ (((v1 ⊗ v4) ⊕ (v3 ⊗ (v4 ⊗ v5))) ⊗ 𝟙)) ((v0 ⊕ (v2 ⊗ v5)) ⊕ ((v1 ⊕ (v3 ⊗ v5)) ⊗ v4)) refl);
-        second = rw (l.difference, h.sum, k.sum, hb, product_is, one_is)
-            (ring C xs ((v0 ⊕ (v2 ⊗ v5)) ⊕ minus (((v1 ⊗ v4) ⊕ (v3 ⊗ (v4 ⊗ v5))) ⊗ 𝟙)) ((v0 ⊕ (v2 ⊗ v5)) ⊕ minus ((v1 ⊕ (v3 ⊗ v5)) ⊗ v4)) refl);
-        third = rw (m.sum, h.difference, hd, k.difference, hb, product_is, one_is)
-            (ring C xs ((v0 ⊕ minus (v2 ⊗ v5)) ⊕ ((((v1 ⊗ v4) ⊕ minus (v3 ⊗ (v4 ⊗ v5))) ⊗ v6) ⊗ 𝟙)) ((v0 ⊕ minus (v2 ⊗ v5)) ⊕ ((v1 ⊕ minus (v3 ⊗ v5)) ⊗ (v4 ⊗ v6))) refl);
-        fourth = rw (m.difference, h.difference, hd, k.difference, hb, product_is, one_is)
-            (ring C xs ((v0 ⊕ minus (v2 ⊗ v5)) ⊕ minus ((((v1 ⊗ v4) ⊕ minus (v3 ⊗ (v4 ⊗ v5))) ⊗ v6) ⊗ 𝟙)) ((v0 ⊕ minus (v2 ⊗ v5)) ⊕ minus ((v1 ⊕ minus (v3 ⊗ v5)) ⊗ (v4 ⊗ v6))) refl);
-      }
+  module _ (turn eg one a1 b1 b2 c1 d1 d2 new_a new_b new_c new_d : K) (product_is : eg ≡ C.product e g) (one_is : one ≡ C.one) where
+    abbrev xs : List K
+    xs = a ∷ b ∷ c ∷ d ∷ e ∷ g ∷ turn ∷ []
 
-  -- and on the way back
-  four-back-plain : (turn eg one a1 b1 b2 c1 d1 d2 new_a new_b new_c new_d : K) → eg ≡ C.product e g → one ≡ C.one
-      → IsCombined (plain C) false one a b a1 b1 → IsCombined (plain C) false one c d c1 d1 → d2 ≡ C.product d1 turn
-      → IsCombined (plain C) false g a1 c1 new_a new_c → IsCombined (plain C) false eg b1 d2 b2 new_d → new_b ≡ C.product b2 e
-      → IsTurned (plain C) false e (C.product e turn) g a b c d new_a new_b new_c new_d
-  four-back-plain turn eg one a1 b1 b2 c1 d1 d2 new_a new_b new_c new_d product_is one_is h k hd l m hb =
-      let xs : List K = a ∷ b ∷ c ∷ d ∷ e ∷ g ∷ turn ∷ [] in
-      record {
-        first = rw (l.sum, h.sum, k.sum) refl;
-        second = rw (hb, m.sum, hd, h.difference, k.difference, one_is)
-            (ring C xs ((((v0 ⊕ minus v1) ⊗ 𝟙) ⊕ (((v2 ⊕ minus v3) ⊗ 𝟙) ⊗ v6)) ⊗ v4) (((v0 ⊕ minus v1) ⊗ v4) ⊕ ((v2 ⊕ minus v3) ⊗ (v4 ⊗ v6))) refl);
-        third = rw (l.difference, h.sum, k.sum) refl;
-        fourth = rw (m.difference, hd, h.difference, k.difference, one_is, product_is)
-            (ring C xs ((((v0 ⊕ minus v1) ⊗ 𝟙) ⊕ minus (((v2 ⊕ minus v3) ⊗ 𝟙) ⊗ v6)) ⊗ (v4 ⊗ v5)) ((((v0 ⊕ minus v1) ⊗ v4) ⊕ minus ((v2 ⊕ minus v3) ⊗ (v4 ⊗ v6))) ⊗ v5) refl);
-      }
+    -- forward, by three products and one by the root of order four
+    four-forward-plain : IsCombined (plain C) true g a c a1 c1 → b1 ≡ C.product b e → IsCombined (plain C) true eg b1 d b2 d1 → d2 ≡ C.product d1 turn
+        → IsCombined (plain C) true one a1 b2 new_a new_b → IsCombined (plain C) true one c1 d2 new_c new_d
+        → IsTurned (plain C) true e (C.product e turn) g a b c d new_a new_b new_c new_d
+    four-forward-plain h hb k hd l m = record {
+      first = rw (l.sum, h.sum, k.sum, hb, product_is, one_is) (ring C xs ((v0 ⊕ (v2 ⊗ v5)) ⊕ (((v1 ⊗ v4) ⊕ (v3 ⊗ (v4 ⊗ v5))) ⊗ 𝟙)) ((v0 ⊕ (v2 ⊗ v5)) ⊕ ((v1 ⊕ (v3 ⊗ v5)) ⊗ v4)) refl);
+      second = rw (l.difference, h.sum, k.sum, hb, product_is, one_is)
+          (ring C xs ((v0 ⊕ (v2 ⊗ v5)) ⊕ minus (((v1 ⊗ v4) ⊕ (v3 ⊗ (v4 ⊗ v5))) ⊗ 𝟙)) ((v0 ⊕ (v2 ⊗ v5)) ⊕ minus ((v1 ⊕ (v3 ⊗ v5)) ⊗ v4)) refl);
+      third = rw (m.sum, h.difference, hd, k.difference, hb, product_is, one_is)
+          (ring C xs ((v0 ⊕ minus (v2 ⊗ v5)) ⊕ ((((v1 ⊗ v4) ⊕ minus (v3 ⊗ (v4 ⊗ v5))) ⊗ v6) ⊗ 𝟙)) ((v0 ⊕ minus (v2 ⊗ v5)) ⊕ ((v1 ⊕ minus (v3 ⊗ v5)) ⊗ (v4 ⊗ v6))) refl);
+      fourth = rw (m.difference, h.difference, hd, k.difference, hb, product_is, one_is)
+          (ring C xs ((v0 ⊕ minus (v2 ⊗ v5)) ⊕ minus ((((v1 ⊗ v4) ⊕ minus (v3 ⊗ (v4 ⊗ v5))) ⊗ v6) ⊗ 𝟙)) ((v0 ⊕ minus (v2 ⊗ v5)) ⊕ minus ((v1 ⊕ minus (v3 ⊗ v5)) ⊗ (v4 ⊗ v6))) refl);
+    }
+
+    -- and on the way back
+    four-back-plain : IsCombined (plain C) false one a b a1 b1 → IsCombined (plain C) false one c d c1 d1 → d2 ≡ C.product d1 turn
+        → IsCombined (plain C) false g a1 c1 new_a new_c → IsCombined (plain C) false eg b1 d2 b2 new_d → new_b ≡ C.product b2 e
+        → IsTurned (plain C) false e (C.product e turn) g a b c d new_a new_b new_c new_d
+    four-back-plain h k hd l m hb = record {
+      first = rw (l.sum, h.sum, k.sum) refl;
+      second = rw (hb, m.sum, hd, h.difference, k.difference, one_is)
+          (ring C xs ((((v0 ⊕ minus v1) ⊗ 𝟙) ⊕ (((v2 ⊕ minus v3) ⊗ 𝟙) ⊗ v6)) ⊗ v4) (((v0 ⊕ minus v1) ⊗ v4) ⊕ ((v2 ⊕ minus v3) ⊗ (v4 ⊗ v6))) refl);
+      third = rw (l.difference, h.sum, k.sum) refl;
+      fourth = rw (m.difference, hd, h.difference, k.difference, one_is, product_is)
+          (ring C xs ((((v0 ⊕ minus v1) ⊗ 𝟙) ⊕ minus (((v2 ⊕ minus v3) ⊗ 𝟙) ⊗ v6)) ⊗ (v4 ⊗ v5)) ((((v0 ⊕ minus v1) ⊗ v4) ⊕ minus ((v2 ⊕ minus v3) ⊗ (v4 ⊗ v6))) ⊗ v5) refl);
+    }
 
   -- by four weights
   weights-forward-plain : (a1 b1 c1 d1 new_a new_b new_c new_d : K) → IsCombined (plain C) true g a c a1 c1 → IsCombined (plain C) true g b d b1 d1
@@ -64,35 +62,33 @@ module _ {K : Type 0} (C : CommutativeRing K) (e f g a b c d : K) where
   }
 
   -- without a weight
-  one-forward-plain : (turn one a1 b1 c1 d1 d2 new_a new_b new_c new_d : K) → one ≡ C.one
-      → IsCombined (plain C) true one a c a1 c1 → IsCombined (plain C) true one b d b1 d1 → d2 ≡ C.product d1 turn
-      → IsCombined (plain C) true one a1 b1 new_a new_b → IsCombined (plain C) true one c1 d2 new_c new_d
-      → IsTurned (plain C) true C.one turn C.one a b c d new_a new_b new_c new_d
-  one-forward-plain turn one a1 b1 c1 d1 d2 new_a new_b new_c new_d one_is h k hd l m =
-      let xs : List K = a ∷ b ∷ c ∷ d ∷ turn ∷ [] in
-      record {
-        first = rw (l.sum, h.sum, k.sum, one_is) refl;
-        second = rw (l.difference, h.sum, k.sum, one_is) refl;
-        third = rw (m.sum, h.difference, hd, k.difference, one_is)
-            (ring C xs ((v0 ⊕ minus (v2 ⊗ 𝟙)) ⊕ (((v1 ⊕ minus (v3 ⊗ 𝟙)) ⊗ v4) ⊗ 𝟙)) ((v0 ⊕ minus (v2 ⊗ 𝟙)) ⊕ ((v1 ⊕ minus (v3 ⊗ 𝟙)) ⊗ v4)) refl);
-        fourth = rw (m.difference, h.difference, hd, k.difference, one_is)
-            (ring C xs ((v0 ⊕ minus (v2 ⊗ 𝟙)) ⊕ minus (((v1 ⊕ minus (v3 ⊗ 𝟙)) ⊗ v4) ⊗ 𝟙)) ((v0 ⊕ minus (v2 ⊗ 𝟙)) ⊕ minus ((v1 ⊕ minus (v3 ⊗ 𝟙)) ⊗ v4)) refl);
-      }
+  module _ (turn one a1 b1 c1 d1 d2 new_a new_b new_c new_d : K) (one_is : one ≡ C.one) where
+    abbrev ys : List K
+    ys = a ∷ b ∷ c ∷ d ∷ turn ∷ []
 
-  one-back-plain : (turn one a1 b1 c1 d1 d2 new_a new_b new_c new_d : K) → one ≡ C.one
-      → IsCombined (plain C) false one a b a1 b1 → IsCombined (plain C) false one c d c1 d1 → d2 ≡ C.product d1 turn
-      → IsCombined (plain C) false one a1 c1 new_a new_c → IsCombined (plain C) false one b1 d2 new_b new_d
-      → IsTurned (plain C) false C.one turn C.one a b c d new_a new_b new_c new_d
-  one-back-plain turn one a1 b1 c1 d1 d2 new_a new_b new_c new_d one_is h k hd l m =
-      let xs : List K = a ∷ b ∷ c ∷ d ∷ turn ∷ [] in
-      record {
-        first = rw (l.sum, h.sum, k.sum) refl;
-        second = rw (m.sum, hd, h.difference, k.difference, one_is)
-            (ring C xs (((v0 ⊕ minus v1) ⊗ 𝟙) ⊕ (((v2 ⊕ minus v3) ⊗ 𝟙) ⊗ v4)) (((v0 ⊕ minus v1) ⊗ 𝟙) ⊕ ((v2 ⊕ minus v3) ⊗ v4)) refl);
-        third = rw (l.difference, h.sum, k.sum, one_is) refl;
-        fourth = rw (m.difference, hd, h.difference, k.difference, one_is)
-            (ring C xs ((((v0 ⊕ minus v1) ⊗ 𝟙) ⊕ minus (((v2 ⊕ minus v3) ⊗ 𝟙) ⊗ v4)) ⊗ 𝟙) ((((v0 ⊕ minus v1) ⊗ 𝟙) ⊕ minus ((v2 ⊕ minus v3) ⊗ v4)) ⊗ 𝟙) refl);
-      }
+    one-forward-plain : IsCombined (plain C) true one a c a1 c1 → IsCombined (plain C) true one b d b1 d1 → d2 ≡ C.product d1 turn
+        → IsCombined (plain C) true one a1 b1 new_a new_b → IsCombined (plain C) true one c1 d2 new_c new_d
+        → IsTurned (plain C) true C.one turn C.one a b c d new_a new_b new_c new_d
+    one-forward-plain h k hd l m = record {
+      first = rw (l.sum, h.sum, k.sum, one_is) refl;
+      second = rw (l.difference, h.sum, k.sum, one_is) refl;
+      third = rw (m.sum, h.difference, hd, k.difference, one_is)
+          (ring C ys ((v0 ⊕ minus (v2 ⊗ 𝟙)) ⊕ (((v1 ⊕ minus (v3 ⊗ 𝟙)) ⊗ v4) ⊗ 𝟙)) ((v0 ⊕ minus (v2 ⊗ 𝟙)) ⊕ ((v1 ⊕ minus (v3 ⊗ 𝟙)) ⊗ v4)) refl);
+      fourth = rw (m.difference, h.difference, hd, k.difference, one_is)
+          (ring C ys ((v0 ⊕ minus (v2 ⊗ 𝟙)) ⊕ minus (((v1 ⊕ minus (v3 ⊗ 𝟙)) ⊗ v4) ⊗ 𝟙)) ((v0 ⊕ minus (v2 ⊗ 𝟙)) ⊕ minus ((v1 ⊕ minus (v3 ⊗ 𝟙)) ⊗ v4)) refl);
+    }
+
+    one-back-plain : IsCombined (plain C) false one a b a1 b1 → IsCombined (plain C) false one c d c1 d1 → d2 ≡ C.product d1 turn
+        → IsCombined (plain C) false one a1 c1 new_a new_c → IsCombined (plain C) false one b1 d2 new_b new_d
+        → IsTurned (plain C) false C.one turn C.one a b c d new_a new_b new_c new_d
+    one-back-plain h k hd l m = record {
+      first = rw (l.sum, h.sum, k.sum) refl;
+      second = rw (m.sum, hd, h.difference, k.difference, one_is)
+          (ring C ys (((v0 ⊕ minus v1) ⊗ 𝟙) ⊕ (((v2 ⊕ minus v3) ⊗ 𝟙) ⊗ v4)) (((v0 ⊕ minus v1) ⊗ 𝟙) ⊕ ((v2 ⊕ minus v3) ⊗ v4)) refl);
+      third = rw (l.difference, h.sum, k.sum, one_is) refl;
+      fourth = rw (m.difference, hd, h.difference, k.difference, one_is)
+          (ring C ys ((((v0 ⊕ minus v1) ⊗ 𝟙) ⊕ minus (((v2 ⊕ minus v3) ⊗ 𝟙) ⊗ v4)) ⊗ 𝟙) ((((v0 ⊕ minus v1) ⊗ 𝟙) ⊕ minus ((v2 ⊕ minus v3) ⊗ v4)) ⊗ 𝟙) refl);
+    }
 
 module _ {A : Type 0} (R : RingOf A) (E : IsEquality R.same) (G : IsGroup R.same R.zero R.sum R.negative) (P : IsProduct R.same R.product) (L : IsRing R.same R.sum R.product R.one) where
   abbrev C : CommutativeRing (Class E)
