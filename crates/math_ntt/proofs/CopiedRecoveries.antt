@@ -38,49 +38,39 @@ added-within b p z x v w n h a = record {
 }
 
 -- where there is room, all is added
-all-butterflies : (lg c : ℕ) (z x v w : WorkOf) → lg < 64 → 2 ^ lg * c < 2 ^ 64 → IsNone z → AddsWithin (2 ^ lg * lg * (3 * lg + 3 * c + 2)) (128 * 2 ^ lg) z x → IsAdded v x w
-    → v.butterflies ≤ 2 ^ 127 → w.butterflies ≡ v.butterflies + x.butterflies
-all-butterflies lg c z x v w small fits n h a room =
-    let most : 2 ^ lg * lg * (3 * lg + 3 * c + 2) < 2 ^ 100 = rw (whole-bound lg c) at (whole-room lg c small fits) in
-    omega (arith, a.butterflies, h.no_more, n.butterflies, most, room)
+module _ (lg c : ℕ) (z x v w : WorkOf) (small : lg < 64) (fits : 2 ^ lg * c < 2 ^ 64) (n : IsNone z) (h : AddsWithin (2 ^ lg * lg * (3 * lg + 3 * c + 2)) (128 * 2 ^ lg) z x)
+    (a : IsAdded v x w) (room : v.butterflies ≤ 2 ^ 127) (product_room : v.root_products ≤ 2 ^ 127) where
+  all-butterflies : w.butterflies ≡ v.butterflies + x.butterflies
+  all-butterflies =
+      let most : 2 ^ lg * lg * (3 * lg + 3 * c + 2) < 2 ^ 100 = rw (whole-bound lg c) at (whole-room lg c small fits) in
+      omega (arith, a.butterflies, h.no_more, n.butterflies, most, room)
 
-all-root_products : (lg b : ℕ) (z x v w : WorkOf) → lg < 64 → IsNone z → AddsWithin b (128 * 2 ^ lg) z x → IsAdded v x w
-    → v.root_products ≤ 2 ^ 127 → w.root_products ≡ v.root_products + x.root_products
-all-root_products lg b z x v w small n h a room =
-    omega (arith, a.root_products, h.no_more_products, n.root_products, power_of_two-word lg small, room)
+  all-root_products : w.root_products ≡ v.root_products + x.root_products
+  all-root_products = omega (arith, a.root_products, h.no_more_products, n.root_products, power_of_two-word lg small, product_room)
+
+  module _ {A : Type 0} (cells : List A) (m : MatrixOf A) (filled : List Bool) (rows : m.rows ≡ 2 ^ lg) (cols : c ≡ m.cols) where
+    pub added-exact : IsExactWork lg (record { matrix = matrix_of (2 ^ lg) c cells; filled = filled }) z x → IsExactWork lg (record { matrix = m; filled = filled }) v w
+    added-exact exact = rw (rows, ← cols) (record {
+      none_or_all = λ o. let (s, t) = exact.none_or_all o in (omega (arith, s, all-butterflies, n.butterflies), omega (arith, t, all-root_products, n.root_products));
+      some = λ i j l. let (s, t) = exact.some i j l in (omega (arith, s, all-butterflies, n.butterflies), omega (arith, t, all-root_products, n.root_products));
+      no_fewer = λ i j. omega (arith, exact.no_fewer i j, all-butterflies, n.butterflies);
+    })
+
+    pub added-refused : IsRefusedWork lg (record { matrix = matrix_of (2 ^ lg) c cells; filled = filled }) z x → IsRefusedWork lg (record { matrix = m; filled = filled }) v w
+    added-refused refused = rw (rows, ← cols) (record {
+      none_or_all = λ o. let k = refused.none_or_all o in record {
+        no_fewer = a.no_fewer;
+        no_more = omega (arith, k.no_more, all-butterflies, n.butterflies);
+        root_products = omega (arith, k.root_products, all-root_products, n.root_products);
+      };
+      some = λ i j l. let k = refused.some i j l in record {
+        no_more = omega (arith, k.no_more, all-butterflies, n.butterflies);
+        no_more_products = omega (arith, k.no_more_products, all-root_products, n.root_products);
+        in_order = λ begun. omega (arith, k.in_order (omega (arith, begun, all-butterflies, n.butterflies)), all-root_products, n.root_products);
+      };
+    })
 
 module _ {A : Type 0} where
-  pub added-exact : (lg c : ℕ) (cells : List A) (m : MatrixOf A) (filled : List Bool) (z x v w : WorkOf) → m.rows ≡ 2 ^ lg → c ≡ m.cols → lg < 64 → 2 ^ lg * c < 2 ^ 64 → IsNone z
-      → AddsWithin (2 ^ lg * lg * (3 * lg + 3 * c + 2)) (128 * 2 ^ lg) z x → IsAdded v x w → IsExactWork lg (record { matrix = matrix_of (2 ^ lg) c cells; filled = filled }) z x
-      → v.butterflies ≤ 2 ^ 127 → v.root_products ≤ 2 ^ 127 → IsExactWork lg (record { matrix = m; filled = filled }) v w
-  added-exact lg c cells m filled z x v w rows cols small fits n h a exact room product_room =
-      let b : w.butterflies ≡ v.butterflies + x.butterflies = all-butterflies lg c z x v w small fits n h a room in
-      let p : w.root_products ≡ v.root_products + x.root_products = all-root_products lg (2 ^ lg * lg * (3 * lg + 3 * c + 2)) z x v w small n h a product_room in
-      rw (rows, ← cols) (record {
-        none_or_all = λ o. let (s, t) = exact.none_or_all o in (omega (arith, s, b, n.butterflies), omega (arith, t, p, n.root_products));
-        some = λ i j l. let (s, t) = exact.some i j l in (omega (arith, s, b, n.butterflies), omega (arith, t, p, n.root_products));
-        no_fewer = λ i j. omega (arith, exact.no_fewer i j, b, n.butterflies);
-      })
-
-  pub added-refused : (lg c : ℕ) (cells : List A) (m : MatrixOf A) (filled : List Bool) (z x v w : WorkOf) → m.rows ≡ 2 ^ lg → c ≡ m.cols → lg < 64 → 2 ^ lg * c < 2 ^ 64 → IsNone z
-      → AddsWithin (2 ^ lg * lg * (3 * lg + 3 * c + 2)) (128 * 2 ^ lg) z x → IsAdded v x w → IsRefusedWork lg (record { matrix = matrix_of (2 ^ lg) c cells; filled = filled }) z x
-      → v.butterflies ≤ 2 ^ 127 → v.root_products ≤ 2 ^ 127 → IsRefusedWork lg (record { matrix = m; filled = filled }) v w
-  added-refused lg c cells m filled z x v w rows cols small fits n h a refused room product_room =
-      let b : w.butterflies ≡ v.butterflies + x.butterflies = all-butterflies lg c z x v w small fits n h a room in
-      let p : w.root_products ≡ v.root_products + x.root_products = all-root_products lg (2 ^ lg * lg * (3 * lg + 3 * c + 2)) z x v w small n h a product_room in
-      rw (rows, ← cols) (record {
-        none_or_all = λ o. let k = refused.none_or_all o in record {
-          no_fewer = a.no_fewer;
-          no_more = omega (arith, k.no_more, b, n.butterflies);
-          root_products = omega (arith, k.root_products, p, n.root_products);
-        };
-        some = λ i j l. let k = refused.some i j l in record {
-          no_more = omega (arith, k.no_more, b, n.butterflies);
-          no_more_products = omega (arith, k.no_more_products, p, n.root_products);
-          in_order = λ begun. omega (arith, k.in_order (omega (arith, begun, b, n.butterflies)), p, n.root_products);
-        };
-      })
-
   -- what is refused before any of its work
   pub refused-none : (lg : ℕ) (e : EvaluationsOf A) (v : WorkOf) → IsRefusedWork lg e v v
   refused-none lg e v = record {

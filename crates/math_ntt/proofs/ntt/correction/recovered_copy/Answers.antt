@@ -41,8 +41,8 @@ returns-clause-exact g c room product_room =
     let none : IsNone c.new-counted.result = record { butterflies = c.new-counted.ensures.butterflies; root_products = c.new-counted.ensures.root_products } in
     let size : length inner.cells.items ≡ 2 ^ c.args.lg * inner.cols = rw rows at c.matrix.invariant in
     let fits : 2 ^ c.args.lg * inner.cols < 2 ^ 64 = omega (arith, size, inner.cells.ok.0, inner.cells.small) in
-    added-exact c.args.lg inner.cols copies c.args.matrix.now c.args.filled.now c.new-counted.result c.recovered_cells-outcome.new.work c.args.work.now c.saturating_add.new.self c.requires.rows cols c.requires.small fits
-    none c.recovered_cells-outcome.ensures.most added (rw c.deref_mut.ensures.value at c.in_ok-outcome.ensures.exact) room product_room
+    added-exact c.args.lg inner.cols c.new-counted.result c.recovered_cells-outcome.new.work c.args.work.now c.saturating_add.new.self c.requires.small fits none c.recovered_cells-outcome.ensures.most added
+    room product_room copies c.args.matrix.now c.args.filled.now c.requires.rows cols (rw c.deref_mut.ensures.value at c.in_ok-outcome.ensures.exact)
 
 pub returns-in_err-outcome-clause-refused : goal.returns-in_err-outcome-clause-refused
 returns-in_err-outcome-clause-refused g c = on-err c.from_residual-in_err-outcome.result (λ room product_room.
@@ -55,8 +55,8 @@ returns-in_err-outcome-clause-refused g c = on-err c.from_residual-in_err-outcom
     let none : IsNone c.new-counted.result = record { butterflies = c.new-counted.ensures.butterflies; root_products = c.new-counted.ensures.root_products } in
     let size : length inner.cells.items ≡ 2 ^ c.args.lg * inner.cols = rw rows at c.matrix.invariant in
     let fits : 2 ^ c.args.lg * inner.cols < 2 ^ 64 = omega (arith, size, inner.cells.ok.0, inner.cells.small) in
-    added-refused c.args.lg inner.cols copies c.args.matrix.now c.args.filled.now c.new-counted.result c.recovered_cells-outcome.new.work c.args.work.now c.saturating_add.new.self c.requires.rows cols c.requires.small fits
-    none c.recovered_cells-outcome.ensures.most added (rw c.deref_mut.ensures.value at c.in_err-outcome.ensures.refused) room product_room)
+    added-refused c.args.lg inner.cols c.new-counted.result c.recovered_cells-outcome.new.work c.args.work.now c.saturating_add.new.self c.requires.small fits none c.recovered_cells-outcome.ensures.most added
+    room product_room copies c.args.matrix.now c.args.filled.now c.requires.rows cols (rw c.deref_mut.ensures.value at c.in_err-outcome.ensures.refused))
 
 pub returns-in_err-cells-clause-refused : goal.returns-in_err-cells-clause-refused
 returns-in_err-cells-clause-refused g c = on-err c.from_residual.result (λ room product_room. refused-none _ _ _)
