@@ -26,15 +26,11 @@ module _ {A : Type 0} {same : A → A → Type 0} {zero_of : A} {sum : A → A �
   pub adds_nothing : (a d : A) → same (sum a d) a → same d zero_of
   adds_nothing a d h = combine_same E G P L (a ∷ d ∷ []) v1 𝟘 𝟙 (v0 ⊕ v1) v0 h refl
 
-  few : (p q keys : List A) (k : ℕ) → length p ≡ length q → k < length p → ¬ (same (get_or p k zero_of) (get_or q k zero_of))
-      → AreApart same keys → All (λ key. same (at key p) (at key q)) keys → length p ≤ length keys → ⊥
-  few p q keys k size l differ apart agree many =
-      differ (agreement-same E G P L F keys p q many (omega (arith, size, many)) apart agree k)
-
   pub few_keys : (p q keys : List A) (k : ℕ) → length p ≡ length q → k < length p → ¬ (same (get_or p k zero_of) (get_or q k zero_of))
       → AreApart same keys → All (λ key. same (at key p) (at key q)) keys → length keys ≤ length p - 1
   few_keys p q keys k size l differ apart agree =
-      let not_many : ¬ (length p ≤ length keys) = few p q keys k size l differ apart agree in
+      let not_many : ¬ (length p ≤ length keys) =
+      λ many. differ (agreement-same E G P L F keys p q many (omega (arith, size, many)) apart agree k) in
       omega (arith, not_many)
 
   -- below the place at which they differ, the values are the same where those of the whole are
