@@ -10,62 +10,53 @@ use Rattle.shard_format.specs.declared.header.Header.{Header}
 use Rattle.shard_format.specs.Records.{AreCellsThatFit, HaveFingerprints, IsRecordOf, elements_spelling, numbers_spelling, record_spelling}
 use Rattle.shard_format.proofs.SpelledElements.{length_spelled, spelled_once}
 
--- what follows the numbers of a record
-pub after_numbers : (h : Header) (block count : ℕ) (bytes numbers words : List ℕ) → numbers ≡ numbers_spelling h count → bytes ≡ numbers ++ words → (r : IsRecordOf h block count bytes)
-    → words ≡ elements_spelling r.elements
-after_numbers h block count bytes numbers words n e r =
-    let whole : numbers_spelling h count ++ words ≡ numbers_spelling h count ++ elements_spelling r.elements = ap (λ (s : List ℕ). s ++ words) (sym n) ∙ sym e ∙ r.spelled in
-    append_cancel_left (numbers_spelling h count) words (elements_spelling r.elements) whole
+module _ (h : Header) (block count : ℕ) (bytes numbers words : List ℕ) (elements : List F) (n : numbers ≡ numbers_spelling h count) (e : bytes ≡ numbers ++ words)
+    (w : words ≡ elements_spelling elements) where
+  -- elements that fit make a record
+  pub record_made : AreCellsThatFit h block count elements → IsRecordOf h block count bytes
+  record_made fits = record {
+    elements = elements;
+    fits = fits;
+    spelled = rw (e, n, w) refl;
+  }
 
--- elements that fit make a record
-pub record_made : (h : Header) (block count : ℕ) (bytes numbers words : List ℕ) (elements : List F) → numbers ≡ numbers_spelling h count → bytes ≡ numbers ++ words
-    → words ≡ elements_spelling elements → AreCellsThatFit h block count elements → IsRecordOf h block count bytes
-record_made h block count bytes numbers words elements n e w fits = record {
-  elements = elements;
-  fits = fits;
-  spelled = rw (e, n, w) refl;
-}
-
--- and those of a record fit
-pub elements_fit : (h : Header) (block count : ℕ) (bytes numbers words : List ℕ) (elements : List F) → numbers ≡ numbers_spelling h count → bytes ≡ numbers ++ words
-    → words ≡ elements_spelling elements → IsRecordOf h block count bytes → AreCellsThatFit h block count elements
-elements_fit h block count bytes numbers words elements n e w r =
-    let same : r.elements ≡ elements = spelled_once r.elements elements (sym (after_numbers h block count bytes numbers words n e r) ∙ w) in
-    subst (AreCellsThatFit h block count) same r.fits
+  -- and those of a record fit
+  pub elements_fit : IsRecordOf h block count bytes → AreCellsThatFit h block count elements
+  elements_fit r =
+      let whole : numbers_spelling h count ++ words ≡ numbers_spelling h count ++ elements_spelling r.elements = ap (λ (s : List ℕ). s ++ words) (sym n) ∙ sym e ∙ r.spelled in
+      let behind : words ≡ elements_spelling r.elements = append_cancel_left (numbers_spelling h count) words (elements_spelling r.elements) whole in
+      subst (AreCellsThatFit h block count) (spelled_once r.elements elements (sym behind ∙ w)) r.fits
 
 -- what was written into bytes of the length of a record
-written_whole : (h : Header) (n : ℕ) (bytes rest numbers : List ℕ) (cells : List F) (stored : Fingerprints) → numbers ≡ numbers_spelling h (length cells)
-    → bytes ≡ numbers ++ elements_spelling (cells ++ (stored.first ∷ stored.second ∷ [])) → n ≡ length numbers + 8 * length cells + 16
-    → take n (bytes ++ rest) ≡ numbers_spelling h (length cells) ++ elements_spelling (cells ++ (stored.first ∷ stored.second ∷ []))
-written_whole h n bytes rest numbers cells stored e b size =
-    let all : List F = cells ++ (stored.first ∷ stored.second ∷ []) in
-    let count : length all ≡ length cells + 2 = length-append cells (stored.first ∷ stored.second ∷ []) in
-    let long : n ≡ length bytes = omega (arith, size, ap length b, length-append numbers (elements_spelling all), length_spelled all, count) in
-    ap (λ k. take k (bytes ++ rest)) long ∙ take-append_seam bytes rest ∙ b ∙ ap (λ (x : List ℕ). x ++ elements_spelling all) e
+module _ (h : Header) (block n : ℕ) (bytes rest numbers : List ℕ) (cells : List F) (stored : Fingerprints) (e : numbers ≡ numbers_spelling h (length cells))
+    (b : bytes ≡ numbers ++ elements_spelling (cells ++ (stored.first ∷ stored.second ∷ []))) (size : n ≡ length numbers + 8 * length cells + 16) where
+  abbrev all : List F
+  all = cells ++ (stored.first ∷ stored.second ∷ [])
 
--- is the record of the cells
-pub record_exact : (h : Header) (block n : ℕ) (bytes rest numbers : List ℕ) (cells : List F) (stored : Fingerprints) → numbers ≡ numbers_spelling h (length cells)
-    → bytes ≡ numbers ++ elements_spelling (cells ++ (stored.first ∷ stored.second ∷ [])) → n ≡ length numbers + 8 * length cells + 16 → HaveFingerprints h block cells stored
-    → take n (bytes ++ rest) ≡ record_spelling h block cells
-record_exact h block n bytes rest numbers cells stored e b size fits =
-    let words = cell_words block h.index cells in
-    let first : stored.first ≡ fingerprint words h.keys.first = element_equal stored.first (fingerprint words h.keys.first) fits.first in
-    let second : stored.second ≡ fingerprint words h.keys.second = element_equal stored.second (fingerprint words h.keys.second) fits.second in
-    written_whole h n bytes rest numbers cells stored e b size
-    ∙ ap₂ (λ (x y : F). numbers_spelling h (length cells) ++ elements_spelling (cells ++ (x ∷ y ∷ []))) first second
+  written_whole : take n (bytes ++ rest) ≡ numbers_spelling h (length cells) ++ elements_spelling all
+  written_whole =
+      let count : length all ≡ length cells + 2 = length-append cells (stored.first ∷ stored.second ∷ []) in
+      let long : n ≡ length bytes = omega (arith, size, ap length b, length-append numbers (elements_spelling all), length_spelled all, count) in
+      ap (λ k. take k (bytes ++ rest)) long ∙ take-append_seam bytes rest ∙ b ∙ ap (λ (x : List ℕ). x ++ elements_spelling all) e
 
--- and a record
-pub record_written : (h : Header) (block n : ℕ) (bytes rest numbers : List ℕ) (cells : List F) (stored : Fingerprints) → numbers ≡ numbers_spelling h (length cells)
-    → bytes ≡ numbers ++ elements_spelling (cells ++ (stored.first ∷ stored.second ∷ [])) → n ≡ length numbers + 8 * length cells + 16 → HaveFingerprints h block cells stored
-    → IsRecordOf h block (length cells) (take n (bytes ++ rest))
-record_written h block n bytes rest numbers cells stored e b size fits = record {
-  elements = cells ++ (stored.first ∷ stored.second ∷ []);
-  fits = record {
-    cells = cells;
-    stored = stored;
-    counted = refl;
-    fits = fits;
-    listed = refl;
-  };
-  spelled = written_whole h n bytes rest numbers cells stored e b size;
-}
+  -- is the record of the cells
+  pub record_exact : HaveFingerprints h block cells stored → take n (bytes ++ rest) ≡ record_spelling h block cells
+  record_exact fits =
+      let words = cell_words block h.index cells in
+      let first : stored.first ≡ fingerprint words h.keys.first = element_equal stored.first (fingerprint words h.keys.first) fits.first in
+      let second : stored.second ≡ fingerprint words h.keys.second = element_equal stored.second (fingerprint words h.keys.second) fits.second in
+      written_whole ∙ ap₂ (λ (x y : F). numbers_spelling h (length cells) ++ elements_spelling (cells ++ (x ∷ y ∷ []))) first second
+
+  -- and a record
+  pub record_written : HaveFingerprints h block cells stored → IsRecordOf h block (length cells) (take n (bytes ++ rest))
+  record_written fits = record {
+    elements = all;
+    fits = record {
+      cells = cells;
+      stored = stored;
+      counted = refl;
+      fits = fits;
+      listed = refl;
+    };
+    spelled = written_whole;
+  }
