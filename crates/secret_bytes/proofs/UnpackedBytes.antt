@@ -101,31 +101,27 @@ packed-unpacked elements rest a count bytes e n few l u h =
           ∙ ap₂ (λ x y. x ∷ y) (n ∙ sym size) (sym (sevens-unpacked count numbers long h) ∙ ap₂ (λ x y. sevens x y) (long ∙ ap number_count (sym size)) (sym u)),
     )
 
--- the parts of elements that are those of bytes
-pub packed-parts : (elements rest : List F) (a : F) (bytes : List ℕ) → elements ≡ a ∷ rest → ArePackedBytes elements bytes
-    → (number a ≡ length bytes) × (map number rest ≡ sevens (number_count (length bytes)) bytes)
-packed-parts elements rest a bytes e h =
-    let both : number a ∷ map number rest ≡ packed bytes = ap (map number) (sym e) ∙ h.1 in
-    (ap (λ xs. get_or xs 0 0) both, ap (drop 1) both)
-
 -- so many numbers are so many
 pub length-sevens : (k : ℕ) (bytes : List ℕ) → length (sevens k bytes) ≡ k
 length-sevens zero bytes = refl
 length-sevens (suc k) bytes = ap suc (length-sevens k (drop 7 bytes))
 
--- as many as hold them
-pub packed-count : (elements rest : List F) (a : F) (bytes : List ℕ) → elements ≡ a ∷ rest → ArePackedBytes elements bytes → length rest ≡ number_count (number a)
-packed-count elements rest a bytes e h =
-    let p = packed-parts elements rest a bytes e h in
-    sym (length-map rest number) ∙ ap length p.1 ∙ length-sevens (number_count (length bytes)) bytes ∙ ap number_count (sym p.0)
+module _ (elements rest : List F) (a : F) (bytes : List ℕ) (e : elements ≡ a ∷ rest) (h : ArePackedBytes elements bytes) where
+  -- the parts of elements that are those of bytes
+  packed-parts : (number a ≡ length bytes) × (map number rest ≡ sevens (number_count (length bytes)) bytes)
+  packed-parts =
+      let both : number a ∷ map number rest ≡ packed bytes = ap (map number) (sym e) ∙ h.1 in
+      (ap (λ xs. get_or xs 0 0) both, ap (drop 1) both)
 
--- their numbers fit, and the bytes are unpacked from them
-pub packed-fit : (elements rest : List F) (a : F) (bytes : List ℕ) → elements ≡ a ∷ rest → ArePackedBytes elements bytes
-    → AllFit (number a) (map number rest) × (unpacked (number a) (map number rest) ≡ bytes)
-packed-fit elements rest a bytes e h =
-    let p = packed-parts elements rest a bytes e h in
-    subst (λ (m : List ℕ). AllFit (number a) m × (unpacked (number a) m ≡ bytes)) (sym p.1)
-    (unpacked-sevens (number_count (length bytes)) (number a) bytes h.0.each_byte (sym p.0) (ap number_count p.0))
+  -- as many as hold them
+  pub packed-count : length rest ≡ number_count (number a)
+  packed-count = sym (length-map rest number) ∙ ap length packed-parts.1 ∙ length-sevens (number_count (length bytes)) bytes ∙ ap number_count (sym packed-parts.0)
+
+  -- their numbers fit, and the bytes are unpacked from them
+  pub packed-fit : AllFit (number a) (map number rest) × (unpacked (number a) (map number rest) ≡ bytes)
+  packed-fit =
+      subst (λ (m : List ℕ). AllFit (number a) m × (unpacked (number a) m ≡ bytes)) (sym packed-parts.1)
+      (unpacked-sevens (number_count (length bytes)) (number a) bytes h.0.each_byte (sym packed-parts.0) (ap number_count packed-parts.0))
 
 -- what there is has another property
 pub some-mapped : {X E : Type 0} (r : Result (Option X) E) (P Q : X → Type 0) → ((x : X) → P x → Q x) → IfOk r (λ a. IfSome a P) → IfOk r (λ a. IfSome a Q)
