@@ -77,21 +77,20 @@ module _ {A : Type 0} where
 
 module _ {A : Type 0} (same : A → A → Type 0) (sum : A → A → A) where
   -- the term that leaves the end of the list with the greater last index
-  popped_above : (a b left : List (ℕ × A)) (term : ℕ × A) (m n : ℕ) → IsRising b → IsIndexEnd a m → IsIndexEnd b n → n < m → a ≡ left ++ term ∷ [] → AreBelow b term.0
-  popped_above a b left term m n r d e l h j k =
-      let end : m ≡ term.0 + 1 = d.last left term h in
-      let below : j < n = below_end b n r e j k in
-      omega arith
+  module _ (a b left : List (ℕ × A)) (m n : ℕ) (r : IsRising b) (d : IsIndexEnd a m) (e : IsIndexEnd b n) (l : n < m) where
+    popped_above : (term : ℕ × A) → a ≡ left ++ term ∷ [] → AreBelow b term.0
+    popped_above term h j k =
+        let end : m ≡ term.0 + 1 = d.last left term h in
+        let below : j < n = below_end b n r e j k in
+        omega arith
 
-  pub popped_first : (a b left : List (ℕ × A)) (popped : Option (ℕ × A)) (m n : ℕ) → IsRising b → IsIndexEnd a m → IsIndexEnd b n → n < m
-      → a ≡ left ++ option_to_list popped → IfSome popped (λ term. IsPopped same sum a b term left b)
-  popped_first a b left None m n r d e l h = tt
-  popped_first a b left (Some term) m n r d e l h = inl (h, refl, popped_above a b left term m n r d e l h)
+    pub popped_first : (popped : Option (ℕ × A)) → a ≡ left ++ option_to_list popped → IfSome popped (λ term. IsPopped same sum a b term left b)
+    popped_first None h = tt
+    popped_first (Some term) h = inl (h, refl, popped_above term h)
 
-  pub popped_second : (a b left : List (ℕ × A)) (popped : Option (ℕ × A)) (m n : ℕ) → IsRising b → IsIndexEnd a m → IsIndexEnd b n → n < m
-      → a ≡ left ++ option_to_list popped → IfSome popped (λ term. IsPopped same sum b a term b left)
-  popped_second a b left None m n r d e l h = tt
-  popped_second a b left (Some term) m n r d e l h = inr (inl (h, refl, popped_above a b left term m n r d e l h))
+    pub popped_second : (popped : Option (ℕ × A)) → a ≡ left ++ option_to_list popped → IfSome popped (λ term. IsPopped same sum b a term b left)
+    popped_second None h = tt
+    popped_second (Some term) h = inr (inl (h, refl, popped_above term h))
 
 pub popped_shorter : {A : Type 0} (same : A → A → Type 0) (sum : A → A → A) (a b a' b' : List (ℕ × A)) (term : ℕ × A) → IsPopped same sum a b term a' b' → length a' + length b' < length a + length b
 popped_shorter same sum a b a' b' term (inl o) = rw (o.0, o.1) (omega (arith, length_push a' term))
