@@ -83,7 +83,7 @@ pub recovered_filled : (cols : ℕ) (old bytes new : List ℕ) (e : EvaluationsO
     → AreOnlyRecovered goldilocks root_of e q → new ≡ numbers q.cells → AreRecoveredWords cols old bytes new
 recovered_filled cols old bytes new e q shape marks below agree size fits only written =
     let f : EvaluationsOf F = word_evaluations cols old bytes in
-    recovered_words cols old bytes new f q shape marks below refl
+    recovered_words cols old bytes new q shape marks below
     (size.0 ∙ agree.rows, size.1 ∙ agree.cols, size.2 ∙ ap (λ n. n * e.matrix.cols) agree.rows ∙ ap (λ n. f.matrix.rows * n) agree.cols)
     (λ lg k power l.
     let l_e : k < e.matrix.cols = subst (λ n. k < n) (sym agree.cols) l in
@@ -139,14 +139,6 @@ corrected_there e f h w count v rows found = record {
   few = subst (λ (bs : List Bool). length rows + length rows + count ≤ count_true bs) h.filled found.few;
   only = λ a near k l. found.only a (near_there f e (agree_back e f h) w count a near) k (subst (λ n. k < n) (sym h.cols) l);
 }
-
--- one zero more
-zero_behind : (n : ℕ) → replicate n (residue 0) ++ residue 0 ∷ [] ≡ replicate (suc n) (residue 0)
-zero_behind zero = refl
-zero_behind (suc n) = ap (λ xs. residue 0 ∷ xs) (zero_behind n)
-
-pub zeros_more : (n : ℕ) → replicate n (residue 0) ++ residue 0 ∷ [] ≡ replicate (n + 1) (residue 0)
-zeros_more n = zero_behind n ∙ ap (λ m. replicate m (residue 0)) (let e : suc n ≡ n + 1 = omega arith in e)
 
 -- the rows before row i hold the elements of the words where they are filled
 pub record HoldFilled (cols i : ℕ) (cells bytes : List ℕ) (items : List F) : Type 0 where

@@ -92,20 +92,17 @@ coefficients_of_words lg cols old new e q small count below m filled size fits h
     }
 
 -- the numbers of the coefficients that are recovered from a matrix of words
-pub recovered_words : (cols : ℕ) (old bytes new : List ℕ) (e : EvaluationsOf F) (q : MatrixOf F) → HasRowsFor (length old) cols (length bytes) → All (λ b. b ≤ 1) bytes
-    → AreFilledElements cols old bytes → e ≡ word_evaluations cols old bytes → IsOfSize q e.matrix.rows e.matrix.cols → AreRecovered goldilocks root_of e q
-    → AreOnlyRecovered goldilocks root_of e q → new ≡ numbers q.cells → AreRecoveredWords cols old bytes new
-recovered_words cols old bytes new e q shape marks below m size fits only h =
-    let rows : q.rows ≡ length bytes = size.0 ∙ ap (λ x. x.matrix.rows) m in
-    let columns : q.cols ≡ cols = size.1 ∙ ap (λ x. x.matrix.cols) m in
-    let full : length q.cells ≡ length bytes * cols = size.2 ∙ ap (λ x. x.matrix.rows * x.matrix.cols) m in
-    let whole : q ≡ word_matrix (length bytes) cols new = matrix_of_numbers q (length bytes) cols new rows columns h in
+pub recovered_words : (cols : ℕ) (old bytes new : List ℕ) (q : MatrixOf F) → HasRowsFor (length old) cols (length bytes) → All (λ b. b ≤ 1) bytes
+    → AreFilledElements cols old bytes → IsOfSize q (length bytes) cols → AreRecovered goldilocks root_of (word_evaluations cols old bytes) q
+    → AreOnlyRecovered goldilocks root_of (word_evaluations cols old bytes) q → new ≡ numbers q.cells → AreRecoveredWords cols old bytes new
+recovered_words cols old bytes new q shape marks below size fits only h =
+    let whole : q ≡ word_matrix (length bytes) cols new = matrix_of_numbers q (length bytes) cols new size.0 size.1 h in
     record {
       shape = shape;
       marks = marks;
       cells_below = below;
-      count = count_by q (length bytes * cols) new full h ∙ sym shape.count;
+      count = count_by q (length bytes * cols) new size.2 h ∙ sym shape.count;
       coefficients_below = below_by q new h;
-      fits = subst (λ x. AreRecovered goldilocks root_of x (word_matrix (length bytes) cols new)) m (subst (λ x. AreRecovered goldilocks root_of e x) whole fits);
-      only = subst (λ x. AreOnlyRecovered goldilocks root_of x (word_matrix (length bytes) cols new)) m (subst (λ x. AreOnlyRecovered goldilocks root_of e x) whole only);
+      fits = subst (λ x. AreRecovered goldilocks root_of (word_evaluations cols old bytes) x) whole fits;
+      only = subst (λ x. AreOnlyRecovered goldilocks root_of (word_evaluations cols old bytes) x) whole only;
     }

@@ -1,8 +1,7 @@
 //! Rows of words: coefficients and values of polynomials at the points of a domain, one polynomial
 //! a column.
 
-ghost use Rattle.std.specs.Prelude.{◌≡◌, ◌↔◌, ◌<◌, ◌≤◌, ◌*◌, ◌^◌, ◌++◌, IsTrue, IsSome, IfOk, IfSome, OnOk, OnErr, length, replicate, All};
-ghost use Rattle.math_base.specs.Elements.{residue};
+ghost use Rattle.std.specs.Prelude.{◌≡◌, ◌↔◌, ◌<◌, ◌≤◌, ◌*◌, ◌^◌, ◌++◌, IsTrue, IsSome, IfOk, IfSome, OnOk, OnErr, length, All};
 ghost use Rattle.c_calls.specs.WordElements.{AreElements, elements};
 ghost use Rattle.c_calls.specs.WordRows.{
   AreElementsWhereFilled,
@@ -105,16 +104,6 @@ fn push_elements(out: &mut Vec<F>, words: &[u64]) -> Mem<()>
     Ok(())
 }
 
-/// Adds so many zeros.
-fn push_zeros(out: &mut Vec<F>, count: usize) -> Mem<()>
-    ensures { OnOk result (out.new.items ≡ out.old.items ++ replicate count (residue 0)) }
-{
-    for _done in 0..count {
-        out.push(F::from(0))?;
-    }
-    Ok(())
-}
-
 /// The words of the rows whose byte is 1 as elements, and zeros in place of the others, which are
 /// not read.
 pub(crate) fn filled_elements(
@@ -133,7 +122,7 @@ pub(crate) fn filled_elements(
         if bytes[i] == 1 {
             push_elements(&mut out, &cells[from..from + cols])?;
         } else {
-            push_zeros(&mut out, cols)?;
+            out.resize(from + cols, F::from(0))?;
         }
     }
     Ok(out)

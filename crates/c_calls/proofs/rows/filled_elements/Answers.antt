@@ -1,10 +1,10 @@
-use Rattle.std.proofs.Common.{◌≡◌, ◌≤◌, ◌∙◌, ◌+◌, ◌-◌, ◌*◌, ℕ, length, take, drop, replicate, refl, arith}
+use Rattle.std.proofs.Common.{◌≡◌, ◌≤◌, ◌∙◌, ◌+◌, ◌-◌, ◌*◌, ℕ, ◌++◌, length, take, drop, replicate, refl, ap, arith}
 use Rattle.std.proofs.Math.Nat.{mul-le-mul_right}
-use Rattle.std.proofs.lemmas.List.{length-drop, length-map, length-replicate, length-take-le}
+use Rattle.std.proofs.lemmas.List.{length-drop, length-map, length-replicate, length-take-le, take_all}
 use Rattle.math_base.specs.Elements.{residue}
 use Rattle.c_calls.specs.WordElements.{elements}
 use Rattle.c_calls.proofs.FilledRows.{hold_more}
-use Rattle.c_calls.proofs.rows.filled_elements.Goals.{then-bytes-i-eq1+in_ok-push_elements, else-bytes-i-eq1+in_ok-push_zeros}
+use Rattle.c_calls.proofs.rows.filled_elements.Goals.{then-bytes-i-eq1+in_ok-push_elements, else-bytes-i-eq1+in_ok-resize}
 use Rattle.c_calls.proofs.rows.filled_elements.Goals as goal
 
 pub loop-i-preserved : goal.loop-i-preserved
@@ -23,8 +23,11 @@ loop-i-preserved c =
       | then-bytes-i-eq1+in_ok-push_elements w ↦
           rw (w.out-is, w.in_ok-push_elements.ensures, wide)
           (hold_more cols i cells bytes c.loop-i.out.items (elements row) c.requires c.loop-i-test.true (length-map row residue ∙ long) (λ _. refl) c.loop-i.invariant)
-      | else-bytes-i-eq1+in_ok-push_zeros w ↦
-          rw (w.out-is, w.in_ok-push_zeros.ensures)
-          (hold_more cols i cells bytes c.loop-i.out.items (replicate cols (residue 0)) c.requires c.loop-i-test.true (length-replicate cols (residue 0))
-          (λ one. absurd (w.if-bytes-i-eq1.false one)) c.loop-i.invariant)
+      | else-bytes-i-eq1+in_ok-resize w ↦
+          let before = c.loop-i.out.items in
+          let zeros = replicate (at + cols - c.loop-i.out.len) w.from.result in
+          let kept : take (at + cols) before ≡ before = take_all (at + cols) before (omega (arith, c.loop-i.invariant.count)) in
+          let here : w.resize.new.self.items ≡ before ++ zeros = w.in_ok-resize.ensures.items ∙ ap (λ xs. xs ++ zeros) kept in
+          let many : length zeros ≡ cols = length-replicate (at + cols - c.loop-i.out.len) w.from.result ∙ omega (arith, c.loop-i.out.ok.0, c.loop-i.invariant.count) in
+          rw (w.out-is, here) (hold_more cols i cells bytes before zeros c.requires c.loop-i-test.true many (λ one. absurd (w.if-bytes-i-eq1.false one)) c.loop-i.invariant)
     ]
