@@ -41,24 +41,7 @@ same_by_cells p q r (suc c) h k cells = (h.0 ∙ sym k.0, h.1 ∙ sym k.1, same_
         let column : n % suc c < suc c = omega arith in
         ap (λ i. (get_or p.cells i nought).value) (sym (place n p h.1)) ∙ cells (n / suc c) (n % suc c) row column ∙ ap (λ i. (get_or q.cells i nought).value) (place n q k.1)
 
--- where each column fits, the matrix is recovered
-recovered_by_columns : (lg : ℕ) (rows : List ℕ) (m : MatrixOf F) (v : EvaluationsOf F) (q : MatrixOf F) → HoldsRows lg rows m (length rows) v → IsOfSize q (2 ^ lg) m.cols
-    → ((i : ℕ) → i < length rows → get_or rows i 0 < 2 ^ lg)
-    → ((k : ℕ) → k < m.cols → FitsColumn lg v k (column_of nought q k)) → IsRecovered lg rows m q
-recovered_by_columns lg rows m v q h size below fits = record {
-  size = size;
-  agrees = λ i k l t.
-      let row : ℕ = get_or rows i 0 in
-      let there : row < 2 ^ lg = below i l in
-      (fits k t).agrees row (omega (arith, columns_are_full v.matrix k nought, h.size.0)) (h.marks.marked i l)
-      ∙ ap (λ x. x.value) (columns_hold_cells v.matrix row k nought nought (omega (arith, h.size.0)) (omega (arith, h.size.1)))
-      ∙ h.cells i k l t;
-  zero_from = λ i k l b t.
-      ap (λ x. x.value) (sym (columns_hold_cells q i k nought nought (omega (arith, size.0)) (omega (arith, size.1))))
-      ∙ (fits k t).zero_from i (omega (arith, h.count));
-}
-
--- and the columns of a matrix that is recovered fit
+-- the columns of a matrix that is recovered fit
 columns_of_recovered : (lg : ℕ) (rows : List ℕ) (m : MatrixOf F) (v : EvaluationsOf F) (p : MatrixOf F) → HoldsRows lg rows m (length rows) v → IsRecovered lg rows m p
     → (k : ℕ) → k < m.cols → FitsColumn lg v k (column_of nought p k)
 columns_of_recovered lg rows m v p h r k t = record {
@@ -74,13 +57,28 @@ columns_of_recovered lg rows m v p h r k t = record {
   ];
 }
 
--- where each column is the only one that fits, the matrix is the only one that is recovered
-only_by_columns : (lg : ℕ) (rows : List ℕ) (m : MatrixOf F) (v : EvaluationsOf F) (q : MatrixOf F) → HoldsRows lg rows m (length rows) v → IsOfSize q (2 ^ lg) m.cols
-    → ((k : ℕ) → k < m.cols → (p : List F) → length p ≡ 2 ^ lg → FitsColumn lg v k p → (i : ℕ) → i < 2 ^ lg → same (get_or p i nought) (cell_of nought q i k))
-    → (p : MatrixOf F) → IsRecovered lg rows m p → AreSameMatrices same p q
-only_by_columns lg rows m v q h size only p r = same_by_cells p q (2 ^ lg) m.cols r.size size (λ i k l t.
-    ap (λ x. x.value) (sym (columns_hold_cells p i k nought nought (omega (arith, r.size.0)) (omega (arith, r.size.1))))
-    ∙ only k t (column_of nought p k) (columns_are_full p k nought ∙ r.size.0) (columns_of_recovered lg rows m v p h r k t) i l)
+module _ (lg : ℕ) (rows : List ℕ) (m : MatrixOf F) (v : EvaluationsOf F) (q : MatrixOf F) (h : HoldsRows lg rows m (length rows) v) (size : IsOfSize q (2 ^ lg) m.cols) where
+  -- where each column fits, the matrix is recovered
+  recovered_by_columns : ((i : ℕ) → i < length rows → get_or rows i 0 < 2 ^ lg) → ((k : ℕ) → k < m.cols → FitsColumn lg v k (column_of nought q k)) → IsRecovered lg rows m q
+  recovered_by_columns below fits = record {
+    size = size;
+    agrees = λ i k l t.
+        let row : ℕ = get_or rows i 0 in
+        let there : row < 2 ^ lg = below i l in
+        (fits k t).agrees row (omega (arith, columns_are_full v.matrix k nought, h.size.0)) (h.marks.marked i l)
+        ∙ ap (λ x. x.value) (columns_hold_cells v.matrix row k nought nought (omega (arith, h.size.0)) (omega (arith, h.size.1)))
+        ∙ h.cells i k l t;
+    zero_from = λ i k l b t.
+        ap (λ x. x.value) (sym (columns_hold_cells q i k nought nought (omega (arith, size.0)) (omega (arith, size.1))))
+        ∙ (fits k t).zero_from i (omega (arith, h.count));
+  }
+
+  -- where each column is the only one that fits, the matrix is the only one that is recovered
+  only_by_columns : ((k : ℕ) → k < m.cols → (p : List F) → length p ≡ 2 ^ lg → FitsColumn lg v k p → (i : ℕ) → i < 2 ^ lg → same (get_or p i nought) (cell_of nought q i k))
+      → (p : MatrixOf F) → IsRecovered lg rows m p → AreSameMatrices same p q
+  only_by_columns only p r = same_by_cells p q (2 ^ lg) m.cols r.size size (λ i k l t.
+      ap (λ x. x.value) (sym (columns_hold_cells p i k nought nought (omega (arith, r.size.0)) (omega (arith, r.size.1))))
+      ∙ only k t (column_of nought p k) (columns_are_full p k nought ∙ r.size.0) (columns_of_recovered lg rows m v p h r k t) i l)
 
 -- so the spelling of that matrix is the one answer
 pub encodes : (lg : ℕ) (rows : List ℕ) (m : MatrixOf F) (v : EvaluationsOf F) (q : MatrixOf F) (bytes : List ℕ) → HoldsRows lg rows m (length rows) v → IsOfSize q v.matrix.rows v.matrix.cols
