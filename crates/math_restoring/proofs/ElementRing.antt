@@ -38,15 +38,6 @@ elements = record {
   distributive = λ a b c. same_number _ _ (ring.distributive a b c);
 }
 
--- and as a field
-abbrev pub element_field : Field F
-element_field = record {
-  ring = elements;
-  inverse = inverse;
-  one_apart = λ e. field.distinct (ap number e);
-  product_inverse = λ a n. same_number _ _ (field.inverts a (λ e. n (same_number _ _ e)));
-}
-
 -- lists of elements that are same place by place are equal
 pub same_are_equal : (xs ys : List F) → AllZip same xs ys → xs ≡ ys
 same_are_equal xs ys h = sym (same_from_all_zip same xs ys h (λ x y e. same_number y x (sym e)))

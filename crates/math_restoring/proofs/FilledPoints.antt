@@ -30,21 +30,6 @@ pub record AreFilledBefore (lg : ℕ) (indices : List ℕ) (n : ℕ) (points : L
   pub others : (i : ℕ) → ((t : ℕ) → t < n → get_or indices t 0 ≢ i) → get_or points i false ≡ false
   pub count : count_true points ≡ n
 
--- no item of a list of false ones is true
-none-filled : (n i : ℕ) → get_or (replicate n false) i false ≡ false
-none-filled zero i = refl
-none-filled (suc n) zero = refl
-none-filled (suc n) (suc i) = none-filled n i
-
--- none are filled
-pub filled-none : (lg : ℕ) (indices : List ℕ) → AreFilledBefore lg indices 0 (replicate (2 ^ lg) false)
-filled-none lg indices = record {
-  size = length-replicate (2 ^ lg) false;
-  filled = λ t b. absurd (omega (arith, b));
-  others = λ i apart. none-filled (2 ^ lg) i;
-  count = count_true-none (2 ^ lg);
-}
-
 -- one more
 pub filled-more : (lg : ℕ) (indices : List ℕ) (n : ℕ) (points : List Bool) → AreDistinct indices → n < length indices → get_or indices n 0 < 2 ^ lg → AreFilledBefore lg indices n points
     → AreFilledBefore lg indices (n + 1) (set points (get_or indices n 0) true)

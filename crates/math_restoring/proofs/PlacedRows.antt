@@ -36,28 +36,6 @@ pub record ArePlacedBefore (n : ℕ) (places : List ℕ) (factors : List F) (wid
       → same (get_or room (get_or places s 0 * c + k) nought) (product (get_or cells (s * width + from + k) nought) (get_or factors (get_or places s 0) nought))
   pub others : (p k : ℕ) → p < n → k < c → ((s : ℕ) → s < t → get_or places s 0 ≢ p) → same (get_or room (p * c + k) nought) nought
 
--- an item of a list of one element, or past its end
-one_element : (n i : ℕ) (x : F) → same x nought → same (get_or (replicate n x) i nought) nought
-one_element zero i x e = refl
-one_element (suc n) zero x e = e
-one_element (suc n) (suc i) x e = one_element n i x e
-
--- none are placed
-pub placed-none : (n : ℕ) (places : List ℕ) (factors : List F) (width from c : ℕ) (cells : List F) (m : ℕ) (x : F) → same x nought
-    → ArePlacedBefore n places factors width from c cells 0 (replicate m x)
-placed-none n places factors width from c cells m x e = record {
-  placed = λ s k a b. absurd (omega (arith, a));
-  others = λ p k a b apart. one_element m (p * c + k) x e;
-}
-
--- all are placed
-pub placed-all : (n : ℕ) (places : List ℕ) (factors : List F) (width from c : ℕ) (cells : List F) (t : ℕ) (room : List F) → t ≡ length places
-    → ArePlacedBefore n places factors width from c cells t room → ArePlaced n places factors width from c cells room
-placed-all n places factors width from c cells t room e h = record {
-  placed = λ s k a b. h.placed s k (omega (arith, a, e)) b;
-  others = λ p k a b apart. h.others p k a b (λ s l. apart s (omega (arith, l, e)));
-}
-
 -- A row more.
 module _ (n : ℕ) (places : List ℕ) (factors : List F) (width from c t m : ℕ) (cells room row : List F) (e : m ≡ c) (distinct : AreDistinct places) (l : t < length places)
     (inside : get_or places t 0 * c + c ≤ length room) (long : length row ≡ m)
