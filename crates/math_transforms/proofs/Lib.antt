@@ -36,4 +36,6 @@ pub mod TurnedQuarters
 pub mod QuartersBelow
 pub mod BelowClasses
 pub mod BelowSteps
+pub mod CopiedCells
+pub mod FewCoefficients
 mod TrimmedCoefficients

@@ -1,5 +1,5 @@
 -- Values at the points of a domain or its coset, by trees of square roots.
-use Rattle.std.proofs.Common.{◌≡◌, ◌∙◌, ℕ, zero, suc, ◌+◌, ◌*◌, ◌^◌, ◌<◌, List, [], ◌∷◌, length, get_or, refl, sym, ap, ap₂, subst, arith}
+use Rattle.std.proofs.Common.{◌≡◌, ◌∙◌, ℕ, zero, suc, ◌+◌, ◌*◌, ◌^◌, ◌<◌, ◌≤◌, List, [], ◌∷◌, length, get_or, refl, sym, ap, ap₂, subst, arith}
 use Rattle.math_theory.specs.BitReversal.{bit_reversed}
 use Rattle.math_theory.specs.Domains.{HasExactOrder}
 use Rattle.math_theory.specs.Laws.{IsEquality, IsGroup, IsProduct, IsRing, IsField}
@@ -17,9 +17,9 @@ use Rattle.math_base.specs.Members.{RingOf}
 use Rattle.math_base.specs.Polynomials.{value_in_ring}
 use Rattle.math_transforms.specs.CombinedCells.{AreRowsReversed}
 use Rattle.math_transforms.specs.CosetValues.{AreMultiplesAtPowers}
-use Rattle.math_transforms.specs.DomainValues.{matrix_of, AreValuesAtPowers}
+use Rattle.math_transforms.specs.DomainValues.{matrix_of, AreValuesAtPowers, AreValuesOfFewAtPowers}
 use Rattle.math_transforms.specs.Matrices.{column_of}
-use Rattle.math_transforms.specs.RootTrees.{IsTreeOf, AreValuesBelow, AreMultiplesBelow, class_at, column_value, entry, twos}
+use Rattle.math_transforms.specs.RootTrees.{IsTreeOf, AreValuesBelow, AreValuesOfFewBelow, AreMultiplesBelow, class_at, column_value, entry, twos}
 use Rattle.math_transforms.proofs.DomainSteps.{column-cell}
 use Rattle.math_transforms.proofs.MatrixRows.{length-column}
 use Rattle.math_transforms.proofs.TreePoints.{point-class}
@@ -60,14 +60,21 @@ module _ {A : Type 0} (R : RingOf A) (E : IsEquality R.same) (G : IsGroup R.same
       combine2 C (x ∷ y ∷ []) v1 (minus 𝟙) (minus 𝟙) (v0 ⊗ v1) 𝟙 v1 v0 (minus 𝟙) whole (half-of l w order) refl
 
   -- the values at the points below the first place are those at the points of the coset
+  few-points : (root : ℕ → A) (start : A) (lg part c : ℕ) (tree cells new : List A) → part ≤ lg → HasExactOrder R.same R.one R.product (root lg) (2 ^ lg) → IsTreeOf R root start lg tree
+      → AreValuesOfFewBelow R tree lg part 1 c cells new → (t k : ℕ) → t < 2 ^ lg → k < c
+      → R.same (entry R new (t * c + k)) (column_value R part c cells k (tree_point (root lg) start lg t))
+  few-points root start zero part c tree cells new within order T h t k b m =
+      let none : part ≡ 0 = omega (arith, within) in
+      E.transitive _ _ _ (h t k b m)
+      (constant-value (column_of R.zero (matrix_of (2 ^ part) c cells) k) _ _ (length-column R.zero (matrix_of (2 ^ part) c cells) k ∙ ap (λ i. 2 ^ i) none))
+  few-points root start (suc l) part c tree cells new within order T h t k b m =
+      E.transitive _ _ _ (h t k b m)
+      (value-at E G P L _ _ (column_of R.zero (matrix_of (2 ^ part) c cells) k) (point-by_half root start l tree (half-of l (root (suc l)) order) T t b))
+
   pub values-points : (root : ℕ → A) (start : A) (lg c : ℕ) (tree cells new : List A) → HasExactOrder R.same R.one R.product (root lg) (2 ^ lg) → IsTreeOf R root start lg tree
       → AreValuesBelow R tree lg 1 c cells new → (t k : ℕ) → t < 2 ^ lg → k < c
       → R.same (entry R new (t * c + k)) (column_value R lg c cells k (tree_point (root lg) start lg t))
-  values-points root start zero c tree cells new order T h t k b m =
-      E.transitive _ _ _ (h t k b m) (constant-value (column_of R.zero (matrix_of (2 ^ 0) c cells) k) _ _ (length-column R.zero (matrix_of (2 ^ 0) c cells) k))
-  values-points root start (suc l) c tree cells new order T h t k b m =
-      E.transitive _ _ _ (h t k b m)
-      (value-at E G P L _ _ (column_of R.zero (matrix_of (2 ^ suc l) c cells) k) (point-by_half root start l tree (half-of l (root (suc l)) order) T t b))
+  values-points root start lg c tree cells new order T h = few-points root start lg lg c tree cells new (omega arith) order T h
 
   -- a point times its class in the tree of the inverses is one
   point-unit : (w v s z : A) (n : ℕ) → R.same (R.product w v) R.one → R.same (R.product s z) R.one
@@ -105,12 +112,16 @@ module _ {A : Type 0} (R : RingOf A) (E : IsEquality R.same) (G : IsGroup R.same
     point-natural j l = subst (λ i. R.same (R.product R.one (at i)) (at j)) (sym (bit_reversed-twice lg j l)) (L.identity (at j))
 
     -- in natural order they are the values at the powers of the root
+    pub few-natural : (part : ℕ) (tree cells mid new : List A) → part ≤ lg → IsTreeOf R root R.one lg tree → AreValuesOfFewBelow R tree lg part 1 c cells mid
+        → AreRowsReversed R.zero lg (matrix_of n c mid) (matrix_of n c new) → AreValuesOfFewAtPowers R (root lg) (matrix_of (2 ^ part) c cells) (matrix_of n c new)
+    few-natural part tree cells mid new within T h reversed j k l m =
+        rw (reversed j k l m)
+        (E.transitive _ _ _ (few-points root R.one lg part c tree cells mid within order T h (bit_reversed lg j) k (bit_reversed-below lg j) m)
+        (value-at E G P L _ _ (column_of R.zero (matrix_of (2 ^ part) c cells) k) (point-natural j l)))
+
     pub values-natural : (tree cells mid new : List A) → IsTreeOf R root R.one lg tree → AreValuesBelow R tree lg 1 c cells mid
         → AreRowsReversed R.zero lg (matrix_of n c mid) (matrix_of n c new) → AreValuesAtPowers R (root lg) (matrix_of n c cells) (matrix_of n c new)
-    values-natural tree cells mid new T h reversed j k l m =
-        rw (reversed j k l m)
-        (E.transitive _ _ _ (values-points root R.one lg c tree cells mid order T h (bit_reversed lg j) k (bit_reversed-below lg j) m)
-        (value-at E G P L _ _ (column_of R.zero (matrix_of n c cells) k) (point-natural j l)))
+    values-natural tree cells mid new T h reversed = few-natural lg tree cells mid new (omega arith) T h reversed
 
     -- and the rows of values, put in the order of the tree, give multiples of the coefficients
     pub multiples-natural : (back : ℕ → A) (inverses cells mid new : List A) → 0 < lg → R.same (R.product (root lg) (back lg)) R.one → IsTreeOf R back R.one lg inverses

@@ -15,6 +15,11 @@ abbrev pub AreValuesAtPowers : {A : Type 0} → RingOf A → A → MatrixOf A �
 AreValuesAtPowers R w m v =
     (j k : ℕ) → j < m.rows → k < m.cols → R.same (cell_of R.zero v j k) (value_in_ring R (column_of R.zero m k) (power R.one R.product w j))
 
+-- as AreValuesAtPowers, at as many powers as v has rows: m may have fewer
+abbrev pub AreValuesOfFewAtPowers : {A : Type 0} → RingOf A → A → MatrixOf A → MatrixOf A → Type 0
+AreValuesOfFewAtPowers R w m v =
+    (j k : ℕ) → j < v.rows → k < m.cols → R.same (cell_of R.zero v j k) (value_in_ring R (column_of R.zero m k) (power R.one R.product w j))
+
 -- the matrix of one column that has these cells
 abbrev pub one_column : {A : Type 0} → List A → MatrixOf A
 one_column xs = matrix_of (length xs) 1 xs

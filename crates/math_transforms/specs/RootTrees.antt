@@ -47,6 +47,11 @@ module _ {A : Type 0} (R : RingOf A) where
   AreValuesBelow roots lg place c old new =
       (t k : ℕ) → t < 2 ^ lg → k < c → R.same (entry new (t * c + k)) (column_value lg c old k (class_at roots (2 ^ lg * place + t)))
 
+  -- as AreValuesBelow, where only the first 2^part old rows hold coefficients
+  abbrev pub AreValuesOfFewBelow : List A → ℕ → ℕ → ℕ → ℕ → List A → List A → Type 0
+  AreValuesOfFewBelow roots lg part place c old new =
+      (t k : ℕ) → t < 2 ^ lg → k < c → R.same (entry new (t * c + k)) (column_value part c old k (class_at roots (2 ^ lg * place + t)))
+
   -- column k of 2^lg new rows of c cells has, where x times point t below the place is one, 2^lg times cell k of old row t as its value at x
   abbrev pub AreMultiplesBelow : List A → ℕ → ℕ → ℕ → List A → List A → Type 0
   AreMultiplesBelow inverses lg place c old new =

@@ -8,6 +8,10 @@
 //! and one where two rows are left. Four and sixteen rows have a function each, without a call of
 //! itself. A weight is the same for all rows and columns of a half. The rows of coefficients are in
 //! natural order and the values in that of the tree, so no row changes its place.
+//!
+//! Where there are at most as many coefficients as half of the rows, h is zero: p is l at both
+//! halves of the points. So each half is given the same coefficients, until there are as many rows
+//! as coefficients.
 
 ghost use Rattle.std.specs.Prelude.{
   ◌≡◌,
@@ -27,11 +31,13 @@ ghost use Rattle.math_transforms.specs.RootTrees.{
   AreMultiplesBelow,
   AreOnesBelow,
   AreValuesBelow,
+  AreValuesOfFewBelow,
   IsRootTree,
 };
 
 mod quarters;
 
+use crate::cells::copy_cells;
 use crate::transform::size_of;
 use crate::work::Work;
 use math_base::algebra::{Field, FieldNTT, Mem, Multiplicative, Object, Ring};
@@ -100,6 +106,67 @@ pub fn evaluate_below<F: FieldNTT>(
     evaluate_below(alloc, b, cols, lg - 2, first + 1, false, roots, work)?;
     evaluate_below(alloc, c, cols, lg - 2, first + 2, false, roots, work)?;
     evaluate_below(alloc, d, cols, lg - 2, first + 3, false, roots, work)?;
+    Ok(())
+}
+
+/// Writes over 2^lg rows the values at the points below the place of the tree, in its order, of the
+/// polynomials whose coefficients are the first 2^part rows, whatever the further rows hold.
+/// `at_one` says that the entry there is one, and the first below it at each level.
+///
+/// Adds cols 2^lg part / 2 butterflies. Where it is refused, the cells have some values.
+pub fn evaluate_few_below<F: FieldNTT>(
+    alloc: Global,
+    cells: &mut [F],
+    cols: usize,
+    lg: u8,
+    part: u8,
+    place: usize,
+    at_one: bool,
+    roots: &[F],
+    work: &mut Work,
+) -> Mem<()>
+    requires domain { lg ≤ F.MAX_LG_ROOT_ORDER }
+    requires small { lg < 64 }
+    requires part { part ≤ lg }
+    requires size { length cells.old ≡ 2 ^ lg * cols }
+    requires tree { IsRootTree F.Ring (F.root 2) roots.now }
+    requires entries { length roots.now ≤ 2 ^ 63 }
+    requires place { 1 ≤ place }
+    requires within { 2 ^ lg * (place + 1) ≤ 2 * length roots.now }
+    requires one { IsTrue at_one → AreOnesBelow F.Ring roots.now place }
+    requires room { 2 * work.old.butterflies + cols * 2 ^ lg * part < 2 ^ 129 }
+    ensures size { length cells.new ≡ length cells.old }
+    ensures values { OnOk result
+        (AreValuesOfFewBelow F.Ring roots.now lg part place cols cells.old cells.new) }
+    ensures counted { OnOk result
+        (2 * work.new.butterflies ≡ 2 * work.old.butterflies + cols * 2 ^ lg * part) }
+    ensures bounded { AddsAtMost (cols * 2 ^ lg * part) work.old work.new }
+    ensures never { IsTrue F.NEVER_REFUSES → IsOk result }
+{
+    if cols == 0 {
+        return Ok(());
+    }
+    if lg == part {
+        evaluate_below(alloc, cells, cols, lg, place, at_one, roots, work)?;
+        return Ok(());
+    }
+    let half = size_of(lg - 1) * cols;
+    let few = size_of(part) * cols;
+    let (low, high) = cells.split_at_mut(half);
+    copy_cells(alloc, low, high, few)?;
+    let below = 2 * place;
+    evaluate_few_below(alloc, low, cols, lg - 1, part, below, at_one, roots, work)?;
+    evaluate_few_below(
+        alloc,
+        high,
+        cols,
+        lg - 1,
+        part,
+        below + 1,
+        false,
+        roots,
+        work,
+    )?;
     Ok(())
 }
 

@@ -1,6 +1,17 @@
 //! Lists of cells.
 
-ghost use Rattle.std.specs.Prelude.{◌≡◌, ◌≤◌, IfOk, length};
+ghost use Rattle.std.specs.Prelude.{
+  ◌≡◌,
+  ◌<◌,
+  ◌≤◌,
+  ℕ,
+  IfOk,
+  IsOk,
+  IsTrue,
+  OnOk,
+  length,
+  slice_index_or,
+};
 ghost use Rattle.std.specs.List.{AllZip};
 ghost use Rattle.math_transforms.specs.Matrices.{AreFilledUp};
 
@@ -16,6 +27,26 @@ pub fn copies<F: Object>(alloc: Global, cells: &[F]) -> Mem<Vec<F>>
         out.push(cell.clone(alloc)?)?;
     }
     Ok(out)
+}
+
+/// Writes over the first `count` cells of `to` copies of those of `from`.
+pub(crate) fn copy_cells<F: Additive>(
+    alloc: Global,
+    from: &[F],
+    to: &mut [F],
+    count: usize,
+) -> Mem<()>
+    requires from { count ≤ length from.now }
+    requires to { count ≤ length to.old }
+    ensures size { length to.new ≡ length to.old }
+    ensures copied { OnOk result ((p : ℕ) → p < count
+        → F.same (slice_index_or to.new p F.zero) (slice_index_or from.now p F.zero)) }
+    ensures never { IsTrue F.NEVER_REFUSES → IsOk result }
+{
+    for p in 0..count {
+        to[p] = from[p].clone(alloc)?;
+    }
+    Ok(())
 }
 
 /// The cells, and after them as many zeros as make their number `count`. Room for all is taken

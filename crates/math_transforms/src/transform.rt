@@ -30,14 +30,18 @@ ghost use Rattle.std.specs.Int.{IsPowerOfTwo};
 ghost use Rattle.math_theory.specs.Powers.{power};
 ghost use Rattle.math_transforms.specs.CosetValues.{AreMultiplesAtPowers};
 ghost use Rattle.math_transforms.specs.CountedWork.{AddsAtMost};
-ghost use Rattle.math_transforms.specs.DomainValues.{matrix_of, AreValuesAtPowers};
+ghost use Rattle.math_transforms.specs.DomainValues.{
+  matrix_of,
+  AreValuesAtPowers,
+  AreValuesOfFewAtPowers,
+};
 ghost use Rattle.math_transforms.specs.RootTrees.{IsTreeOf};
 
 pub(crate) mod butterflies;
 pub mod coset;
 pub mod order;
 
-use super::below::{evaluate_below, interpolate_below};
+use super::below::{evaluate_below, evaluate_few_below, interpolate_below};
 use super::trees::domain_tree;
 use super::work::Work;
 use math_base::algebra::{Field, FieldNTT, Mem, Multiplicative, Object, Ring};
@@ -111,6 +115,43 @@ pub fn evaluate_rows<F: FieldNTT>(
     ensures never { IsTrue F.NEVER_REFUSES → IsOk result }
 {
     evaluate_below(alloc, cells, cols, lg, 1, true, table, work)?;
+    reverse_rows(cells, cols, lg);
+    Ok(())
+}
+
+/// As `evaluate_rows`, for polynomials of few coefficients: the first 2^part rows hold these, and
+/// what the further rows hold does not matter. All 2^lg rows become values.
+///
+/// x^(2^part) is one of 2^(lg - part) numbers at the points, and 2^part points have each of them:
+/// those below one place of the tree. So each block of 2^part rows is given the coefficients, and
+/// becomes the values below its own place. The levels above that, which `evaluate_rows` begins
+/// with, are left out.
+///
+/// Adds cols 2^lg part / 2 butterflies. Where it is refused, the cells have some values.
+pub fn evaluate_few<F: FieldNTT>(
+    alloc: Global,
+    cells: &mut [F],
+    cols: usize,
+    lg: u8,
+    part: u8,
+    table: &[F],
+    work: &mut Work,
+) -> Mem<()>
+    requires domain { lg ≤ F.MAX_LG_ROOT_ORDER }
+    requires small { lg < 64 }
+    requires part { part ≤ lg }
+    requires size { length cells.old ≡ 2 ^ lg * cols }
+    requires table { IsTreeOf F.Ring F.root F.one lg table.now }
+    requires room { 2 * work.old.butterflies + cols * 2 ^ lg * part < 2 ^ 129 }
+    ensures size { length cells.new ≡ length cells.old }
+    ensures values { OnOk result (AreValuesOfFewAtPowers F.Ring (F.root lg)
+        (matrix_of (2 ^ part) cols cells.old) (matrix_of (2 ^ lg) cols cells.new)) }
+    ensures counted { OnOk result
+        (2 * work.new.butterflies ≡ 2 * work.old.butterflies + cols * 2 ^ lg * part) }
+    ensures bounded { AddsAtMost (cols * 2 ^ lg * part) work.old work.new }
+    ensures never { IsTrue F.NEVER_REFUSES → IsOk result }
+{
+    evaluate_few_below(alloc, cells, cols, lg, part, 1, true, table, work)?;
     reverse_rows(cells, cols, lg);
     Ok(())
 }
