@@ -6,8 +6,8 @@ use Rattle.std.proofs.lemmas.List.{length-replicate}
 use Rattle.std.proofs.lemmas.List.Concat.{flat_map-cons}
 use Rattle.std.proofs.lemmas.List.Elements.{All-head, All-tail}
 use Rattle.math_codec.specs.WordLaws.{word_apart}
-use Rattle.math_shards.specs.declared.shards.Shard.{Shard}
-use Rattle.math_shards.specs.Shards.{width_for}
+use Rattle.math_splitting.specs.declared.shards.Shard.{Shard}
+use Rattle.math_splitting.specs.Shards.{width_for}
 use Rattle.shard_blocks.specs.BlockWords.{words_of_bytes}
 use Rattle.shard_blocks.specs.Blocks.{JoinToBlock}
 use Rattle.shard_blocks.specs.Correcting.{CorrectToBlock}

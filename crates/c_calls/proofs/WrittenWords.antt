@@ -2,7 +2,7 @@
 use Rattle.std.proofs.Common.{◌≡◌, ◌∙◌, ℕ, ◌+◌, ◌*◌, ◌≤◌, List, ◌++◌, length, length-append, take, drop, sym, ap, ap₂, arith}
 use Rattle.std.proofs.lemmas.List.{take_at}
 use Rattle.std.proofs.lemmas.Slice.{drop-append-drop}
-pub use Rattle.math_shards.proofs.SpelledWords.{AreWritten, all_written, bytes_of, length-bytes, none_written, one_written}
+pub use Rattle.math_splitting.proofs.SpelledWords.{AreWritten, all_written, bytes_of, length-bytes, none_written, one_written}
 use Rattle.math_codec.specs.Lengths.{length_spelling}
 use Rattle.c_calls.specs.WordEncodings.{StandInFront, polynomial_spelling}
 

@@ -4,7 +4,7 @@ use Rattle.std.specs.Int.{to_be_bytes, w64}
 use Rattle.math_codec.specs.Faults.{Fault, scan_exactly}
 use Rattle.math_codec.specs.Lists.{list_spelling, scan_list}
 use Rattle.math_base.specs.ElementEncoding.{scan_element}
-pub use Rattle.math_shards.specs.ShardRows.{StandInFront}
+pub use Rattle.math_shards.specs.WordShards.{StandInFront}
 use Rattle.c_calls.specs.WordElements.{AreElements}
 
 -- a polynomial may have so many coefficients

@@ -1,10 +1,10 @@
 -- Words as shards of data, a shard a row.
 use Rattle.std.specs.Prelude.{◌≡◌, ℕ, ◌*◌, ◌<◌, ◌≤◌, ◌^◌, List, length}
 use Rattle.std.specs.List.{range_with_len}
-use Rattle.math_shards.specs.declared.shards.Shard.{Shard}
+use Rattle.math_splitting.specs.declared.shards.Shard.{Shard}
 use Rattle.math_shards.specs.declared.shards.Error.{Error}
-use Rattle.math_shards.specs.Shards.{AreShardsOf, width_for}
-pub use Rattle.math_shards.specs.ShardRows.{AreRefused, AreWordShards, DoJoinTo}
+use Rattle.math_splitting.specs.Shards.{AreShardsOf, width_for}
+pub use Rattle.math_shards.specs.WordShards.{AreRefused, AreWordShards, DoJoinTo}
 use Rattle.math_shards.specs.Correcting.{AreCorrected, IsDueCorrecting}
 
 -- `min` of `total` shards give data back

@@ -2,8 +2,8 @@
 use Rattle.std.proofs.Common.{◌≡◌, ◌∙◌, ℕ, ◌<◌, ◌^◌, List, [], ◌∷◌, length, sym, subst, arith}
 use Rattle.std.specs.List.{All}
 use Rattle.std.proofs.lemmas.List.Elements.{All-head}
-use Rattle.math_shards.specs.declared.shards.Shard.{Shard}
-use Rattle.math_shards.specs.Shards.{HaveOneData, IsShardOf, JoinTo}
+use Rattle.math_splitting.specs.declared.shards.Shard.{Shard}
+use Rattle.math_splitting.specs.Shards.{HaveOneData, IsShardOf, JoinTo}
 
 -- shards of the words, at least one, join to no other words
 pub joined_words : HaveOneData → (words back : List ℕ) (min total : ℕ) (shards : List Shard) → 0 < length shards → All (λ word. word < 2 ^ 64) words → length words < 2 ^ 64

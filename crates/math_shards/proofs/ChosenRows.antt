@@ -15,7 +15,7 @@ use Rattle.math_base.specs.declared.fields.goldilocks.F.{F}
 use Rattle.math_restoring.specs.Restored.{AreDistinct}
 use Rattle.math_shards.specs.Fitting.{distinct_among}
 use Rattle.math_shards.specs.Weights.{AreChosen}
-use Rattle.math_shards.proofs.SameCells.{nought}
+use Rattle.math_splitting.proofs.SameCells.{nought}
 use Rattle.math_shards.proofs.CountedIndices.{few_lost, weight, weight_kept}
 
 -- whether the number is one of these

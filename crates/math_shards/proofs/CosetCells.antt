@@ -12,8 +12,8 @@ use Rattle.math_transforms.proofs.MatrixRows.{cell-of_column}
 use Rattle.math_transforms.proofs.WrittenRows.{part-read, row-done}
 use Rattle.math_shards.specs.Cosets.{AreCosetValues, AreMultiples}
 use Rattle.math_shards.proofs.RootPowers.{dilated_values, nought-product, product-one, raised, raised-none}
-use Rattle.math_shards.proofs.SameCells.{nought}
-use Rattle.math_shards.proofs.StripColumns.{zeros-behind}
+use Rattle.math_splitting.proofs.SameCells.{nought}
+use Rattle.math_splitting.proofs.StripColumns.{zeros-behind}
 
 -- the first n rows of c cells are those of the elements from column `from` on, each times the power of the ratio that is its row
 abbrev pub HoldMultiples : List F → ℕ → ℕ → ℕ → F → ℕ → List F → Type 0

@@ -13,9 +13,9 @@ use Rattle.math_ntt.proofs.MatrixPlaces.{rows_are_full, rows_hold_cells}
 use Rattle.math_transforms.specs.DomainValues.{matrix_of}
 use Rattle.math_transforms.specs.Matrices.{MatrixOf, column_of}
 use Rattle.math_shards.specs.Cosets.{AreCosetValues, HasCosetCells, HasValuesFrom}
-use Rattle.math_shards.specs.Shards.{value_at_index}
+use Rattle.math_splitting.specs.Shards.{value_at_index}
 use Rattle.math_shards.proofs.RootPowers.{coset_point, raised}
-use Rattle.math_shards.proofs.SameCells.{nought, same_by_items}
+use Rattle.math_splitting.proofs.SameCells.{nought, same_by_items}
 
 -- the first n cells of the row are the values, at power `index` of the root of order 2^lg, of the polynomials whose coefficients are the first columns of m
 abbrev pub HasFirstValues : ℕ → MatrixOf F → ℕ → ℕ → List F → Type 0

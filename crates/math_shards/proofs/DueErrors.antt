@@ -5,9 +5,9 @@ use Rattle.std.specs.Result.{IfErr, IfOk, MatchResult}
 use Rattle.std.proofs.lemmas.List.Elements.{All-head, All-tail}
 use Rattle.math_shards.specs.declared.shards.Error.{Error}
 use Rattle.math_shards.specs.declared.shards.Error.TheVariants.{Memory, TooFew, Mismatch, Index, Conflict, Inconsistent}
-use Rattle.math_shards.specs.declared.shards.Shard.{Shard}
+use Rattle.math_splitting.specs.declared.shards.Shard.{Shard}
 use Rattle.math_shards.specs.Joining.{HasUnsound, HaveConflict, IsDueBeside, IsDueFor, IsDueOfRows, IsMemory, IsSound, IsUnsound, Matches, RefusesWhereDue}
-use Rattle.math_shards.specs.Shards.{JoinTo, distinct_indices}
+use Rattle.math_splitting.specs.Shards.{JoinTo, distinct_indices}
 use Rattle.math_shards.proofs.JoinedRows.{distinct_of_shards, fit_of_join, items_in, key_of}
 use Rattle.math_shards.proofs.JoinedShards.{joined_first, joined_no_conflict, joined_some, joined_sound}
 

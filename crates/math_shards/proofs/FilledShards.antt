@@ -9,9 +9,9 @@ use Rattle.std.proofs.lemmas.List.Sums.{sum_by-cons}
 use Rattle.math_theory.specs.Recovery.{count_true}
 use Rattle.math_base.specs.declared.fields.goldilocks.F.{F}
 use Rattle.math_ntt.specs.Evaluations.{EvaluationsOf}
-use Rattle.math_shards.specs.declared.shards.Shard.{Shard}
+use Rattle.math_splitting.specs.declared.shards.Shard.{Shard}
 use Rattle.math_shards.specs.Joining.{HoldsShards, IsSound}
-use Rattle.math_shards.specs.Shards.{distinct_indices, has_index}
+use Rattle.math_splitting.specs.Shards.{distinct_indices, has_index}
 
 -- where some shard has the index i, here is one
 pub index_found : (shards : List Shard) (i : ℕ) → has_index shards i ≡ true → Any (λ s. s.index ≡ i) shards

@@ -12,10 +12,10 @@ use Rattle.math_transforms.specs.Matrices.{IsOfSize, row_of, cell_of}
 use Rattle.math_ntt.specs.Evaluations.{EvaluationsOf, IsFilledAt}
 use Rattle.math_ntt.specs.MatrixPlaces.{IsFull}
 use Rattle.math_ntt.proofs.MatrixPlaces.{rows_are_full, rows_hold_cells, rows_are_filled_alone}
-use Rattle.math_shards.specs.declared.shards.Shard.{Shard}
-use Rattle.math_shards.specs.Shards.{has_index}
+use Rattle.math_splitting.specs.declared.shards.Shard.{Shard}
+use Rattle.math_splitting.specs.Shards.{has_index}
 use Rattle.math_restoring.proofs.ElementRing.{same_are_equal}
-use Rattle.math_shards.proofs.SameCells.{nought, same_by_items}
+use Rattle.math_splitting.proofs.SameCells.{nought, same_by_items}
 use Rattle.math_shards.specs.Joining.{IsSound, HaveConflict, HoldsShards}
 
 -- where the row of the shard's index is filled, it holds the cells of the shard

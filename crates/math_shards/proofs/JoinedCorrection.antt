@@ -6,12 +6,13 @@ use Rattle.std.proofs.lemmas.List.{get_or_default}
 use Rattle.std.proofs.lemmas.List.Elements.{All-filter, All-head, All-tail, All-weaker}
 use Rattle.std.proofs.lemmas.List.Folds.{list_any_at}
 use Rattle.math_base.specs.Elements.{same}
-use Rattle.math_shards.specs.declared.shards.Shard.{Shard}
+use Rattle.math_splitting.specs.declared.shards.Shard.{Shard}
 use Rattle.math_shards.specs.Correcting.{AreCorrected, CorrectTo, HasNumbersOf, are_same, is_settled, settled, settled_indices}
-use Rattle.math_shards.specs.Shards.{IsShardOf, JoinTo, distinct_indices, has_index}
+use Rattle.math_splitting.specs.Shards.{IsShardOf, JoinTo, distinct_indices, has_index}
 use Rattle.math_shards.proofs.CountedIndices.{few_lost, none_lost}
 use Rattle.math_shards.proofs.FilledShards.{index_found, index_there}
-use Rattle.math_shards.proofs.JoinedShards.{domain_of, same_shards}
+use Rattle.math_shards.proofs.JoinedShards.{same_shards}
+use Rattle.math_splitting.proofs.LeastDomains.{domain_of}
 use Rattle.math_shards.proofs.KeptItems.{kept-passes, kept_of}
 use Rattle.math_shards.proofs.SettledShards.{agrees, are_same-decides}
 

@@ -12,14 +12,15 @@ use Rattle.math_transforms.specs.DomainValues.{matrix_of}
 use Rattle.math_transforms.specs.Matrices.{IsOfSize, MatrixOf, column_of}
 use Rattle.math_shards.specs.declared.shards.Error.{Error}
 use Rattle.math_shards.specs.declared.shards.Error.TheVariants.{Memory, TooFew, Mismatch, Index, Conflict, Inconsistent}
-use Rattle.math_shards.specs.declared.shards.Shard.{Shard}
+use Rattle.math_splitting.specs.declared.shards.Shard.{Shard}
 use Rattle.math_shards.specs.Fitting.{AreDataOf, DoRowsFit, HasValuesOf, distinct_among}
 use Rattle.math_shards.specs.Joining.{HaveUnequalCells, IsDueOfRows, IsSound}
-use Rattle.math_shards.specs.Shards.{IsShardOf, JoinTo, distinct_indices, has_index, rows_for, value_at_index, width_for}
+use Rattle.math_splitting.specs.Shards.{IsShardOf, JoinTo, distinct_indices, has_index, rows_for, value_at_index, width_for}
 use Rattle.math_shards.proofs.ChosenRows.{distinct-most}
-use Rattle.math_shards.proofs.JoinedShards.{domain_of, joined_numbers}
-use Rattle.math_shards.proofs.SameCells.{nought}
-use Rattle.math_shards.proofs.ShardRows.{rows_are_whole}
+use Rattle.math_shards.proofs.JoinedShards.{joined_numbers}
+use Rattle.math_splitting.proofs.LeastDomains.{domain_of}
+use Rattle.math_splitting.proofs.SameCells.{nought}
+use Rattle.math_splitting.proofs.LaidOutData.{rows_are_whole}
 
 -- elements of data are in rows of the width that these need
 pub width_of_data : (words : List ℕ) (min width : ℕ) (elements : List F) → 1 ≤ min → length elements ≡ min * width → AreDataOf words min elements → width ≡ width_for min words

@@ -1,31 +1,19 @@
 -- Shards of some data: they are sound, no two of them are in conflict, and enough of them are there.
-use Rattle.std.proofs.Common.{◌≡◌, ℕ, ◌-◌, ◌<◌, ◌≤◌, ◌^◌, List, [], ◌∷◌, length, get_or, sym, ◌∙◌, ap, subst, arith}
+use Rattle.std.proofs.Common.{◌≡◌, ℕ, ◌-◌, ◌<◌, ◌^◌, List, [], ◌∷◌, length, get_or, sym, ◌∙◌, ap, subst, arith}
 use Rattle.std.specs.Int.{IsNextPowerOfTwo}
 use Rattle.std.specs.List.{All, AllZip}
 use Rattle.std.proofs.lemmas.List.Elements.{All-head, All-weaker}
-use Rattle.std.specs.Int.Count.{count_leading_zeros}
 use Rattle.math_base.specs.declared.fields.goldilocks.F.{F}
 use Rattle.math_base.specs.Elements.{number, residue, same}
 use Rattle.math_transforms.specs.Matrices.{column_of}
-use Rattle.math_transforms.proofs.PresentIndices.{lg-of_total, lg-only}
-use Rattle.math_shards.specs.declared.shards.Shard.{Shard}
+use Rattle.math_splitting.specs.declared.shards.Shard.{Shard}
 use Rattle.math_shards.specs.Joining.{HaveConflict, IsSound}
-use Rattle.math_shards.specs.ShardEncoding.{AreSameShards}
-use Rattle.math_shards.specs.Shards.{ChosenShardsJoin, IsSameAsOne, IsShardOf, JoinTo, rows_for, value_at_index, width_for}
+use Rattle.math_splitting.specs.ShardEncoding.{AreSameShards}
+use Rattle.math_splitting.specs.Shards.{ChosenShardsJoin, IsSameAsOne, IsShardOf, JoinTo, rows_for, value_at_index, width_for}
 use Rattle.math_shards.proofs.FilledShards.{no_indices}
+use Rattle.math_splitting.proofs.LeastDomains.{domain_of}
 use Rattle.math_restoring.proofs.ElementRing.{same_are_equal}
-use Rattle.math_shards.proofs.SameCells.{nought, same_by_items}
-
--- the least domain of `total` points
-pub domain_of : (total : ℕ) → 1 ≤ total → total < 2 ^ 32 → (lg : ℕ) × IsNextPowerOfTwo total (2 ^ lg) × (lg ≤ 32)
-domain_of total some short = (32 - count_leading_zeros 32 (total - 1), lg-of_total total (omega (arith, some)) (omega (arith, short)), omega arith)
-
--- it has at most 2^32
-pub domain_is_small : (total lg : ℕ) → 1 ≤ total → total < 2 ^ 32 → IsNextPowerOfTwo total (2 ^ lg) → lg ≤ 32
-domain_is_small total lg some short next =
-    let domain = domain_of total some short in
-    let e : lg ≡ domain.0 = lg-only total lg domain.0 (omega (arith, some)) next domain.1 in
-    omega (arith, e, domain.2)
+use Rattle.math_splitting.proofs.SameCells.{nought, same_by_items}
 
 -- shards of one index for the same data have same cells
 pub same_shards : (words : List ℕ) (min total lg : ℕ) (s t : Shard) → IsNextPowerOfTwo total (2 ^ lg) → IsShardOf words min total s → IsShardOf words min total t → s.index ≡ t.index

@@ -1,4 +1,3 @@
-pub mod SameCells
 pub mod CheckedSizes
 pub mod TakenCells
 pub mod PackedData
@@ -10,7 +9,6 @@ pub mod DueErrors
 pub mod ShardRows
 pub mod RecoveredShards
 pub mod OnlyData
-pub mod LaidOutData
 pub mod KeptItems
 pub mod SettledShards
 pub mod CountedIndices
@@ -18,13 +16,6 @@ pub mod CorrectedShards
 pub mod UnlikeRows
 pub mod JoinedCorrection
 pub mod SplitShards
-pub mod PackedWords
-pub mod StripColumns
-pub mod StripSizes
-pub mod BegunShards
-pub mod WrittenColumns
-pub mod SourceWords
-pub mod SpelledWords
 pub mod WeightedColumns
 pub mod ChosenRows
 pub mod UnitShards

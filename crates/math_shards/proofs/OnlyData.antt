@@ -14,14 +14,16 @@ use Rattle.math_ntt.specs.MatrixPlaces.{IsFull}
 use Rattle.math_transforms.specs.Matrices.{column_of}
 use Rattle.math_ntt.specs.PolynomialRows.{HaveSamePolynomials}
 use Rattle.math_ntt.proofs.MatrixPlaces.{columns_are_full}
-use Rattle.math_shards.specs.declared.shards.Shard.{Shard}
-use Rattle.math_shards.specs.Shards.{IsShardOf, JoinTo, counted, distinct_indices, has_index, rows_for, value_at_index, width_for}
+use Rattle.math_splitting.specs.declared.shards.Shard.{Shard}
+use Rattle.math_splitting.specs.Shards.{IsShardOf, JoinTo, counted, distinct_indices, has_index, rows_for, value_at_index, width_for}
 use Rattle.math_shards.proofs.FilledShards.{count_marks}
-use Rattle.math_shards.proofs.JoinedShards.{domain_of, joined_first, joined_numbers, joined_some}
+use Rattle.math_shards.proofs.JoinedShards.{joined_first, joined_numbers, joined_some}
+use Rattle.math_splitting.proofs.LeastDomains.{domain_of}
 use Rattle.math_shards.proofs.PackedData.{data_stand}
 use Rattle.math_shards.proofs.RecoveredShards.{fits_shards, same_fits}
-use Rattle.math_shards.proofs.SameCells.{nought}
-use Rattle.math_shards.proofs.ShardRows.{cells_of_recovered, rows_are_whole}
+use Rattle.math_splitting.proofs.SameCells.{nought}
+use Rattle.math_shards.proofs.ShardRows.{cells_of_recovered}
+use Rattle.math_splitting.proofs.LaidOutData.{rows_are_whole}
 
 -- where enough shards are of two lists of data, the columns of both are the same polynomials
 same_columns : (lg min total : ℕ) (words others : List ℕ) (shards : List Shard) → lg ≤ 32 → IsNextPowerOfTwo total (2 ^ lg) → min ≤ distinct_indices total shards

@@ -10,7 +10,7 @@ use Rattle.math_base.specs.Packing.{word_bits, element_bits, elements_of, words_
 use Rattle.math_base.specs.declared.fields.goldilocks.F.{F}
 use Rattle.math_base.proofs.BitFronts.{pieces_below}
 use Rattle.math_base.proofs.Packing.{map-number-residue, element_bits-append}
-use Rattle.math_shards.specs.Shards.{counted, elements_for, with_zeros}
+use Rattle.math_splitting.specs.Shards.{counted, elements_for, with_zeros}
 
 -- packed words, whatever elements follow, unpack to these words and further ones
 words_stand : (words : List ℕ) (others : List F) → All (λ word. word < 2 ^ 64) words → (rest : List ℕ) × (words_of (elements_of words ++ others) ≡ words ++ rest)

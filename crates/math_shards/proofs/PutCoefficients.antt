@@ -1,9 +1,8 @@
 -- Coefficients that are written column by column over the cells of rows.
-use Rattle.std.proofs.Common.{◌≡◌, ◌∙◌, inl, inr, ℕ, ◌+◌, ◌*◌, ◌<◌, ◌≤◌, ◌++◌, List, [], ◌∷◌, length, drop, take, get_or, refl, sym, ap, arith}
+use Rattle.std.proofs.Common.{◌≡◌, ◌∙◌, inl, inr, ℕ, ◌+◌, ◌*◌, ◌<◌, ◌≤◌, ◌++◌, List, length, drop, take, get_or, refl, sym, ap, arith}
 use Rattle.std.proofs.Math.ListN.{set}
 use Rattle.std.proofs.lemmas.Bool.{cases_lt}
-use Rattle.std.proofs.lemmas.List.{append-nil, drop_all, ext_get_or, get_or_default, take_all, take_more}
-use Rattle.std.proofs.lemmas.Nat.{mul-add-lt}
+use Rattle.std.proofs.lemmas.List.{append-nil, drop_all, ext_get_or, take_all}
 use Rattle.math_theory.specs.Sums.{weighted_sum}
 use Rattle.math_base.specs.declared.fields.goldilocks.F.{F}
 use Rattle.math_base.specs.Elements.{product, sum}
@@ -12,28 +11,12 @@ use Rattle.math_transforms.specs.DomainValues.{matrix_of}
 use Rattle.math_transforms.specs.Matrices.{MatrixOf, column_of, row_of}
 use Rattle.math_transforms.proofs.MatrixRows.{cell-of_column}
 use Rattle.math_shards.specs.Weights.{coefficient_of}
-use Rattle.math_shards.proofs.SameCells.{nought}
+use Rattle.math_splitting.proofs.GatheredColumns.{column_in}
+use Rattle.math_splitting.proofs.SameCells.{nought}
 
--- the column of these cells
-abbrev pub column_in : ℕ → ℕ → List F → ℕ → List F
-column_in count width cells k = column_of nought (matrix_of count width cells) k
-
--- it has an item for each row
+-- a column has an item for each row
 pub column-count : (count width k : ℕ) (cells room : List F) → room ≡ column_in count width cells k → length room ≡ count
 column-count count width k cells room is = ap length is ∙ columns_are_full (matrix_of count width cells) k nought
-
--- one item more of a column
-pub column-next : (count width k r : ℕ) (cells : List F) (x : F) → length cells ≡ count * width → k < width → r < count → x ≡ get_or cells (r * width + k) x
-    → take (r + 1) (column_in count width cells k) ≡ take r (column_in count width cells k) ++ x ∷ []
-column-next count width k r cells x size l b is =
-    let m = matrix_of count width cells in
-    let place : r * width + k < length cells = omega (arith, size, mul-add-lt r width k count b l) in
-    let item : get_or (column_of nought m k) r nought ≡ x = cell-of_column nought m k r l size ∙ get_or_default cells (r * width + k) nought x place ∙ sym is in
-    take_more (column_of nought m k) r nought (omega (arith, b, columns_are_full m k nought)) ∙ ap (λ y. take r (column_of nought m k) ++ y ∷ []) item
-
--- all items
-pub column-whole : (count width k r : ℕ) (cells : List F) → count ≤ r → take r (column_in count width cells k) ≡ column_in count width cells k
-column-whole count width k r cells b = let m = matrix_of count width cells in take_all r (column_of nought m k) (omega (arith, b, columns_are_full m k nought))
 
 -- the first r cells of a column have these values, and the cells of the other columns are as they were
 pub record IsColumnPut (rows width column : ℕ) (value : ℕ → F) (start : List F) (r : ℕ) (cells : List F) : Type 0 where

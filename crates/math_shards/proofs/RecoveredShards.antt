@@ -16,11 +16,11 @@ use Rattle.math_ntt.specs.Evaluations.{EvaluationsOf}
 use Rattle.math_ntt.specs.MatrixPlaces.{IsFull}
 use Rattle.math_transforms.specs.Matrices.{MatrixOf, column_of, row_of}
 use Rattle.math_ntt.proofs.MatrixPlaces.{columns_hold_cells, rows_are_full, rows_hold_cells}
-use Rattle.math_shards.specs.declared.shards.Shard.{Shard}
+use Rattle.math_splitting.specs.declared.shards.Shard.{Shard}
 use Rattle.math_shards.specs.Joining.{HoldsShards}
-use Rattle.math_shards.specs.Shards.{has_index, value_at_index}
+use Rattle.math_splitting.specs.Shards.{has_index, value_at_index}
 use Rattle.math_shards.proofs.FilledShards.{index_found}
-use Rattle.math_shards.proofs.SameCells.{nought}
+use Rattle.math_splitting.proofs.SameCells.{nought}
 
 -- p has the filled cells as its values at the powers of the root of order 2^lg, and no more coefficients than these
 abbrev pub FitsCells : ℕ → List F → List Bool → List F → Type 0

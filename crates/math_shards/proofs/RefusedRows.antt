@@ -12,7 +12,7 @@ use Rattle.math_shards.specs.Fitting.{distinct_among}
 use Rattle.math_shards.specs.Joining.{ArePlacesByIndex, HaveUnequalCells}
 use Rattle.math_shards.proofs.ChosenRows.{is_one_of}
 use Rattle.math_shards.proofs.CountedIndices.{weight}
-use Rattle.math_shards.proofs.SameCells.{same_as_one, same_by_items}
+use Rattle.math_splitting.proofs.SameCells.{same_as_one, same_by_items}
 
 -- two lists of one length have as many items that pass, where those in one place pass alike
 counted_alike : {X Y : Type 0} (p : X → Bool) (q : Y → Bool) (xs : List X) (ys : List Y) (d : X) (e : Y) → length xs ≡ length ys

@@ -17,8 +17,8 @@ use Rattle.math_base.specs.Packing.{elements_of}
 use Rattle.math_base.proofs.BitFronts.{number-take-bits, number_below}
 use Rattle.math_base.proofs.ElementNumbers.{residue-number}
 use Rattle.math_shards.specs.Unpacking.{AreRepacked, first_words, repacked_at}
-use Rattle.math_shards.proofs.PackedWords.{element_bits_at, from_word}
-use Rattle.math_shards.proofs.SameCells.{nought}
+use Rattle.math_splitting.proofs.PackedWords.{element_bits_at, from_word}
+use Rattle.math_splitting.proofs.SameCells.{nought}
 
 -- the bits of the first pieces are the first bits
 pub joined_pieces_first : (k m : ℕ) (bs : List ℕ) → All IsBit bs → k * m ≤ length bs → joined k (pieces k m bs) ≡ take (k * m) bs

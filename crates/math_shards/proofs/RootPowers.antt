@@ -16,7 +16,7 @@ use Rattle.math_base.specs.ElementRootLaws.{roots}
 use Rattle.math_base.specs.Elements.{number, residue, root_of, same, sum, product}
 use Rattle.math_base.specs.Roots.{root}
 use Rattle.math_base.proofs.ElementNumbers.{residue-number}
-use Rattle.math_shards.proofs.SameCells.{nought}
+use Rattle.math_splitting.proofs.SameCells.{nought}
 
 -- the ring of the classes of same elements
 abbrev pub C : CommutativeRing (Class equality)

@@ -10,7 +10,7 @@ use Rattle.math_base.specs.Elements.{number, residue, same}
 use Rattle.math_base.proofs.ElementNumbers.{same_number}
 use Rattle.math_transforms.proofs.PlaceByPlace.{AllZip-next}
 use Rattle.math_transforms.proofs.WrittenRows.{part-read}
-use Rattle.math_shards.proofs.SameCells.{nought, same_by_items}
+use Rattle.math_splitting.proofs.SameCells.{nought, same_by_items}
 
 -- the element of one word more
 pub words-more : (words : List ℕ) (i : ℕ) (old items new : List F) (x : F) → i < length words → number x ≡ get_or words i 0 % P → items ≡ old ++ map residue (take i words)

@@ -8,7 +8,7 @@ use Rattle.math_base.specs.declared.fields.goldilocks.F.{F}
 use Rattle.math_base.specs.Elements.{number, same}
 use Rattle.math_transforms.specs.Matrices.{row_of}
 use Rattle.math_ntt.specs.Evaluations.{EvaluationsOf, IsFilledAt}
-use Rattle.math_shards.specs.declared.shards.Shard.{Shard}
+use Rattle.math_splitting.specs.declared.shards.Shard.{Shard}
 use Rattle.math_shards.specs.Correcting.{are_same, is_settled, settled}
 use Rattle.math_shards.specs.Joining.{HaveConflict, IsSound}
 use Rattle.math_shards.proofs.GatheredShards.{HoldsFirst, conflict_at, holds_more}

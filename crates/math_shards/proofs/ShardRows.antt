@@ -1,10 +1,9 @@
--- The rows that data fill: their cells, and matrices whose columns are the same polynomials.
-use Rattle.std.proofs.Common.{◌≡◌, inl, inr, ℕ, zero, suc, ◌+◌, ◌-◌, ◌*◌, ◌/◌, ◌%◌, ◌<◌, ◌≤◌, List, length, take, get_or, replicate, refl, sym, ◌∙◌, ap, ap₂, mul-zero, arith}
+-- Matrices whose columns are the same polynomials, and the cells of the rows that data fill.
+use Rattle.std.proofs.Common.{◌≡◌, inl, inr, ℕ, zero, suc, ◌+◌, ◌-◌, ◌*◌, ◌/◌, ◌%◌, ◌<◌, ◌≤◌, List, take, get_or, refl, sym, ◌∙◌, ap, ap₂, mul-zero, arith}
 use Rattle.std.proofs.Math.Nat.{mul_comm}
 use Rattle.std.proofs.lemmas.Bool.{cases_lt}
-use Rattle.std.proofs.lemmas.List.{get_or_past, get_or-take, length-append, length-replicate, length-take-le}
+use Rattle.std.proofs.lemmas.List.{get_or_past, get_or-take, length-take-le}
 use Rattle.std.proofs.lemmas.Nat.{mul-add-lt, mul-le}
-use Rattle.math_numbers.proofs.BitPieces.{piece_count-enough}
 use Rattle.math_base.specs.declared.fields.goldilocks.F.{F}
 use Rattle.math_base.specs.Elements.{number, same}
 use Rattle.math_ntt.specs.MatrixPlaces.{IsFull}
@@ -13,16 +12,10 @@ use Rattle.math_transforms.specs.Matrices.{AreSameMatrices, IsOfSize, MatrixOf, 
 use Rattle.math_ntt.specs.PolynomialRows.{HaveSamePolynomials}
 use Rattle.math_transforms.proofs.MatrixRows.{cell-of_column}
 use Rattle.math_shards.specs.Joining.{ArePolynomialsOf}
-use Rattle.math_shards.specs.Shards.{elements_for, rows_for, width_for}
+use Rattle.math_splitting.specs.Shards.{rows_for, width_for}
 use Rattle.math_restoring.proofs.ElementRing.{same_are_equal}
-use Rattle.math_shards.proofs.SameCells.{nought, same_by_items}
-
--- the rows hold all elements, and zeros where some cells are left
-pub rows_are_whole : (min : ℕ) (words : List ℕ) → 1 ≤ min → IsFull (rows_for min words)
-rows_are_whole min words some =
-    let n = length (elements_for words) in
-    let all = min * width_for min words in
-    omega (arith, piece_count-enough min n (omega (arith, some)), length-append (elements_for words) (replicate (all - n) nought), length-replicate (all - n) nought)
+use Rattle.math_splitting.proofs.LaidOutData.{rows_are_whole}
+use Rattle.math_splitting.proofs.SameCells.{nought, same_by_items}
 
 -- where the columns are the same polynomials, so are the cells of the rows that both have
 same_cells_at : (rows : ℕ) (q m : MatrixOf F) → IsFull q → IsFull m → q.cols ≡ m.cols → HaveSamePolynomials same nought q m

@@ -7,9 +7,9 @@ use Rattle.math_transforms.specs.Matrices.{IsOfSize, MatrixOf, cell_of, column_o
 use Rattle.math_ntt.specs.PolynomialRows.{HaveSamePolynomials}
 use Rattle.math_ntt.proofs.MatrixPlaces.{rows_are_full, rows_hold_cells}
 use Rattle.math_ntt.proofs.PaddedPolynomials.{next_power_of_two-once}
-use Rattle.math_shards.specs.declared.shards.Shard.{Shard}
-use Rattle.math_shards.specs.Shards.{IsShardOf, rows_for, value_at_index, width_for}
-use Rattle.math_shards.proofs.SameCells.{nought}
+use Rattle.math_splitting.specs.declared.shards.Shard.{Shard}
+use Rattle.math_splitting.specs.Shards.{IsShardOf, rows_for, value_at_index, width_for}
+use Rattle.math_splitting.proofs.SameCells.{nought}
 use Rattle.math_restoring.proofs.CombinedColumns.{same_values}
 
 -- the cell of v in row j and column k is the value, at power j of the root, of column k of p

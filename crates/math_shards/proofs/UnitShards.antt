@@ -14,14 +14,14 @@ use Rattle.math_transforms.specs.Matrices.{IsOfSize, MatrixOf, column_of}
 use Rattle.math_transforms.proofs.MissingPlaces.{count_both}
 use Rattle.math_transforms.proofs.PresentIndices.{lg-only}
 use Rattle.math_restoring.specs.Restored.{AreDistinct}
-use Rattle.math_shards.specs.declared.shards.Shard.{Shard}
+use Rattle.math_splitting.specs.declared.shards.Shard.{Shard}
 use Rattle.math_shards.specs.Joining.{HoldsShards, IsSound}
-use Rattle.math_shards.specs.Shards.{has_index, value_at_index}
+use Rattle.math_splitting.specs.Shards.{has_index, value_at_index}
 use Rattle.math_shards.specs.Weights.{AreUnitShards, AreWeightsOf, weight_polynomial}
 use Rattle.math_shards.proofs.ChosenRows.{count-kept, is_one_of}
 use Rattle.math_shards.proofs.FilledShards.{count_filled, index_there}
 use Rattle.math_shards.proofs.RecoveredShards.{FitColumns, cell_of_shard}
-use Rattle.math_shards.proofs.SameCells.{nought}
+use Rattle.math_splitting.proofs.SameCells.{nought}
 use Rattle.math_restoring.proofs.CombinedColumns.{same_values}
 
 -- the index of a shard

@@ -20,15 +20,15 @@ use Rattle.math_base.proofs.ElementNumbers.{same_number}
 use Rattle.math_base.proofs.Packing.{length-words_of}
 use Rattle.math_transforms.proofs.WrittenRows.{part-read}
 use Rattle.math_shards.specs.Fitting.{AreDataOf}
-use Rattle.math_shards.specs.Shards.{counted, elements_for, width_for, with_zeros}
+use Rattle.math_splitting.specs.Shards.{counted, elements_for, width_for, with_zeros}
 use Rattle.math_shards.specs.Unpacking.{AreRepacked, AreUnpacked, first_words, word_between}
 use Rattle.math_shards.proofs.JoinedRows.{width_of_data}
-use Rattle.math_shards.proofs.LaidOutData.{rounded_up, zeros_alone}
+use Rattle.math_splitting.proofs.LaidOutData.{rounded_up, zeros_alone}
 use Rattle.math_shards.proofs.PackedData.{data_stand}
-use Rattle.math_shards.proofs.PackedWords.{counted-behind, cut_at, from_between}
+use Rattle.math_splitting.proofs.PackedWords.{counted-behind, cut_at, from_between}
 use Rattle.math_shards.proofs.RepackedElements.{packed_below}
-use Rattle.math_shards.proofs.SameCells.{nought}
-use Rattle.math_shards.proofs.StripSizes.{count_elements, width_of_words}
+use Rattle.math_splitting.proofs.SameCells.{nought}
+use Rattle.math_splitting.proofs.StripSizes.{count_elements, width_of_words}
 
 -- A word from two elements.
 

@@ -16,11 +16,11 @@ use Rattle.math_transforms.specs.Matrices.{pieces}
 use Rattle.math_values.specs.Values.{AreElements, elements}
 use Rattle.math_shards.specs.declared.shards.Error.{Error}
 use Rattle.math_shards.specs.declared.shards.Error.TheVariants.{TooFew, Mismatch, Index}
-use Rattle.math_shards.specs.declared.shards.Shard.{Shard}
+use Rattle.math_splitting.specs.declared.shards.Shard.{Shard}
 use Rattle.math_shards.specs.declared.shards.rows.WordRow.{WordRow}
 use Rattle.math_shards.specs.Fitting.{DoRowsFit}
 use Rattle.math_shards.specs.Joining.{HasUnsound, IsDueOfRows, IsMemory, IsSound, Matches}
-use Rattle.math_shards.specs.ShardRows.{AreRefused, AreWordShards, DoJoinTo}
+use Rattle.math_shards.specs.WordShards.{AreRefused, AreWordShards, DoJoinTo}
 use Rattle.math_shards.proofs.DueErrors.{rows_due}
 use Rattle.math_shards.proofs.JoinedRows.{due_alike, fit_alike, items_in, join_of_fit, key_of}
 

@@ -5,10 +5,10 @@ use Rattle.std.specs.List.Sorted.{IsStrictlyIncreasing}
 use Rattle.math_base.specs.declared.fields.goldilocks.F.{F}
 use Rattle.math_base.specs.Elements.{number, same}
 use Rattle.math_transforms.specs.Matrices.{MatrixOf, row_of}
-use Rattle.math_shards.specs.declared.shards.Shard.{Shard}
+use Rattle.math_splitting.specs.declared.shards.Shard.{Shard}
 use Rattle.math_shards.specs.declared.shards.Error.{Error}
 use Rattle.math_shards.specs.Joining.{IsDueFor, RefusesWhereDue}
-use Rattle.math_shards.specs.Shards.{IsShardOf, JoinTo, distinct_indices, width_for}
+use Rattle.math_splitting.specs.Shards.{IsShardOf, JoinTo, distinct_indices, width_for}
 
 -- whether both lists of elements are same, place by place
 abbrev pub are_same : List F → List F → Bool

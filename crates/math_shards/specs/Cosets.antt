@@ -7,7 +7,7 @@ use Rattle.math_base.specs.declared.fields.goldilocks.F.{F}
 use Rattle.math_base.specs.Elements.{residue, root_of, same, sum, product}
 use Rattle.math_transforms.specs.DomainValues.{matrix_of}
 use Rattle.math_transforms.specs.Matrices.{MatrixOf, cell_of, column_of}
-use Rattle.math_shards.specs.Shards.{value_at_index}
+use Rattle.math_splitting.specs.Shards.{value_at_index}
 
 -- each cell is the item in its place times the factor
 abbrev pub AreMultiples : List F → F → List F → Type 0

@@ -5,7 +5,7 @@ use Rattle.std.specs.List.{list_any, range_with_len}
 use Rattle.math_base.specs.declared.fields.goldilocks.F.{F}
 use Rattle.math_base.specs.Elements.{residue, same}
 use Rattle.math_transforms.specs.Matrices.{MatrixOf, column_of}
-use Rattle.math_shards.specs.Shards.{elements_for, rows_for, value_at_index, width_for, with_zeros}
+use Rattle.math_splitting.specs.Shards.{elements_for, rows_for, value_at_index, width_for, with_zeros}
 
 -- how many of the numbers below n are among the indices
 abbrev pub distinct_among : ℕ → List ℕ → ℕ

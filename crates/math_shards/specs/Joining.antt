@@ -6,11 +6,11 @@ use Rattle.math_base.specs.declared.fields.goldilocks.F.{F}
 use Rattle.math_ntt.specs.Evaluations.{EvaluationsOf}
 use Rattle.math_transforms.specs.Matrices.{MatrixOf, IsOfSize, row_of}
 use Rattle.math_ntt.specs.PolynomialRows.{HaveSamePolynomials}
-use Rattle.math_shards.specs.declared.shards.Shard.{Shard}
+use Rattle.math_splitting.specs.declared.shards.Shard.{Shard}
 use Rattle.math_shards.specs.declared.shards.Error.{Error}
 use Rattle.math_shards.specs.declared.shards.Error.TheVariants.{Memory, TooFew, Mismatch, Index, Conflict, Inconsistent}
 use Rattle.math_shards.specs.Fitting.{DoRowsFit, distinct_among}
-use Rattle.math_shards.specs.Shards.{JoinTo, distinct_indices, has_index, rows_for, width_for}
+use Rattle.math_splitting.specs.Shards.{JoinTo, distinct_indices, has_index, rows_for, width_for}
 
 -- the shard has the numbers of the first one and as many cells, and its numbers are such as shards have
 pub record Matches (first s : Shard) : Type 0 where

@@ -1,12 +1,7 @@
-pub mod DataWords
-pub mod Shards
-pub mod Strips
 pub mod Unpacking
-pub mod ShardRows
+pub mod WordShards
 pub mod Weights
 pub mod Fitting
 pub mod Cosets
 pub mod Joining
 pub mod Correcting
-pub mod ShardEncoding
-pub mod ShardEncodingLaws

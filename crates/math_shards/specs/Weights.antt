@@ -9,9 +9,9 @@ use Rattle.math_base.specs.Elements.{residue, same, sum, product}
 use Rattle.math_transforms.specs.DomainValues.{matrix_of}
 use Rattle.math_transforms.specs.Matrices.{MatrixOf, column_of, row_of}
 use Rattle.math_restoring.specs.Restored.{AreDistinct}
-use Rattle.math_shards.specs.declared.shards.Shard.{Shard}
+use Rattle.math_splitting.specs.declared.shards.Shard.{Shard}
 use Rattle.math_shards.specs.Fitting.{distinct_among}
-use Rattle.math_shards.specs.Shards.{value_at_index}
+use Rattle.math_splitting.specs.Shards.{value_at_index}
 
 -- of some rows, all of them if they are as many, these are the indices, of which none stands twice, and the cells one row after the other
 pub record AreChosen {R : Type 0} (index : R → ℕ) (cells : R → List F) (rows : List R) (indices : List ℕ) (found : List F) : Type 0 where

@@ -1,7 +1,7 @@
 //! What follows from the contracts of `split`, `join` and `join_corrected` together.
 
 ghost use Rattle.math_shards.specs.Correcting.{HaveOneCorrection, JoinedAreCorrect};
-ghost use Rattle.math_shards.specs.Shards.{ChosenShardsJoin, HaveOneData};
+ghost use Rattle.math_splitting.specs.Shards.{ChosenShardsJoin, HaveOneData};
 
 /// Shards give at most one list of data back, and any `min` shards of a `split` with distinct
 /// indices give back what was split. So do shards that are the same as these, as copies are, and

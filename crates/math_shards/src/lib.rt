@@ -1,4 +1,5 @@
-//! Data cut into shards of which any `min` give them back.
+//! Shards to data, some of them wrong or none: the layer above `math_splitting`, which makes shards
+//! of data and is handed on.
 #![tactic(auto)]
 
 pub mod laws;

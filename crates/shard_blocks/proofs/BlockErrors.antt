@@ -4,7 +4,7 @@ use Rattle.std.specs.List.{All}
 use Rattle.std.specs.Result.{IfErr}
 use Rattle.math_shards.specs.declared.shards.Error.{Error}
 use Rattle.math_shards.specs.declared.shards.Error.TheVariants.{Memory, TooFew, Mismatch, Index, Conflict, Inconsistent}
-use Rattle.math_shards.specs.declared.shards.Shard.{Shard}
+use Rattle.math_splitting.specs.declared.shards.Shard.{Shard}
 use Rattle.math_shards.specs.Joining.{IsDueFor, IsSound, RefusesWhereDue}
 use Rattle.shard_blocks.specs.BlockWords.{AreBytes, IsBlockOf, words_of_bytes}
 use Rattle.shard_blocks.proofs.UnpackedBytes.{words_once}

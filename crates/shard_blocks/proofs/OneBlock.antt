@@ -8,9 +8,10 @@ use Rattle.math_base.proofs.BitFronts.{pieces_below}
 use Rattle.math_numbers.specs.Bits.{cut, piece_count}
 use Rattle.math_numbers.proofs.BitLists.{joined-are_bits, length-joined}
 use Rattle.math_numbers.proofs.BitPieces.{length-cut}
-use Rattle.math_shards.specs.declared.shards.Shard.{Shard}
-use Rattle.math_shards.specs.Shards.{AreShardsOf, IsSameAsOne, IsShardOf, JoinTo, distinct_indices}
-use Rattle.math_shards.proofs.JoinedShards.{chosen_join, domain_of, joined_first, joined_some, same_shards}
+use Rattle.math_splitting.specs.declared.shards.Shard.{Shard}
+use Rattle.math_splitting.specs.Shards.{AreShardsOf, IsSameAsOne, IsShardOf, JoinTo, distinct_indices}
+use Rattle.math_shards.proofs.JoinedShards.{chosen_join, joined_first, joined_some, same_shards}
+use Rattle.math_splitting.proofs.LeastDomains.{domain_of}
 use Rattle.math_shards.proofs.OnlyData.{only_data}
 use Rattle.shard_blocks.specs.Blocks.{ChosenShardsGiveBlock, HaveOneBlock, JoinToBlock, LostShardsComeBack}
 use Rattle.shard_blocks.specs.BlockWords.{AreBytes, byte_bits, words_of_bytes}

@@ -5,10 +5,10 @@ use Rattle.std.proofs.lemmas.Bool.{cases_lt}
 use Rattle.std.proofs.lemmas.List.{get_or_default}
 use Rattle.std.proofs.lemmas.List.Edits.{get_or-remove_above, get_or-remove_below, length-remove}
 use Rattle.std.proofs.lemmas.List.Elements.{All-append, All-drop, All-take}
-use Rattle.math_shards.specs.declared.shards.Shard.{Shard}
+use Rattle.math_splitting.specs.declared.shards.Shard.{Shard}
 use Rattle.math_shards.specs.Correcting.{HasNumbersOf}
 use Rattle.math_shards.specs.Joining.{IsSound}
-use Rattle.math_shards.specs.Shards.{IsShardOf, JoinTo}
+use Rattle.math_splitting.specs.Shards.{IsShardOf, JoinTo}
 use Rattle.math_shards.proofs.JoinedCorrection.{one_index_wrong}
 use Rattle.math_shards.proofs.JoinedShards.{joined_numbers, joined_some}
 use Rattle.shard_blocks.specs.BlockWords.{words_of_bytes}

@@ -2,10 +2,10 @@
 use Rattle.std.specs.Prelude.{◌≡◌, ℕ, ◌<◌, ◌≤◌, ◌^◌, List, All, Result}
 use Rattle.std.specs.Int.{to_be_bytes, w64}
 use Rattle.std.specs.List.{flat_map}
-use Rattle.math_shards.specs.declared.shards.Shard.{Shard}
+use Rattle.math_splitting.specs.declared.shards.Shard.{Shard}
 use Rattle.math_shards.specs.declared.shards.Error.{Error}
-use Rattle.math_shards.specs.Shards.{AreShardsOf, IsSameAsOne, IsShardOf, JoinTo, distinct_indices}
-use Rattle.math_shards.specs.ShardRows.{AreRowsOfShards}
+use Rattle.math_splitting.specs.Shards.{AreShardsOf, IsSameAsOne, IsShardOf, JoinTo, distinct_indices}
+use Rattle.math_splitting.specs.ShardRows.{AreRowsOfShards}
 use Rattle.math_shards.specs.Joining.{HaveConflict, IsDueFor, RefusesWhereDue}
 use Rattle.shard_blocks.specs.BlockWords.{AreBytes, words_of_bytes}
 

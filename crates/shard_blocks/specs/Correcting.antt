@@ -1,11 +1,11 @@
 -- Shards of which some are wrong, and the block of bytes that most of them have.
 use Rattle.std.specs.Prelude.{◌≡◌, ℕ, ◌+◌, ◌<◌, ◌≤◌, List, [], ◌∷◌, length, All, Result}
 use Rattle.std.specs.List.{remove}
-use Rattle.math_shards.specs.declared.shards.Shard.{Shard}
+use Rattle.math_splitting.specs.declared.shards.Shard.{Shard}
 use Rattle.math_shards.specs.declared.shards.Error.{Error}
 use Rattle.math_shards.specs.Correcting.{AreCorrected, CorrectTo, settled_indices}
 use Rattle.math_shards.specs.Joining.{IsDueFor, IsSound, RefusesWhereDue}
-use Rattle.math_shards.specs.Shards.{distinct_indices}
+use Rattle.math_splitting.specs.Shards.{distinct_indices}
 use Rattle.shard_blocks.specs.Blocks.{JoinToBlock}
 use Rattle.shard_blocks.specs.BlockWords.{AreBytes, words_of_bytes}
 

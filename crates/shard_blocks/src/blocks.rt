@@ -2,7 +2,7 @@
 
 ghost use Rattle.std.specs.Prelude.{◌≡◌, ◌*◌, ◌<◌, ◌≤◌, ℕ, All, List, length, IfOk, IfErr, MatchResult, OnErr, OnOk};
 ghost use Rattle.math_shards.specs.Joining.{IsMemory};
-ghost use Rattle.math_shards.specs.Shards.{AreShardsAt, AreShardsOf, width_for};
+ghost use Rattle.math_splitting.specs.Shards.{AreShardsAt, AreShardsOf, width_for};
 ghost use Rattle.math_shards.specs.declared.shards.Error.TheVariants.{TooFew, Mismatch, Index};
 ghost use Rattle.math_shards.specs.declared.shards.Error.TheVariants.{Conflict, Inconsistent};
 ghost use Rattle.shard_blocks.specs.BlockWords.{words_of_bytes};

@@ -4,7 +4,7 @@ ghost use Rattle.std.specs.Prelude.{◌≡◌, ◌↔◌, ◌+◌, ◌-◌, ◌*
 ghost use Rattle.std.specs.Prelude.{IsTrue, IfOk, IfSome, IsSomeAnd};
 ghost use Rattle.std.specs.Int.{from_le_bytes, to_le_bytes, w64};
 ghost use Rattle.std.specs.List.{flat_map};
-ghost use Rattle.math_shards.specs.DataWords.{words_in};
+ghost use Rattle.math_splitting.specs.DataWords.{words_in};
 ghost use Rattle.shard_blocks.specs.BlockWords.{IsBlockOf, words_of_bytes};
 
 use math_base::algebra::Mem;

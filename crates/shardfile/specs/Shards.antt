@@ -1,6 +1,6 @@
 -- Which shards a block is joined from.
 use Rattle.std.specs.Prelude.{◌≡◌}
-use Rattle.math_shards.specs.declared.shards.Shard.{Shard}
+use Rattle.math_splitting.specs.declared.shards.Shard.{Shard}
 use Rattle.shard_format.specs.declared.header.Header.{Header}
 
 -- the `min` and `total` of the shard are those of the split

@@ -16,12 +16,12 @@ ghost use Rattle.math_base.specs.Elements.{product, residue, root_of, same};
 ghost use Rattle.math_shards.specs.Cosets.{AreCosetValues, AreMultiples};
 ghost use Rattle.math_shards.specs.Cosets.{HasCosetCells, HasValuesFrom};
 ghost use Rattle.math_shards.specs.Fitting.{HasValuesOf};
-ghost use Rattle.math_shards.specs.Strips.{IsTableOf};
+ghost use Rattle.math_splitting.specs.Strips.{IsTableOf};
 
 use super::rows::Row;
-use super::strips::{Layout, strip_room};
 use math_base::algebra::Mem;
 use math_base::fields::goldilocks::F;
+use math_splitting::shards::{Layout, strip_room};
 use math_transforms::transform::{evaluate_rows, evaluation_table, lg_of, size_of};
 use math_transforms::work::Work;
 use std::alloc::Global;

@@ -8,7 +8,7 @@ ghost use Rattle.std.specs.List.{AllZip};
 ghost use Rattle.math_base.specs.Elements.{same};
 ghost use Rattle.math_transforms.specs.Matrices.{IsOfSize};
 ghost use Rattle.math_shards.specs.Fitting.{AreDataOf, DoRowsFit};
-ghost use Rattle.math_shards.specs.Shards.{JoinTo};
+ghost use Rattle.math_splitting.specs.Shards.{JoinTo};
 ghost use Rattle.math_shards.specs.Joining.{ArePlacesByIndex, HaveUnequalCells, IsDue, IsDueOfRows};
 ghost use Rattle.math_shards.specs.Joining.{IsMemory, IsSound, IsUnsound, Matches, RefusesExactly};
 ghost use Rattle.math_shards.specs.declared.shards.Error.TheVariants.{TooFew, Mismatch, Index};
@@ -17,12 +17,12 @@ ghost use Rattle.math_shards.specs.declared.shards.Error.TheVariants.{Conflict, 
 use super::fitting::have_values;
 use super::restoring::coefficients;
 use super::rows::Row;
-use super::strips::Layout;
 use super::unpacking::{data_count, write_data};
 use super::{Error, Shard};
 use math_base::algebra::Mem;
 use math_base::fields::goldilocks::F;
 use math_ntt::ntt::EvaluationVector;
+use math_splitting::shards::Layout;
 use math_transforms::transform::lg_of;
 use std::alloc::{AllocError, Global};
 

@@ -11,7 +11,7 @@ ghost use Rattle.math_transforms.specs.Matrices.{pieces};
 ghost use Rattle.math_values.specs.Values.{AreElements};
 ghost use Rattle.math_shards.specs.Fitting.{AreDataOf, DoRowsFit};
 ghost use Rattle.math_shards.specs.Joining.{IsMemory};
-ghost use Rattle.math_shards.specs.ShardRows.{AreRefused, AreWordShards, DoJoinTo, StandInFront};
+ghost use Rattle.math_shards.specs.WordShards.{AreRefused, AreWordShards, DoJoinTo, StandInFront};
 
 use super::joining::joined_elements;
 use super::rows::{Row, WordRow};

@@ -16,8 +16,7 @@ ghost use Rattle.std.specs.Int.{IsNextPowerOfTwo};
 ghost use Rattle.math_theory.specs.Recovery.{count_true};
 ghost use Rattle.math_theory.specs.Sums.{weighted_sum};
 ghost use Rattle.math_base.specs.Elements.{residue, sum, product};
-ghost use Rattle.math_transforms.specs.DomainValues.{matrix_of};
-ghost use Rattle.math_transforms.specs.Matrices.{column_of, row_of};
+ghost use Rattle.math_transforms.specs.Matrices.{row_of};
 ghost use Rattle.math_shards.specs.Joining.{HoldsShards, IsSound};
 ghost use Rattle.math_restoring.specs.Restored.{AreDistinct, HaveCellsAsValues};
 ghost use Rattle.math_shards.specs.Weights.{AreChosen, AreCoefficients};
@@ -30,6 +29,7 @@ use math_base::algebra::Mem;
 use math_base::fields::goldilocks::F;
 use math_base::weights::one_at;
 use math_ntt::ntt::{EvaluationVector, Matrix};
+use math_splitting::shards::gather;
 use math_transforms::vanishing_points::VanishingPoints;
 use math_values::sums::sum_of_products;
 use std::alloc::{AllocError, Global};
@@ -117,26 +117,6 @@ fn weights_of(alloc: Global, indices: &[u32], min: u32, total: u32) -> Mem<Matri
     let values = filled_rows(alloc, &units, &units[0])?;
     let recovered = values.recover(alloc)?;
     Ok(recovered.data())
-}
-
-/// Puts the cells of a column into `column`, in place of what was there.
-pub(super) fn gather(
-    column: &mut Vec<F>,
-    cells: &[F],
-    width: usize,
-    k: usize,
-    count: usize,
-) -> Mem<()>
-    requires size { length cells.now ≡ count * width }
-    requires within { k < width }
-    ensures { OnOk result
-        (column.new.items ≡ column_of (residue 0) (matrix_of count width cells.now) k) }
-{
-    column.clear();
-    for r in 0..count {
-        column.push(cells[r * width + k])?;
-    }
-    Ok(())
 }
 
 /// Writes the coefficients of a column over its cells: in row r the sum of the items, each times

@@ -1,6 +1,6 @@
 use Rattle.std.proofs.Common.{◌≡◌, List, length, sym, ap, subst, arith}
 use Rattle.std.proofs.lemmas.Result.{err_from_is_err_and}
-use Rattle.math_shards.specs.declared.shards.Shard.{Shard}
+use Rattle.math_splitting.specs.declared.shards.Shard.{Shard}
 use Rattle.shard_blocks.specs.Blocks.{JoinToBlock}
 use Rattle.c_calls.proofs.ShardBytes.{block_given}
 use Rattle.c_calls.proofs.blocks.write_block.Goals as goal

@@ -1,6 +1,6 @@
 use Rattle.std.proofs.Common.{◌≡◌, ◌∙◌, ◌++◌, ℕ, List, length, drop, ap₂, subst, arith}
 use Rattle.std.proofs.lemmas.List.{length-take}
-use Rattle.math_shards.specs.declared.shards.Shard.{Shard}
+use Rattle.math_splitting.specs.declared.shards.Shard.{Shard}
 use Rattle.math_shards.specs.Correcting.{AreCorrected}
 use Rattle.c_calls.proofs.AlikeShards.{room_for_positions}
 use Rattle.c_calls.proofs.shards.write_corrected.Goals as goal

@@ -3,7 +3,7 @@ use Rattle.std.specs.List.{All}
 use Rattle.std.proofs.lemmas.List.{length-map, length-take}
 use Rattle.std.proofs.lemmas.List.Elements.{All-from_get_or, All-take}
 use Rattle.std.proofs.lemmas.List.FromFn.{length-range_with_len}
-use Rattle.math_shards.specs.Shards.{IsShardOf, JoinTo}
+use Rattle.math_splitting.specs.Shards.{IsShardOf, JoinTo}
 use Rattle.examples.proofs.JoinedWords.{joined_words}
 use Rattle.examples.proofs.shards.split_and_joined.Goals as goal
 

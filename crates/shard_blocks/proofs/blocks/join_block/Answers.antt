@@ -1,6 +1,6 @@
 use Rattle.math_shards.specs.declared.shards.Error.TheVariants.{TooFew, Mismatch, Index, Conflict, Inconsistent}
 use Rattle.math_shards.specs.Joining.{HaveConflict}
-use Rattle.math_shards.specs.Shards.{JoinTo, distinct_indices}
+use Rattle.math_splitting.specs.Shards.{JoinTo, distinct_indices}
 use Rattle.math_shards.proofs.DueErrors.{answers, joined_beside, joined_of_some, refuses}
 use Rattle.math_shards.proofs.OnlyData.{only_data}
 use Rattle.shard_blocks.specs.Blocks.{JoinToBlock}

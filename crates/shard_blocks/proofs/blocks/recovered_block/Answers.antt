@@ -1,7 +1,7 @@
 use Rattle.std.proofs.Common.{List, ℕ, Err, sym, subst}
 use Rattle.std.proofs.lemmas.Result.{err_from_is_err_and}
 use Rattle.math_shards.specs.Joining.{HaveConflict}
-use Rattle.math_shards.specs.Shards.{JoinTo, distinct_indices}
+use Rattle.math_splitting.specs.Shards.{JoinTo, distinct_indices}
 use Rattle.math_shards.proofs.DueErrors.{joined_beside, joined_of_some}
 use Rattle.math_shards.proofs.OnlyData.{only_data}
 use Rattle.shard_blocks.specs.BlockWords.{IsBlockOf}

@@ -1,5 +1,5 @@
 use Rattle.std.proofs.Common.{◌<◌, ◌^◌, List, ℕ, length, sym, subst, arith}
-use Rattle.math_shards.specs.Shards.{AreShardsAt}
+use Rattle.math_splitting.specs.Shards.{AreShardsAt}
 use Rattle.shard_blocks.proofs.CellCounts.{few_block_words}
 use Rattle.shard_blocks.proofs.blocks.split_block_at.Goals as goal
 

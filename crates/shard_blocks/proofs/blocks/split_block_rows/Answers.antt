@@ -1,8 +1,8 @@
 use Rattle.std.proofs.Common.{◌≡◌, ◌∙◌, ◌*◌, ◌<◌, ◌^◌, List, ℕ, length, sym, ap, subst, arith}
-use Rattle.math_shards.specs.DataWords.{spelled_words}
-use Rattle.math_shards.specs.ShardRows.{AreRowsOfShards}
-use Rattle.math_shards.specs.Shards.{width_for}
-use Rattle.math_shards.proofs.SpelledWords.{bytes-spelled, length-spelled}
+use Rattle.math_splitting.specs.DataWords.{spelled_words}
+use Rattle.math_splitting.specs.ShardRows.{AreRowsOfShards}
+use Rattle.math_splitting.specs.Shards.{width_for}
+use Rattle.math_splitting.proofs.SpelledWords.{bytes-spelled, length-spelled}
 use Rattle.shard_blocks.specs.BlockWords.{words_of_bytes}
 use Rattle.shard_blocks.proofs.CellCounts.{few_block_words}
 use Rattle.shard_blocks.proofs.blocks.split_block_rows.Goals as goal

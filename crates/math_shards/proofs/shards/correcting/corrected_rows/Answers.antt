@@ -5,10 +5,10 @@ use Rattle.math_transforms.proofs.PowersOfTwo.{power_of_two-same}
 use Rattle.math_ntt.specs.CorrectedRows.{IsCorrected}
 use Rattle.math_transforms.specs.Matrices.{IsOfSize, column_of}
 use Rattle.math_shards.specs.Correcting.{settled_indices}
-use Rattle.math_shards.specs.Shards.{rows_for}
-use Rattle.math_shards.proofs.SameCells.{nought}
+use Rattle.math_splitting.specs.Shards.{rows_for}
+use Rattle.math_splitting.proofs.SameCells.{nought}
 use Rattle.math_shards.proofs.CorrectedShards.{AreSettledRows, corrected_of_data, count_settled, least_is_positive, least_is_within, rows_are_domain, size_of_corrected, within_radius}
-use Rattle.math_shards.proofs.JoinedShards.{domain_is_small}
+use Rattle.math_splitting.proofs.LeastDomains.{domain_is_small}
 use Rattle.math_shards.proofs.UnlikeRows.{corrected_with_positions}
 use Rattle.math_shards.proofs.shards.correcting.corrected_rows.Goals as goal
 

@@ -1,6 +1,6 @@
 use Rattle.std.proofs.Common.{ℕ, ◌<◌, get_or}
 use Rattle.math_base.specs.Elements.{product, same}
-use Rattle.math_shards.proofs.SameCells.{nought}
+use Rattle.math_splitting.proofs.SameCells.{nought}
 use Rattle.math_shards.proofs.shards.fitting.write_multiples.Given as goal
 
 -- the multiples so far

@@ -9,8 +9,8 @@ use Rattle.math_transforms.specs.DomainValues.{matrix_of}
 use Rattle.math_shards.specs.Fitting.{AreDataOf, HasValuesOf}
 use Rattle.math_shards.proofs.ChosenRows.{distinct-most}
 use Rattle.math_shards.proofs.JoinedRows.{data_of_fit, rows_fit, values_of_fit, width_of_data}
-use Rattle.math_shards.proofs.JoinedShards.{domain_is_small}
-use Rattle.math_shards.proofs.StripSizes.{wide_rows}
+use Rattle.math_splitting.proofs.LeastDomains.{domain_is_small}
+use Rattle.math_splitting.proofs.StripSizes.{wide_rows}
 use Rattle.math_shards.proofs.shards.joining.fitted_elements.Goals as goal
 
 pub have_values-requires-clause-domain : goal.have_values-requires-clause-domain

@@ -3,7 +3,7 @@ use Rattle.std.proofs.lemmas.Result.{err_from_is_err_and}
 use Rattle.math_base.specs.declared.fields.goldilocks.F.{F}
 use Rattle.math_shards.specs.Fitting.{AreDataOf}
 use Rattle.math_shards.specs.Joining.{HaveConflict}
-use Rattle.math_shards.specs.Shards.{JoinTo, distinct_indices}
+use Rattle.math_splitting.specs.Shards.{JoinTo, distinct_indices}
 use Rattle.math_shards.proofs.DueErrors.{due_beside, rows_due, unsound_due}
 use Rattle.math_shards.proofs.JoinedRows.{join_of_fit}
 use Rattle.math_shards.proofs.shards.joining.joined_data.Goals as goal

@@ -5,7 +5,7 @@ use Rattle.math_transforms.specs.DomainValues.{matrix_of}
 use Rattle.math_shards.specs.Fitting.{HasValuesOf}
 use Rattle.math_restoring.specs.Restored.{HaveCellsAsValues}
 use Rattle.math_shards.proofs.ChosenRows.{below-kept, chosen_among, chosen_count}
-use Rattle.math_shards.proofs.JoinedShards.{domain_is_small}
+use Rattle.math_splitting.proofs.LeastDomains.{domain_is_small}
 use Rattle.math_shards.proofs.PutCoefficients.{written-back}
 use Rattle.math_shards.proofs.RestoredRows.{enough_distinct, few_distinct, only_of_rows, values_of_rows}
 use Rattle.math_shards.proofs.shards.restoring.coefficients.Goals as goal

@@ -6,7 +6,7 @@ use Rattle.math_base.specs.declared.fields.goldilocks.F.{F}
 use Rattle.math_base.specs.Elements.{number}
 use Rattle.math_transforms.proofs.WrittenRows.{part-read}
 use Rattle.math_shards.proofs.RepackedElements.{repacked_below}
-use Rattle.math_shards.proofs.SameCells.{nought}
+use Rattle.math_splitting.proofs.SameCells.{nought}
 use Rattle.math_shards.proofs.UnpackedWords.{below_of_repacked}
 use Rattle.math_shards.proofs.shards.unpacking.are_repacked.Goals as goal
 

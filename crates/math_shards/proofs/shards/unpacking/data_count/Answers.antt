@@ -6,7 +6,7 @@ use Rattle.std.proofs.lemmas.List.{take_rest}
 use Rattle.math_base.specs.declared.fields.goldilocks.F.{F}
 use Rattle.math_base.specs.Elements.{same}
 use Rattle.math_shards.specs.Unpacking.{AreRepacked}
-use Rattle.math_shards.proofs.SameCells.{nought}
+use Rattle.math_splitting.proofs.SameCells.{nought}
 use Rattle.math_shards.proofs.UnpackedWords.{data_of_repacked, marked_of_data}
 use Rattle.math_shards.proofs.shards.unpacking.data_count.Goals as goal
 

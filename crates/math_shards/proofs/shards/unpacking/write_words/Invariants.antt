@@ -1,6 +1,6 @@
 use Rattle.std.proofs.Common.{◌≡◌, ℕ, ◌+◌, ◌<◌, get_or}
 use Rattle.math_shards.specs.Unpacking.{word_between}
-use Rattle.math_shards.proofs.SameCells.{nought}
+use Rattle.math_splitting.proofs.SameCells.{nought}
 use Rattle.math_shards.proofs.shards.unpacking.write_words.Given as goal
 
 -- the words so far

@@ -3,7 +3,7 @@ use Rattle.math_theory.specs.Sums.{weighted_sum}
 use Rattle.math_base.specs.Elements.{product, sum}
 use Rattle.math_transforms.specs.Matrices.{row_of}
 use Rattle.math_shards.proofs.PutCoefficients.{IsColumnPut}
-use Rattle.math_shards.proofs.SameCells.{nought}
+use Rattle.math_splitting.proofs.SameCells.{nought}
 use Rattle.math_shards.proofs.shards.weighing.put_column.Given as goal
 
 -- the coefficients so far of the column are written, and no others

@@ -1,5 +1,6 @@
 use Rattle.std.proofs.Common.{◌≡◌, ◌∙◌, ◌*◌, length, sym, ap, arith}
-use Rattle.math_shards.proofs.PutCoefficients.{column-count, column_in, columns-more, columns-none}
+use Rattle.math_shards.proofs.PutCoefficients.{column-count, columns-more, columns-none}
+use Rattle.math_splitting.proofs.GatheredColumns.{column_in}
 use Rattle.math_shards.proofs.shards.weighing.put_columns.Goals as goal
 use Rattle.math_shards.proofs.shards.weighing.put_columns.Goals.{After-deref}
 

@@ -1,7 +1,7 @@
 use Rattle.std.proofs.Common.{◌≡◌, ◌∙◌, ◌+◌, length, get_or, refl, ap, arith}
 use Rattle.std.proofs.lemmas.List.{length_push}
 use Rattle.math_base.proofs.PlaceByPlace.{each_place_next}
-use Rattle.math_shards.specs.declared.shards.Shard.{Shard}
+use Rattle.math_splitting.specs.declared.shards.Shard.{Shard}
 use Rattle.math_shards.specs.Weights.{IsUnitShard}
 use Rattle.math_shards.proofs.shards.weighing.unit_shards.Goals as goal
 

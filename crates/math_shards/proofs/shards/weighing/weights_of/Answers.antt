@@ -2,10 +2,10 @@ use Rattle.std.proofs.Common.{◌≡◌, ◌∙◌, ◌^◌, List, length, map, 
 use Rattle.std.specs.Int.{IsNextPowerOfTwo}
 use Rattle.std.specs.List.{All}
 use Rattle.math_transforms.proofs.PowersOfTwo.{power_of_two-same}
-use Rattle.math_shards.specs.declared.shards.Shard.{Shard}
+use Rattle.math_splitting.specs.declared.shards.Shard.{Shard}
 use Rattle.math_shards.specs.Joining.{HoldsShards, IsSound}
 use Rattle.math_restoring.specs.Restored.{AreDistinct}
-use Rattle.math_shards.proofs.JoinedShards.{domain_is_small}
+use Rattle.math_splitting.proofs.LeastDomains.{domain_is_small}
 use Rattle.math_shards.proofs.UnitShards.{index_of, unit_indices, unit_total, units_sound, weights_of_units}
 use Rattle.math_shards.proofs.shards.weighing.weights_of.Goals as goal
 

@@ -1,7 +1,0 @@
-use Rattle.math_shards.specs.DataWords.{words_in}
-use Rattle.math_shards.proofs.StripColumns.{HoldRows}
-use Rattle.math_shards.proofs.shards.strips.write_strip.Given as goal
-
--- the rows so far
-abbrev pub invariant-loop-row : goal.invariant-loop-row
-invariant-loop-row g l = HoldRows (words_in g.W.Word.word l.source) l.layout.width l.from l.cols l.row l.cells

@@ -1,0 +1,11 @@
+pub mod SameCells
+pub mod LeastDomains
+pub mod LaidOutData
+pub mod PackedWords
+pub mod StripColumns
+pub mod StripSizes
+pub mod BegunShards
+pub mod WrittenColumns
+pub mod SourceWords
+pub mod SpelledWords
+pub mod GatheredColumns

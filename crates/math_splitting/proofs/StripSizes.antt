@@ -1,0 +1,49 @@
+-- The sizes of strips and of rows of data: all of them fit a word.
+use Rattle.std.proofs.Common.{◌≡◌, ◌∙◌, inl, inr, ℕ, suc, ◌+◌, ◌-◌, ◌*◌, ◌<◌, ◌≤◌, ◌^◌, List, length, sym, ap, arith}
+use Rattle.std.specs.Int.{div_ceil}
+use Rattle.std.proofs.lemmas.Bool.{cases_lt}
+use Rattle.std.proofs.lemmas.Nat.{mul-le}
+use Rattle.math_numbers.specs.Bits.{piece_count}
+use Rattle.math_numbers.proofs.BitPieces.{piece_count-enough, piece_count-least}
+use Rattle.math_base.proofs.Packing.{length-elements_of}
+use Rattle.math_splitting.specs.Shards.{counted, elements_for, width_for}
+use Rattle.math_splitting.proofs.LaidOutData.{rounded_up}
+
+-- so many elements do so many words pack to
+elements_of_words : (n : ℕ) → piece_count 63 (64 * suc n) ≡ n + 1 + div_ceil (n + 1) 63
+elements_of_words n = omega arith
+
+pub count_elements : (words : List ℕ) → length (elements_for words) ≡ length words + 1 + div_ceil (length words + 1) 63
+count_elements words = length-elements_of (counted words) ∙ elements_of_words (length words)
+
+-- the width of the rows
+pub width_of_words : (least : ℕ) (words : List ℕ) → 1 ≤ least → div_ceil (length words + 1 + div_ceil (length words + 1) 63) least ≡ width_for least words
+width_of_words least words some = rounded_up (length words + 1 + div_ceil (length words + 1) 63) least some ∙ ap (piece_count least) (sym (count_elements words))
+
+-- their cells
+pub cells_fit : (least : ℕ) (words : List ℕ) → 1 ≤ least → least < 2 ^ 32 → length words < 2 ^ 61 → least * width_for least words < 2 ^ 64
+cells_fit least words some small few = omega (arith, piece_count-least least (length (elements_for words)) some, count_elements words)
+
+-- there is a cell in a row, and a row is shorter than 2^63
+pub wide_rows : (least : ℕ) (words : List ℕ) → 1 ≤ least → 1 ≤ width_for least words
+wide_rows least words some =
+    let enough : length (elements_for words) ≤ least * width_for least words = piece_count-enough least (length (elements_for words)) some in
+    elim (cases_lt 0 (width_for least words)) [
+      | inl wide ↦ omega (arith, wide)
+      | inr o ↦
+          let none : width_for least words ≡ 0 = omega (arith, o) in
+          let all : least * width_for least words ≡ 0 = ap (λ n. least * n) none ∙ (let e : least * 0 ≡ 0 = omega arith in e) in
+          absurd (omega (arith, all, enough, count_elements words))
+    ]
+
+pub short_rows : (least : ℕ) (words : List ℕ) → 1 ≤ least → length words < 2 ^ 61 → width_for least words < 2 ^ 63
+short_rows least words some few =
+    let w = width_for least words in
+    let one : least * w < length (elements_for words) + least = piece_count-least least (length (elements_for words)) some in
+    let wide : 1 ≤ w = wide_rows least words some in
+    let next : least * w ≡ least * (w - 1) + least = ap (λ n. least * n) (let e : w ≡ w - 1 + 1 = omega (arith, wide) in e) ∙ (let e : least * (w - 1 + 1) ≡ least * (w - 1) + least = omega arith in e) in
+    let all : 1 * (w - 1) ≤ least * (w - 1) = mul-le 1 (w - 1) least (w - 1) some (omega arith) in
+    short w (least * w) (least * (w - 1)) least (length (elements_for words)) (length words) one next all (count_elements words) few
+  where
+    short : (w a b least n m : ℕ) → a < n + least → a ≡ b + least → 1 * (w - 1) ≤ b → n ≡ m + 1 + div_ceil (m + 1) 63 → m < 2 ^ 61 → w < 2 ^ 63
+    short w a b least n m h e l c f = omega (arith, h, e, l, c, f)

@@ -1,0 +1,23 @@
+use Rattle.std.proofs.Common.{List, refl, arith}
+use Rattle.math_base.specs.declared.fields.goldilocks.F.{F}
+use Rattle.math_transforms.specs.DomainValues.{matrix_of}
+use Rattle.math_splitting.specs.declared.shards.Shard.{Shard}
+use Rattle.math_splitting.specs.Strips.{HasValuesAt, IsExtendedBy}
+use Rattle.math_splitting.proofs.BegunShards.{done-more, left-more}
+use Rattle.math_splitting.proofs.shards.wanting.append_values_of.Goals as goal
+
+pub loop-i-init : goal.loop-i-init
+loop-i-init c = record { have = λ j d l. absurd (omega arith); left = λ j d l. refl }
+
+pub loop-i-preserved : goal.loop-i-preserved
+loop-i-preserved c =
+    let layout = c.args.layout in
+    let R : Shard → Shard → Type 0 = λ s t. (row : List F) × HasValuesAt layout.lg s.index (matrix_of layout.min c.args.cols c.args.rows.now) row × IsExtendedBy row s t in
+    record {
+      have = done-more R c.loop-i.i c.args.shards.now c.loop-i.shards c.index-shards-i.result c.append_values_to.new.shard (omega arith) c.loop-i.invariant.have c.loop-i.invariant.left
+          c.in_ok-append_values_to.ensures;
+      left = left-more R c.loop-i.i c.args.shards.now c.loop-i.shards c.append_values_to.new.shard c.loop-i.invariant.left;
+    }
+
+pub returns : goal.returns
+returns c = λ i d l. c.loop-i.invariant.have i d (omega arith)

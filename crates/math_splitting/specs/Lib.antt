@@ -1,0 +1,6 @@
+pub mod DataWords
+pub mod Shards
+pub mod Strips
+pub mod ShardRows
+pub mod ShardEncoding
+pub mod ShardEncodingLaws

@@ -1,0 +1,92 @@
+-- Strips of columns of the rows that data fill, and shards that grow by the values of a strip.
+use Rattle.std.specs.Prelude.{◌≡◌, ℕ, ◌+◌, ◌-◌, ◌*◌, ◌/◌, ◌<◌, ◌≤◌, ◌^◌, List, ◌++◌, length, take, drop, slice_index, slice_index_or}
+use Rattle.math_numbers.specs.Bits as Bits
+use Rattle.math_numbers.specs.Bits.{bits}
+use Rattle.math_theory.specs.Coefficients.{HaveSameCoefficients}
+use Rattle.math_base.specs.declared.fields.goldilocks.F.{F}
+use Rattle.math_base.specs.Elements.{residue, root_of, same, goldilocks}
+use Rattle.math_transforms.specs.DomainValues.{matrix_of}
+use Rattle.math_transforms.specs.Matrices.{MatrixOf, cell_of, column_of}
+use Rattle.math_transforms.specs.RootTrees.{IsTreeOf}
+use Rattle.math_splitting.specs.declared.shards.Shard.{Shard}
+use Rattle.math_splitting.specs.declared.shards.strips.Layout.{Layout}
+use Rattle.math_splitting.specs.Shards.{elements_for, rows_for, value_at_index, width_for}
+
+-- the table is the tree of square roots of a domain of 2^lg points
+abbrev pub IsTableOf : ℕ → List F → Type 0
+IsTableOf lg table = IsTreeOf goldilocks root_of (residue 1) lg table
+
+-- the layout of the rows of data, which are fewer than 2^61 words: there are some rows, all of them have the width, the places of their cells are
+-- numbers of a word, and there are at least as many points, of a domain that has a root
+pub record IsLayoutOf (words : List ℕ) (layout : Layout) : Type 0 where
+  pub few : length words < 2 ^ 61
+  pub some : 1 ≤ layout.min
+  pub width : layout.width ≡ width_for layout.min words
+  pub fits : layout.min * layout.width < 2 ^ 64
+  pub points : layout.min ≤ 2 ^ layout.lg
+  pub domain : layout.lg ≤ 32
+
+-- the element of 63 bits of which the first ones are the `taken` highest bits of one word, and the others the lowest of the next
+abbrev pub piece_of : ℕ → ℕ → ℕ → F
+piece_of before word taken = residue (Bits.number (take 63 (bits taken (before / 2 ^ (64 - taken)) ++ bits 64 word)))
+
+-- the element in this place of those that the words pack to, and zero past the last one
+abbrev pub packed_at : List ℕ → ℕ → F
+packed_at words place = slice_index_or (elements_for words) place (residue 0)
+
+-- the cells are the elements whose first bits are the highest ones of a word, and the others the lowest of the next: of cell k the `taken` + k highest
+abbrev pub ArePieces : List ℕ → ℕ → List F → Type 0
+ArePieces words taken cells = (k : ℕ) → k < length cells → same (slice_index_or cells k (residue 0)) (piece_of (slice_index words k) (slice_index words (k + 1)) (taken + k))
+
+-- the cells are the elements that the words pack to, from place `first` on
+abbrev pub ArePacked : List ℕ → ℕ → List F → Type 0
+ArePacked words first cells = (k : ℕ) → k < length cells → same (slice_index_or cells k (residue 0)) (packed_at words (first + k))
+
+-- n rows of c cells: their columns have the coefficients that those of the rows of data have, from column `from` on
+pub record IsStripOf (words : List ℕ) (min n from c : ℕ) (cells : List F) : Type 0 where
+  pub count : length cells ≡ n * c
+  pub columns : (k : ℕ) → k < c → HaveSameCoefficients same (residue 0) (column_of (residue 0) (matrix_of n c cells) k) (column_of (residue 0) (rows_for min words) (from + k))
+
+-- 2^lg rows of c cells: cell k of row i is the value, at power i of the root of order 2^lg, of the polynomial whose coefficients are column from + k of the
+-- rows of data
+pub record HasStripValues (words : List ℕ) (min lg from c : ℕ) (cells : List F) : Type 0 where
+  pub count : length cells ≡ 2 ^ lg * c
+  pub values : (i k : ℕ) → i < 2 ^ lg → k < c
+      → same (cell_of (residue 0) (matrix_of (2 ^ lg) c cells) i k) (value_at_index lg (column_of (residue 0) (rows_for min words) (from + k)) i)
+
+-- t is the shard s with these cells behind its own
+pub record IsExtendedBy (row : List F) (s t : Shard) : Type 0 where
+  pub index : t.index ≡ s.index
+  pub least : t.min ≡ s.min
+  pub most : t.total ≡ s.total
+  pub behind : t.cells.items ≡ s.cells.items ++ row
+
+-- shard by shard, the new shard is so to the old one
+abbrev pub AreEach : (Shard → Shard → Type 0) → List Shard → List Shard → Type 0
+AreEach R old new = (i : ℕ) (d : Shard) → i < length old → R (slice_index_or old i d) (slice_index_or new i d)
+
+-- each shard gets the row of its index behind its cells; a row has c cells
+abbrev pub AreExtended : ℕ → List F → List Shard → List Shard → Type 0
+AreExtended c cells old new = AreEach (λ s t. IsExtendedBy (take c (drop (s.index * c) cells)) s t) old new
+
+-- the row has, for each column of the matrix, its value at power i of the root of order 2^lg
+pub record HasValuesAt (lg i : ℕ) (m : MatrixOf F) (row : List F) : Type 0 where
+  pub count : length row ≡ m.cols
+  pub values : (k : ℕ) → k < m.cols → slice_index_or row k (residue 0) ≡ value_at_index lg (column_of (residue 0) m k) i
+
+-- each shard gets the values at its index of the columns of the matrix behind its cells
+abbrev pub AreValued : ℕ → MatrixOf F → List Shard → List Shard → Type 0
+AreValued lg m old new = AreEach (λ s t. (row : List F) × HasValuesAt lg s.index m row × IsExtendedBy row s t) old new
+
+-- s is the shard with index i of the data as far as its first n cells, on a domain of 2^lg points
+pub record IsBegun (words : List ℕ) (min total lg n i : ℕ) (s : Shard) : Type 0 where
+  pub index : s.index ≡ i
+  pub least : s.min ≡ min
+  pub most : s.total ≡ total
+  pub count : length s.cells.items ≡ n
+  pub values : (k : ℕ) → k < n → same (slice_index_or s.cells.items k (residue 0)) (value_at_index lg (column_of (residue 0) (rows_for min words) k) i)
+
+-- each shard is begun so, with the index that stands in its place
+abbrev pub AreBegun : List ℕ → ℕ → ℕ → ℕ → ℕ → List ℕ → List Shard → Type 0
+AreBegun words min total lg n indices shards =
+    (i : ℕ) (d : Shard) → i < length shards → IsBegun words min total lg n (slice_index indices i) (slice_index_or shards i d)

@@ -1,0 +1,39 @@
+//! Data cut into shards, and what each shard holds.
+//!
+//! The words that are packed are the number of data words, and then the data. Packed by 63 bits
+//! into elements of the Goldilocks field they fill `min` rows of a matrix, row by row, and what is
+//! left over is zero. Column k is the polynomial of `min` coefficients whose coefficient r is the
+//! cell of row r. Shard i, for i below `total`, holds the value of each column at power i of the
+//! root of unity of order N, where N is the least power of two that is `total` or more. This is
+//! Reed and Solomon's code.
+//!
+//! The shards hide nothing of the data.
+
+mod columns;
+mod encoding;
+mod rooms;
+mod sources;
+mod splitting;
+mod strips;
+mod wanting;
+
+pub use columns::gather;
+use math_base::fields::goldilocks::F;
+pub use rooms::Room;
+pub use sources::{Source, Word};
+pub use splitting::{split, split_rows, split_source, split_source_at, split_source_rows};
+pub use strips::{Layout, shard_width, strip_room};
+
+/// One of `total` shards of some data, any `min` of which give them back: the values of all columns
+/// at power `index` of the root.
+#[derive(Debug, Drop)]
+pub struct Shard {
+    /// Which of the shards it is, from 0 on.
+    pub index: u32,
+    /// How many shards give the data back.
+    pub min: u32,
+    /// How many shards there are.
+    pub total: u32,
+    /// One value for each column.
+    pub cells: Vec<F>,
+}

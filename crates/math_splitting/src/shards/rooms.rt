@@ -1,0 +1,69 @@
+//! Where rows of shards are written: over words, or over bytes.
+
+ghost use Rattle.std.specs.Prelude.{◌≡◌, ◌+◌, ◌*◌, ◌≤◌, ◌++◌, ℕ, List, length, take, drop, map};
+ghost use Rattle.std.specs.Int.{to_be_bytes, w64};
+ghost use Rattle.std.specs.List.{flat_map};
+ghost use Rattle.math_base.specs.Elements.{number};
+ghost use Rattle.math_splitting.specs.DataWords.{spelled_words};
+ghost use Rattle.math_splitting.specs.ShardRows.{AreNumbers};
+
+use math_base::fields::goldilocks::F;
+
+/// What words are written over: words, or bytes, of which each word takes eight, the highest first.
+pub trait Room: Copy {
+    ghost words: { List Self → List ℕ };
+
+    /// Writes the numbers of the elements over the words from place `from` on.
+    fn write(room: &mut [Self], from: usize, items: &[F])
+        requires { from + length items.now ≤ length (words room.old) }
+        ensures { words room.new ≡ take from (words room.old) ++ (map number items.now
+            ++ drop (length items.now) (drop from (words room.old))) };
+}
+
+impl Room for u64 {
+    ghost words = { λ xs. xs };
+
+    fn write(room: &mut [u64], from: usize, items: &[F]) {
+        write_numbers(&mut room[from..from + items.len()], items);
+    }
+}
+
+impl Room for u8 {
+    ghost words = { spelled_words };
+
+    fn write(room: &mut [u8], from: usize, items: &[F]) {
+        write_bytes(room, from, items);
+    }
+}
+
+/// The number of an element.
+fn number_of(element: &F) -> u64
+    ensures { result ≡ number element.now }
+{
+    u64::from_le_bytes(element.to_le_bytes())
+}
+
+/// Writes the numbers of the elements over the words, of which there are as many.
+fn write_numbers(words: &mut [u64], items: &[F])
+    requires { length words.old ≡ length items.now }
+    ensures { AreNumbers items.now words.new }
+{
+    let source = &items[..words.len()];
+    for k in 0..words.len() {
+        words[k] = number_of(&source[k]);
+    }
+}
+
+/// Writes the numbers of the elements over the bytes from eight times `from` on, eight for each, the
+/// highest first.
+fn write_bytes(bytes: &mut [u8], from: usize, items: &[F])
+    requires { 8 * (from + length items.now) ≤ length bytes.old }
+    ensures { bytes.new ≡ take (8 * from) bytes.old
+        ++ flat_map (to_be_bytes w64) (map number items.now)
+        ++ drop (8 * from + 8 * length (map number items.now)) bytes.old }
+{
+    for k in 0..items.len() {
+        let at = 8 * (from + k);
+        bytes[at..at + 8].copy_from_slice(&number_of(&items[k]).to_be_bytes());
+    }
+}

@@ -1,0 +1,96 @@
+//! Data that are split, as they lie in the caller's memory.
+//!
+//! Words are read as they are wanted, from a list of words or from the bytes of a block: so no list
+//! of words is made of bytes.
+
+ghost use Rattle.std.specs.Prelude.{◌≡◌, ◌<◌, ◌^◌, ℕ, length, slice_index};
+ghost use Rattle.std.specs.Int.{from_le_bytes, w64};
+ghost use Rattle.math_splitting.specs.DataWords.{front_count, words_in};
+
+/// A word of data, or the eight bytes that it is, the lowest first.
+pub trait Word: Copy {
+    ghost word: { Self → ℕ };
+
+    /// The word.
+    fn word(self) -> u64
+        ensures { result ≡ word self };
+}
+
+impl Word for u64 {
+    ghost word = { λ x. x };
+
+    fn word(self) -> u64 {
+        self
+    }
+}
+
+impl Word for [u8; 8] {
+    ghost word = { from_le_bytes w64 };
+
+    fn word(self) -> u64 {
+        u64::from_le_bytes(self)
+    }
+}
+
+/// Words of data: a first one that stands apart, where there is one, then those of a slice, and
+/// then a last one that stands apart, where there is one.
+#[derive(Clone, Copy)]
+pub struct Source<'a, W> {
+    /// The first word.
+    pub first: Option<u64>,
+    /// The words of a slice.
+    pub words: &'a [W],
+    /// The last word.
+    pub last: Option<u64>,
+}
+
+/// Words in a slice as data.
+pub(super) fn source_of<'a>(words: &'a [u64]) -> Source<'a, u64>
+    ensures { words_in (λ x. x) result ≡ words.now }
+{
+    Source {
+        first: None,
+        words,
+        last: None,
+    }
+}
+
+/// How many words stand before those of the slice.
+pub(super) fn before_slice<W: Word>(source: &Source<'_, W>) -> usize
+    ensures { result ≡ front_count source.now }
+{
+    match source.first {
+        Some(_) => 1,
+        None => 0,
+    }
+}
+
+/// How many words the data are.
+pub(super) fn count_of<W: Word>(source: &Source<'_, W>) -> usize
+    requires { length (words_in W.word source.now) < 2 ^ 61 }
+    ensures { result ≡ length (words_in W.word source.now) }
+{
+    let count = before_slice(source) + source.words.len();
+    match source.last {
+        Some(_) => count + 1,
+        None => count,
+    }
+}
+
+/// The word of the data in this place. Past the last one it is zero.
+pub(super) fn word_in<W: Word>(source: &Source<'_, W>, place: usize) -> u64
+    ensures { result ≡ slice_index (words_in W.word source.now) place }
+{
+    let before = before_slice(source);
+    if place < before {
+        return source.first.unwrap_or(0);
+    }
+    let behind = place - before;
+    if behind < source.words.len() {
+        return source.words[behind].word();
+    }
+    if behind == source.words.len() {
+        return source.last.unwrap_or(0);
+    }
+    0
+}
