@@ -1,13 +1,15 @@
 -- Strips of columns of the rows that data fill: how they are filled, and the values of their columns.
 use Rattle.std.proofs.Common.{◌≡◌, ◌∙◌, inl, inr, ℕ, ◌+◌, ◌-◌, ◌*◌, ◌<◌, ◌≤◌, ◌^◌, List, [], ◌∷◌, ◌++◌, length, take, drop, get_or, replicate, zero, suc, refl, sym, ap, ap₂, arith, length-append, append-nil}
+use Rattle.std.proofs.Math.Seq.{take-append_seam}
 use Rattle.std.proofs.lemmas.Bool.{cases_lt}
 use Rattle.std.proofs.lemmas.List.{drop-drop, drop_all, get_or_past, get_or-take, length-replicate, length-take-le}
 use Rattle.std.proofs.lemmas.Nat.{mul-add-lt, mul-le}
 use Rattle.math_base.specs.declared.fields.goldilocks.F.{F}
 use Rattle.math_base.specs.Elements.{number, root_of, same, goldilocks}
 use Rattle.math_base.proofs.ElementNumbers.{same_number}
-use Rattle.math_transforms.specs.DomainValues.{AreValuesAtPowers, matrix_of}
+use Rattle.math_transforms.specs.DomainValues.{AreValuesOfFewAtPowers, matrix_of}
 use Rattle.math_transforms.specs.Matrices.{column_of}
+use Rattle.math_transforms.proofs.ColumnHalves.{column-halves}
 use Rattle.math_transforms.proofs.MatrixRows.{cell-of_column}
 use Rattle.math_transforms.proofs.WrittenRows.{row-done}
 use Rattle.math_splitting.specs.Shards.{elements_for, rows_for, width_for}
@@ -94,11 +96,21 @@ strip_written words min n from c m k cells zeros z some tall within count hold l
     (λ r j a b. ap number (get_or-take (min * c) cells (r * c + j) nought (let l : r * c + j < c * min = mul-add-lt r c j min a b in omega (arith, l))) ∙ hold r j a b)
     (omega (arith, left, count)) is whole
 
--- the values of the columns of a strip are those of the columns of the rows of data
-pub strip_valued : (words : List ℕ) (min lg from c : ℕ) (cells new : List F) → IsStripOf words min (2 ^ lg) from c cells → length new ≡ length cells
-    → AreValuesAtPowers goldilocks (root_of lg) (matrix_of (2 ^ lg) c cells) (matrix_of (2 ^ lg) c new) → HasStripValues words min lg from c new
-strip_valued words min lg from c cells new h kept values = record {
-  count = kept ∙ h.count;
+-- the columns of the first rows
+first_columns : (n c k : ℕ) (rows rest : List F) → length rows ≡ n * c → column_of nought (matrix_of n c (rows ++ rest)) k ≡ column_of nought (matrix_of n c rows) k
+first_columns n c k rows rest whole =
+    let all : n + 0 ≡ n = omega arith in
+    let front : take (n * c) (rows ++ rest) ≡ rows = ap (λ i. take i (rows ++ rest)) (sym whole) ∙ take-append_seam rows rest in
+    ap (λ i. column_of nought (matrix_of i c (rows ++ rest)) k) (sym all) ∙ column-halves nought n 0 c k (rows ++ rest)
+    ∙ append-nil (column_of nought (matrix_of n c (take (n * c) (rows ++ rest))) k) ∙ ap (λ xs. column_of nought (matrix_of n c xs) k) front
+
+-- the values of the columns of a strip, in whose first rows the coefficients stood, are those of the columns of the rows of data
+pub strip_valued : (words : List ℕ) (min lg part from c : ℕ) (strip rest new : List F) → IsStripOf words min (2 ^ part) from c strip → length new ≡ 2 ^ lg * c
+    → AreValuesOfFewAtPowers goldilocks (root_of lg) (matrix_of (2 ^ part) c (strip ++ rest)) (matrix_of (2 ^ lg) c new) → HasStripValues words min lg from c new
+strip_valued words min lg part from c strip rest new h count values = record {
+  count = count;
   values = λ i k a b.
-      values i k a b ∙ same_values _ (column_of nought (matrix_of (2 ^ lg) c cells) k) (column_of nought (rows_for min words) (from + k)) (h.columns k b);
+      let column = column_of nought (matrix_of (2 ^ part) c strip) k in
+      let there = column_of nought (rows_for min words) (from + k) in
+      rw (first_columns (2 ^ part) c k strip rest h.count) at (values i k a b) ∙ same_values _ column there (h.columns k b);
 }

@@ -35,7 +35,7 @@ ghost use Rattle.math_splitting.specs.Strips.{IsTableOf, packed_at, piece_of};
 use super::sources::{Source, Word, before_slice, count_of, word_in};
 use math_base::algebra::Mem;
 use math_base::fields::goldilocks::F;
-use math_transforms::transform::{evaluate_rows, lg_of, size_of};
+use math_transforms::transform::{evaluate_few, lg_of, size_of};
 use math_transforms::work::Work;
 use std::alloc::Global;
 
@@ -228,8 +228,10 @@ pub(super) fn write_values<W: Word>(
     ensures { HasStripValues (words_in W.word source.now) layout.min layout.lg
         from cols cells.new }
 {
-    write_strip(source, layout, size_of(layout.lg), from, cols, cells);
-    let Ok(()) = evaluate_rows(alloc, cells, cols, layout.lg, table, &mut Work::new()) else {
+    let part = lg_of(layout.min.next_power_of_two());
+    let rows = size_of(part);
+    write_strip(source, layout, rows, from, cols, &mut cells[..rows * cols]);
+    let Ok(()) = evaluate_few(alloc, cells, cols, layout.lg, part, table, &mut Work::new()) else {
         unreachable!()
     };
 }

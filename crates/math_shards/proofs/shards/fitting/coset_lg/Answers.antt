@@ -1,7 +1,7 @@
 use Rattle.std.proofs.Common.{◌≤◌, ◌^◌, subst, arith}
 use Rattle.std.specs.Int.{IsNextPowerOfTwo}
 use Rattle.std.proofs.Math.Pow.{pow_mono}
-use Rattle.math_shards.proofs.CosetSizes.{least_lg}
+use Rattle.math_splitting.proofs.LeastDomains.{least_lg}
 use Rattle.math_shards.proofs.shards.fitting.coset_lg.Goals as goal
 
 pub returns-clause-enough : goal.returns-clause-enough

@@ -2,8 +2,7 @@ use Rattle.std.proofs.Common.{◌≤◌, ◌^◌, ℕ, subst, arith}
 use Rattle.std.specs.Int.{IsNextPowerOfTwo}
 use Rattle.math_transforms.proofs.PresentIndices.{lg-only}
 use Rattle.math_restoring.specs.Restored.{HaveCellsAsValues}
-use Rattle.math_shards.proofs.CosetSizes.{least_lg}
-use Rattle.math_splitting.proofs.LeastDomains.{domain_is_small}
+use Rattle.math_splitting.proofs.LeastDomains.{domain_is_small, least_lg}
 use Rattle.math_shards.proofs.shards.restoring.put_coefficients.Goals as goal
 
 pub put_restored-requires-clause-part : goal.put_restored-requires-clause-part
