@@ -1,14 +1,13 @@
--- Elements of the Goldilocks field, of which same ones are one, as a commutative ring and a field with plain equations.
-use Rattle.std.proofs.Common.{◌≡◌, ◌∙◌, inl, inr, ◌-◌, ◌%◌, List, sym, ap, mod-eq_of_lt}
+-- Elements of the Goldilocks field, of which same ones are one, as a commutative ring with plain equations.
+use Rattle.std.proofs.Common.{◌≡◌, inl, inr, List, sym, ap}
 use Rattle.std.specs.List.{AllZip}
 use Rattle.std.proofs.lemmas.List.Elements.{same_from_all_zip}
 use mathlib.Core.HLevel.{Discrete, hedberg}
 use Rattle.std.proofs.lemmas.Bool.{cases_eq}
-use Rattle.math_theory.specs.Rings.{CommutativeRing, Field}
+use Rattle.math_theory.specs.Rings.{CommutativeRing}
 use Rattle.math_base.specs.declared.fields.goldilocks.F.{F}
 use Rattle.math_base.specs.ElementLaws.{group, commutes, ring}
-use Rattle.math_base.specs.ElementRootLaws.{field}
-use Rattle.math_base.specs.Elements.{inverse, number, residue, same, sum, negative, product}
+use Rattle.math_base.specs.Elements.{number, residue, same, sum, negative, product}
 use Rattle.math_base.proofs.ElementNumbers.{same_number}
 
 -- two elements are one or not

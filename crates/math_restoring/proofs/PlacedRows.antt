@@ -1,5 +1,5 @@
 -- Rows of products that are placed in the order of a tree, and columns that are taken from the first rows of a room.
-use Rattle.std.proofs.Common.{◌≡◌, ◌≢◌, ◌∙◌, inl, inr, ℕ, zero, suc, ◌+◌, ◌*◌, ◌<◌, ◌≤◌, ◌^◌, List, ◌++◌, length, take, drop, replicate, get_or, refl, sym, ap, arith}
+use Rattle.std.proofs.Common.{◌≡◌, ◌≢◌, ◌∙◌, inl, inr, ℕ, ◌+◌, ◌*◌, ◌<◌, ◌≤◌, ◌^◌, List, ◌++◌, length, take, drop, get_or, sym, ap, arith}
 use Rattle.std.specs.List.{All}
 use Rattle.std.proofs.lemmas.Bool.{cases_lt}
 use Rattle.std.proofs.lemmas.List.{get_or_default, length-drop, length-take-le}
@@ -10,7 +10,7 @@ use Rattle.math_base.specs.declared.fields.goldilocks.F.{F}
 use Rattle.math_base.specs.Elements.{number, product, same}
 use Rattle.math_transforms.proofs.WrittenCells.{row-within}
 use Rattle.math_transforms.proofs.WrittenRows.{part-read, put-after, put-before, put-within}
-use Rattle.math_restoring.specs.Restored.{AreDistinct, ArePlaced, ArePlacesOf, AreTaken}
+use Rattle.math_restoring.specs.Restored.{AreDistinct, ArePlacesOf, AreTaken}
 use Rattle.math_restoring.proofs.CombinedColumns.{nought}
 use Rattle.math_transforms.proofs.ReversedBits.{reversed-only}
 
