@@ -231,8 +231,8 @@ CWM_MUST_USE uint32_t cwm_split_bytes(const uint8_t *data, size_t n, uint32_t mi
  * of the n bytes of `shards`, in k rows, is the shard whose index is indices[i]; the order does not matter, and a shard
  * that is there twice counts once. Fewer than min * (n / k) bytes are written; less room than needed: CWM_WRONG_SIZE.
  * n is a multiple of 8 k, and 0 where k is, else CWM_WRONG_SIZE. A word of P or more: CWM_OUT_OF_RANGE. Then as
- * cwm_join; shards of words that are those of no bytes: CWM_INCONSISTENT. Takes memory for 10 times N rows of a shard's
- * words and of 64 more, where N is `total` rounded up to a power of two. */
+ * cwm_join; shards of words that are those of no bytes: CWM_INCONSISTENT. Takes memory as cwm_join does: words are read
+ * from the bytes where these lie. */
 CWM_MUST_USE uint32_t cwm_join_bytes(const uint32_t *indices, size_t k, uint32_t min, uint32_t total, const uint8_t *shards,
                                      size_t n, uint8_t *data, size_t m, size_t *written);
 
@@ -242,7 +242,7 @@ CWM_MUST_USE uint32_t cwm_join_bytes(const uint32_t *indices, size_t k, uint32_t
  * data, rising, over the first of the `room` places of `left_out`, and how many they are into *many. The position of a
  * shard is its row. Where more shards are wrong than that, they may have other data, which are then given.
  * Sizes, words and statuses as for cwm_join_bytes; but there is no CWM_CONFLICT, and CWM_TOO_FEW says that i is below min.
- * room is k or more, else CWM_WRONG_SIZE. Where it is not CWM_DONE, nothing is written. Takes memory as cwm_join_bytes does. */
+ * room is k or more, else CWM_WRONG_SIZE. Where it is not CWM_DONE, nothing is written. Takes memory as cwm_join_corrected does. */
 CWM_MUST_USE uint32_t cwm_join_bytes_corrected(const uint32_t *indices, size_t k, uint32_t min, uint32_t total,
                                                const uint8_t *shards, size_t n, uint8_t *data, size_t m, size_t *written,
                                                size_t *left_out, size_t room, size_t *many);

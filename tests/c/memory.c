@@ -146,17 +146,18 @@ static void shards(uint32_t min, uint32_t total) {
   count("cwm_split_bytes", cwm_split_bytes(back, BLOCK, min, total, bytes, total * size), 1, rows * (size / 8 < strip ? size / 8 : strip) + rows);
   for (uint32_t k = min; k <= total; k += total > min ? total - min : 1) {
     /* one list as long as the data, the weights or the tables, a strip of the transforms and of a coset, and the rows as they stand */
-    count("cwm_join", cwm_join(indices, k, min, total, cells, k * cols, b, CELLS, &written), 1,
-          min * cols + 9 * (rows * min + 64 * rows) + 3 * k + 16384);
-    count("cwm_join_bytes", cwm_join_bytes(indices, k, min, total, bytes, k * size, back, ROOM, &written), 10, words);
+    size_t most = 9 * (rows * min + 64 * rows) + 3 * k + 16384;
+    count("cwm_join", cwm_join(indices, k, min, total, cells, k * cols, b, CELLS, &written), 1, min * cols + most);
+    count("cwm_join_bytes", cwm_join_bytes(indices, k, min, total, bytes, k * size, back, ROOM, &written), 1, min * size / 8 + most);
   }
   for (uint32_t i = 0; i < (total - min) / 2; i++) cells[i * cols] = 1, memset(bytes + i * size, 1, 8);
   count("cwm_join_corrected", cwm_join_corrected(indices, total, min, total, cells, total * cols, b, CELLS, &written, wrong, total, &many), 9, words);
-  count("cwm_join_bytes_corrected", cwm_join_bytes_corrected(indices, total, min, total, bytes, total * size, back, ROOM, &written, wrong, total, &many), 10, words);
+  count("cwm_join_bytes_corrected", cwm_join_bytes_corrected(indices, total, min, total, bytes, total * size, back, ROOM, &written, wrong, total, &many), 9, words);
   __real_free(bytes), __real_free(back), __real_free(cells);
 }
 
-/* Shards of 40 MB, of which 10 of 16 give them back: beside them a fifth of the data may be taken. */
+/* Shards of 40 MB, of which 10 of 16 give them back: beside them a fifth of the data may be taken, and 1.2 times the data where they
+ * are joined. */
 static void large(void) {
   size_t n = 40000000, size;
   if (cwm_shard_bytes_sizes(n, 10, 16, &size) != CWM_DONE) exit(2);
@@ -164,6 +165,8 @@ static void large(void) {
   memset(data, 7, n);
   peak = 0;
   count("cwm_split_bytes, 40 MB", cwm_split_bytes(data, n, 10, 16, bytes, 16 * size), 0.2, n / 8);
+  for (uint32_t k = 10; k <= 16; k += 6)
+    count("cwm_join_bytes, 40 MB", cwm_join_bytes(indices, k, 10, 16, bytes, k * size, data, n, &written), 1.2, n / 8);
   __real_free(data), __real_free(bytes);
 }
 

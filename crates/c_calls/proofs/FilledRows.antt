@@ -1,5 +1,5 @@
 -- Rows of which the filled ones alone are read: what is recovered and corrected of them is what is of all.
-use Rattle.std.proofs.Common.{◌≡◌, ◌∙◌, inl, inr, ℕ, zero, suc, ◌+◌, ◌*◌, ◌<◌, ◌≤◌, ◌==◌, List, [], ◌∷◌, ◌++◌, Bool, true, false, length, take, drop, get_or, replicate, All, refl, sym, ap, ap₂, subst, arith}
+use Rattle.std.proofs.Common.{◌≡◌, ◌∙◌, inl, inr, ℕ, ◌+◌, ◌*◌, ◌<◌, ◌≤◌, ◌==◌, List, ◌++◌, Bool, true, false, length, take, drop, get_or, All, refl, sym, ap, ap₂, subst, arith}
 use Rattle.std.proofs.lemmas.Bool.{cases_lt, eqb-true}
 use Rattle.std.proofs.lemmas.List.{get_or-append-add, get_or_append_left, get_or-drop, get_or-map, get_or-take, length-append, length-map}
 use Rattle.std.proofs.lemmas.Nat.{mul-add-lt}

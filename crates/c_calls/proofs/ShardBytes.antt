@@ -1,17 +1,29 @@
 -- Bytes as the words of shards, and the shards that they are.
-use Rattle.std.proofs.Common.{◌≡◌, ◌∙◌, ℕ, ◌*◌, ◌<◌, ◌^◌, List, [], ◌∷◌, length, replicate, refl, sym, ap, ap₂, subst, arith}
-use Rattle.std.specs.Int.{to_be_bytes, w64}
+use Rattle.std.proofs.Common.{◌≡◌, ◌↔◌, ◌∙◌, ℕ, ◌*◌, ◌/◌, ◌<◌, ◌^◌, ◌⊎◌, inl, inr, Option, None, Some, Result, Err, List, [], ◌∷◌, length, map, get_or, replicate, refl, sym, ap, ap₂, subst, arith}
+use Rattle.std.specs.Int.{from_be_bytes, to_be_bytes, w64}
 use Rattle.std.specs.List.{All}
-use Rattle.std.proofs.lemmas.List.{length-replicate}
+use Rattle.std.specs.Option.{IfNone, IsSome}
+use Rattle.std.specs.Simd.{first_chunks}
+use Rattle.std.proofs.Math.ListN.{get_or-map}
+use Rattle.std.proofs.lemmas.List.{length-map, length-replicate}
 use Rattle.std.proofs.lemmas.List.Concat.{flat_map-cons}
-use Rattle.std.proofs.lemmas.List.Elements.{All-head, All-tail}
+use Rattle.std.proofs.lemmas.List.Elements.{All-head, All-map, All-tail}
+use Rattle.math_numbers.specs.Goldilocks.{P}
 use Rattle.math_codec.specs.WordLaws.{word_apart}
+use Rattle.math_shards.specs.declared.shards.Error.{Error}
+use Rattle.math_shards.specs.declared.shards.Error.TheVariants.{Memory, TooFew, Mismatch, Index, Conflict, Inconsistent}
 use Rattle.math_splitting.specs.declared.shards.Shard.{Shard}
-use Rattle.math_splitting.specs.Shards.{width_for}
+use Rattle.math_splitting.specs.DataWords.{spelled_words}
+use Rattle.math_shards.specs.Joining.{HaveConflict, IsMemory, RefusesWhereDue}
+use Rattle.math_splitting.specs.Shards.{JoinTo, distinct_indices, width_for}
+use Rattle.math_shards.proofs.DueErrors.{joined_beside, joined_of_some, not_due}
+use Rattle.math_shards.proofs.OnlyData.{only_data}
+use Rattle.math_splitting.proofs.SpelledWords.{bytes-spelled, spelled-words}
 use Rattle.shard_blocks.specs.BlockWords.{words_of_bytes}
-use Rattle.shard_blocks.specs.Blocks.{JoinToBlock}
-use Rattle.shard_blocks.specs.Correcting.{CorrectToBlock}
-use Rattle.c_calls.specs.ShardBytes.{AreByteRowsOf, DoCorrectToBlock, DoJoinToBlock, HaveShardBytes, SpellElements, word_bytes}
+use Rattle.shard_blocks.specs.Blocks.{AreRowsRefused, DoRowsJoinTo, JoinToBlock}
+use Rattle.shard_blocks.specs.Correcting.{CorrectToBlock, IsBlockDueCorrecting}
+use Rattle.shard_blocks.proofs.BlockErrors.{block_beside, block_of_some, block_once}
+use Rattle.c_calls.specs.ShardBytes.{AreBlockRefused, AreBlockRefusedCorrecting, AreByteRowsOf, DoCorrectToBlock, DoJoinToBlock, HaveShardBytes, SpellElements, word_bytes}
 use Rattle.c_calls.specs.WordElements.{AreElements}
 use Rattle.c_calls.specs.WordShards.{AreWordShards}
 use Rattle.c_calls.proofs.AlikeShards.{below_corrected, below_there, correct_given, join_given, rows_corrected, rows_there}
@@ -66,6 +78,69 @@ block_given block min total indices cells shards below (others, e, there, are, j
     let one : others ≡ cells = one_spelling others cells (fit_in_words others others_below) (fit_in_words cells below) (sym e) in
     (join.0, join_given words min total indices cells shards (there, subst (λ ws. AreWordShards min total indices ws there) one are, join.1) k)
 
+-- bytes that are words below P are those of the words that they spell
+pub cells_of_spelled : (bytes : List ℕ) → SpellElements bytes → AreElements (spelled_words bytes) × (bytes ≡ word_bytes (spelled_words bytes))
+cells_of_spelled bytes (words, below, e) =
+    let one : spelled_words bytes ≡ words = ap spelled_words e ∙ spelled-words words (fit_in_words words below) in
+    (subst AreElements (sym one) below, e ∙ ap word_bytes (sym one))
+
+-- bytes are words below P where each eight of them are
+pub elements_of_chunks : (bytes : List ℕ) (chunks : List (List ℕ)) → (count : ℕ) × (length bytes ≡ 8 * count) → ((i : ℕ) → get_or bytes i 0 < 256) → chunks ≡ first_chunks 8 (length bytes / 8) bytes
+    → All (λ word. from_be_bytes w64 word < P) chunks ↔ SpellElements bytes
+elements_of_chunks bytes chunks (n, size) each e =
+    let words : map (from_be_bytes w64) chunks ≡ spelled_words bytes = ap (map (from_be_bytes w64)) e in (
+      λ below. (spelled_words bytes, subst AreElements words (All-map (λ w. w < P) (from_be_bytes w64) chunks below), bytes-spelled n bytes size each),
+      λ spell k d l.
+          let below : AreElements (map (from_be_bytes w64) chunks) = subst AreElements (sym words) (cells_of_spelled bytes spell).0 in
+          subst (λ w. w < P) (get_or-map (from_be_bytes w64) chunks k d) (below k (from_be_bytes w64 d) (omega (arith, l, length-map chunks (from_be_bytes w64)))),
+    )
+
+-- what is said where there is no answer; and there is one where that is false
+pub none_then : {X A B : Type 0} (o : Option X) → (A → B) → IfNone o A → IfNone o B
+none_then None f a = f a
+none_then (Some x) f a = tt
+
+pub some_unless : {X A : Type 0} (o : Option X) → ¬ A → IfNone o A → IsSome o
+some_unless None n a = absurd (n a)
+some_unless (Some x) n a = refl
+
+-- an error of an answer that is each of them exactly where it is due is due, or memory ran out
+pub due_of_refusals : {X : Type 0} (due : Error → Type 0) (e : Error) → RefusesWhereDue {X = X} (Err e) due TooFew → RefusesWhereDue {X = X} (Err e) due Mismatch
+    → RefusesWhereDue {X = X} (Err e) due Index → RefusesWhereDue {X = X} (Err e) due Conflict → RefusesWhereDue {X = X} (Err e) due Inconsistent → IsMemory e ⊎ due e
+due_of_refusals due (Memory m) a b c d f = inl tt
+due_of_refusals due TooFew a b c d f = inr (a.0 refl)
+due_of_refusals due Mismatch a b c d f = inr (b.0 refl)
+due_of_refusals due Index a b c d f = inr (c.0 refl)
+due_of_refusals due Conflict a b c d f = inr (d.0 refl)
+due_of_refusals due Inconsistent a b c d f = inr (f.0 refl)
+
+-- Rows of bytes that are words below P.
+module _ (min total : ℕ) (indices bytes : List ℕ) (h : SpellElements bytes) where
+  -- what their words join to, the bytes join to
+  pub join_of_rows : (block : List ℕ) → DoRowsJoinTo block min total indices (spelled_words bytes) → DoJoinToBlock block min total indices bytes
+  join_of_rows block (shards, are, join) = (spelled_words bytes, (cells_of_spelled bytes h).1, shards, are, join)
+
+  pub refused_of_rows : (e : Error) → IsMemory e ⊎ AreRowsRefused e min total indices (spelled_words bytes) → IsMemory e ⊎ AreBlockRefused e min total indices bytes
+  refused_of_rows e (inl memory) = inl memory
+  refused_of_rows e (inr (shards, are, due)) = inr (spelled_words bytes, (cells_of_spelled bytes h).1, shards, are, due)
+
+  -- the block is that of any shards that are their words
+  pub block_of_rows : (block : List ℕ) (shards : List Shard) → DoJoinToBlock block min total indices bytes → AreWordShards min total indices (spelled_words bytes) shards → JoinToBlock block shards
+  block_of_rows block shards k are =
+      let cells = cells_of_spelled bytes h in
+      block_given block min total indices (spelled_words bytes) shards cells.0 (subst (λ bs. DoJoinToBlock block min total indices bs) cells.1 k) are
+
+  -- so it is the only one, and nothing but memory can be wanting
+  pub one_block_of_rows : (block other : List ℕ) → DoJoinToBlock block min total indices bytes → DoRowsJoinTo other min total indices (spelled_words bytes) → other ≡ block
+  one_block_of_rows block other k (shards, are, join) =
+      block_once HaveConflict distinct_indices JoinTo joined_of_some joined_beside only_data other block shards join (block_of_rows block shards k are)
+
+  pub memory_of_rows : (block : List ℕ) (e : Error) → DoJoinToBlock block min total indices bytes → IsMemory e ⊎ AreRowsRefused e min total indices (spelled_words bytes) → IsMemory e
+  memory_of_rows block e k (inl memory) = memory
+  memory_of_rows block e k (inr (shards, are, due)) =
+      not_due HaveConflict distinct_indices JoinToBlock (block_of_some HaveConflict distinct_indices JoinTo joined_of_some joined_beside only_data)
+      (block_beside HaveConflict distinct_indices JoinTo joined_of_some joined_beside only_data) block shards (block_of_rows block shards k are) e due
+
 -- so it is of bytes that are corrected
 pub byte_rows_corrected : (block positions : List ℕ) (min total : ℕ) (indices bytes : List ℕ) → DoCorrectToBlock block positions min total indices bytes
     → AreByteRowsOf (length bytes) (length indices)
@@ -84,3 +159,14 @@ corrected_given block positions min total indices cells shards below (others, e,
     let others_below = below_corrected words positions min total indices others (there, are, correct.1) in
     let one : others ≡ cells = one_spelling others cells (fit_in_words others others_below) (fit_in_words cells below) (sym e) in
     (correct.0, correct_given words positions min total indices cells shards (there, subst (λ ws. AreWordShards min total indices ws there) one are, correct.1) k)
+
+pub corrected_of_rows : (min total : ℕ) (indices bytes : List ℕ) → SpellElements bytes → (block positions : List ℕ) (shards : List Shard) → DoCorrectToBlock block positions min total indices bytes
+    → AreWordShards min total indices (spelled_words bytes) shards → CorrectToBlock block shards
+corrected_of_rows min total indices bytes h block positions shards k are =
+    let cells = cells_of_spelled bytes h in
+    corrected_given block positions min total indices (spelled_words bytes) shards cells.0 (subst (λ bs. DoCorrectToBlock block positions min total indices bs) cells.1 k) are
+
+pub refused_of_corrected : (min total : ℕ) (indices bytes : List ℕ) → SpellElements bytes → (shards : List Shard) (e : Error) → AreWordShards min total indices (spelled_words bytes) shards
+    → IsMemory e ⊎ IsBlockDueCorrecting shards e → IsMemory e ⊎ AreBlockRefusedCorrecting e min total indices bytes
+refused_of_corrected min total indices bytes h shards e are (inl memory) = inl memory
+refused_of_corrected min total indices bytes h shards e are (inr due) = inr (spelled_words bytes, (cells_of_spelled bytes h).1, shards, are, due)

@@ -3,19 +3,20 @@
 //! Each word of a shard is eight bytes, the highest first, as words are in the encoding of a
 //! polynomial.
 
-ghost use Rattle.std.specs.Prelude.{◌≡◌, ◌↔◌, ◌<◌, ◌≤◌, ◌*◌, ◌⊎◌, ℕ, List, IsTrue, IsSome, IfOk, IfErr, IfSome, IfNone, MatchResult, None, OnOk, OnErr, length};
+ghost use Rattle.std.specs.Prelude.{◌≡◌, ◌↔◌, ◌<◌, ◌≤◌, ◌*◌, ◌⊎◌, ℕ, All, List, IsTrue, IsSome, IfOk, IfErr, IfSome, IfNone, MatchResult, None, OnOk, OnErr, length};
+ghost use Rattle.std.specs.Int.{from_be_bytes, w64};
+ghost use Rattle.math_numbers.specs.Goldilocks.{P};
 ghost use Rattle.math_shards.specs.Joining.{IsMemory};
 ghost use Rattle.c_calls.specs.ShardBytes.{AreBlockRefused, AreBlockRefusedCorrecting, AreByteRowsOf, AreBytesOfShards, DoCorrectToBlock, DoJoinToBlock, HaveShardBytes, SpellElements, word_bytes};
 ghost use Rattle.c_calls.specs.WordElements.{AreElements};
 ghost use Rattle.c_calls.specs.WordEncodings.{StandInFront};
 ghost use Rattle.c_calls.specs.WordShards.{IsSplit};
 
-use crate::elements::are_elements;
 use crate::shards;
 use commonware_math::algebra::Mem;
-use commonware_math::codec::Read;
+use commonware_math::fields::goldilocks::MODULUS;
 use commonware_math::shards::shards_of_rows;
-use shard_blocks::{Error, cells_for, join_block, join_block_corrected, split_block_rows};
+use shard_blocks::{Error, cells_for, join_block_corrected, join_block_rows, split_block_rows};
 use std::alloc::Global;
 
 /// 2^60: all shards have fewer bytes.
@@ -69,114 +70,89 @@ pub fn cols_of(n: usize, rows: usize) -> Option<usize>
     shards::cols_of(n / 8, rows)
 }
 
-/// The words that the bytes are.
-fn words_of(alloc: Global, bytes: &[u8]) -> Mem<Vec<u64>>
+/// Whether the bytes are words below P.
+pub fn are_elements(bytes: &[u8]) -> bool
     requires { (count : ℕ) × (length bytes.now ≡ 8 * count) }
-    ensures words { IfOk result (λ words. bytes.now ≡ word_bytes words.items) }
-    ensures only { (others : List ℕ) → AreElements others → bytes.now ≡ word_bytes others
-        → IfOk result (λ words. words.items ≡ others) }
+    ensures { IsTrue result ↔ SpellElements bytes.now }
 {
-    let count = bytes.len() / 8;
-    let mut words = Vec::with_capacity(alloc, count)?;
-    let mut rest = bytes;
-    for _done in 0..count {
-        let Ok(word) = u64::read_cfg(alloc, &mut rest, &()) else {
-            unreachable!()
-        };
-        words.push(word)?;
-    }
-    Ok(words)
+    let (words, _) = bytes.as_chunks::<8>();
+    are_below(words)
 }
 
-/// The words that the bytes are, where each is below P.
-pub fn words_below(alloc: Global, bytes: &[u8]) -> Mem<Option<Vec<u64>>>
-    requires { (count : ℕ) × (length bytes.now ≡ 8 * count) }
-    ensures some { IfOk result (λ answer. IfSome answer (λ words.
-        AreElements words.items × (bytes.now ≡ word_bytes words.items))) }
-    ensures none { IfOk result (λ answer. answer ≡ None → ¬ (SpellElements bytes.now)) }
+/// Whether each word, as its eight bytes, the highest first, is below P.
+fn are_below(words: &[[u8; 8]]) -> bool
+    ensures { IsTrue result ↔ All (λ word. from_be_bytes w64 word < P) words.now }
 {
-    let words = words_of(alloc, bytes)?;
-    if are_elements(&words) {
-        Ok(Some(words))
-    } else {
-        Ok(None)
-    }
+    words.iter().all(|word| u64::from_be_bytes(*word) < MODULUS)
 }
 
 /// Writes the block that the shards give back over the first bytes of `out`, and gives their
 /// number.
 ///
-/// The shards are handed in as words. `None` where there is no room. It refuses as `join_block`
-/// does.
+/// `None` where there is no room. It refuses as `join_block` does.
 pub fn write_block(
     alloc: Global,
     indices: &[u32],
     min: u32,
     total: u32,
-    cells: &[u64],
+    shards: &[u8],
     cols: usize,
     out: &mut [u8],
 ) -> Result<Option<usize>, Error>
-    requires count { length cells.now ≡ length indices.now * cols }
-    requires below { AreElements cells.now }
+    requires count { length shards.now ≡ 8 * (length indices.now * cols) }
+    requires below { SpellElements shards.now }
     ensures some { IfOk result (λ answer. IfSome answer (λ n. (block : List ℕ)
-        × DoJoinToBlock block min total indices.now (word_bytes cells.now) × (n ≡ length block)
+        × DoJoinToBlock block min total indices.now shards.now × (n ≡ length block)
         × StandInFront block out.old out.new)) }
     ensures none { IfOk result (λ answer. IfNone answer ((block : List ℕ)
-        × DoJoinToBlock block min total indices.now (word_bytes cells.now)
+        × DoJoinToBlock block min total indices.now shards.now
         × (length out.old < length block))) }
     ensures kept { IfOk result (λ answer. IfNone answer (out.new ≡ out.old)) }
     ensures err { OnErr result (out.new ≡ out.old) }
     ensures due { IfErr result (λ e. IsMemory e
-        ⊎ AreBlockRefused e min total indices.now (word_bytes cells.now)) }
+        ⊎ AreBlockRefused e min total indices.now shards.now) }
     ensures found { (block : List ℕ)
-        → DoJoinToBlock block min total indices.now (word_bytes cells.now)
+        → DoJoinToBlock block min total indices.now shards.now
         → length block ≤ length out.old → MatchResult result (λ answer. IsSome answer) IsMemory }
 {
-    let shards = shards_of_rows(alloc, indices, min, total, cells, cols)?;
-    let block = join_block(alloc, &shards)?;
-    let n = block.len();
-    if n > out.len() {
-        return Ok(None);
-    }
-    out[..n].copy_from_slice(&block);
-    Ok(Some(n))
+    let written = join_block_rows(alloc, indices, min, total, shards, cols, out)?;
+    Ok(written)
 }
 
 /// Writes the block of the shards, however some are wrong, over the first bytes of `out`, and the
 /// positions of the wrong ones over the first items of `left_out`, and gives the numbers of both.
 ///
-/// The shards are handed in as words. `None` where there is no room for the block. It refuses as
-/// `join_block_corrected` does.
+/// `None` where there is no room for the block. It refuses as `join_block_corrected` does.
 pub fn write_corrected_block(
     alloc: Global,
     indices: &[u32],
     min: u32,
     total: u32,
-    cells: &[u64],
+    shards: &[u8],
     cols: usize,
     out: &mut [u8],
     left_out: &mut [usize],
 ) -> Result<Option<(usize, usize)>, Error>
-    requires count { length cells.now ≡ length indices.now * cols }
-    requires below { AreElements cells.now }
+    requires count { length shards.now ≡ 8 * (length indices.now * cols) }
+    requires below { SpellElements shards.now }
     requires room { length indices.now ≤ length left_out.old }
     ensures some { IfOk result (λ answer. IfSome answer (λ n. (block positions : List ℕ)
-        × DoCorrectToBlock block positions min total indices.now (word_bytes cells.now)
+        × DoCorrectToBlock block positions min total indices.now shards.now
         × (n.0 ≡ length block) × StandInFront block out.old out.new
         × (n.1 ≡ length positions) × StandInFront positions left_out.old left_out.new)) }
     ensures none { IfOk result (λ answer. IfNone answer ((block positions : List ℕ)
-        × DoCorrectToBlock block positions min total indices.now (word_bytes cells.now)
+        × DoCorrectToBlock block positions min total indices.now shards.now
         × (length out.old < length block))) }
     ensures kept { IfOk result (λ answer. IfNone answer
         ((out.new ≡ out.old) × (left_out.new ≡ left_out.old))) }
     ensures err { OnErr result ((out.new ≡ out.old) × (left_out.new ≡ left_out.old)) }
     ensures due { IfErr result (λ e. IsMemory e
-        ⊎ AreBlockRefusedCorrecting e min total indices.now (word_bytes cells.now)) }
+        ⊎ AreBlockRefusedCorrecting e min total indices.now shards.now) }
     ensures found { (block positions : List ℕ)
-        → DoCorrectToBlock block positions min total indices.now (word_bytes cells.now)
+        → DoCorrectToBlock block positions min total indices.now shards.now
         → length block ≤ length out.old → MatchResult result (λ answer. IsSome answer) IsMemory }
 {
+    let (cells, _) = shards.as_chunks::<8>();
     let shards = shards_of_rows(alloc, indices, min, total, cells, cols)?;
     let joined = join_block_corrected(alloc, &shards)?;
     let length = joined.bytes.len();

@@ -556,12 +556,10 @@ pub extern "C" fn cwm_join_bytes(
     let Some(cols) = blocks::cols_of(shards.len(), indices.len()) else {
         return Status::WrongSize.code();
     };
-    let cells = match blocks::words_below(alloc, shards) {
-        Ok(Some(cells)) => cells,
-        Ok(None) => return Status::OutOfRange.code(),
-        Err(_) => return Status::OutOfMemory.code(),
-    };
-    match blocks::write_block(alloc, indices, min, total, &cells, cols, out) {
+    if !blocks::are_elements(shards) {
+        return Status::OutOfRange.code();
+    }
+    match blocks::write_block(alloc, indices, min, total, shards, cols, out) {
         Ok(Some(many)) => {
             *written = many;
             Status::Done.code()
@@ -611,12 +609,10 @@ pub extern "C" fn cwm_join_bytes_corrected(
     if left_out.len() < indices.len() {
         return Status::WrongSize.code();
     }
-    let cells = match blocks::words_below(alloc, shards) {
-        Ok(Some(cells)) => cells,
-        Ok(None) => return Status::OutOfRange.code(),
-        Err(_) => return Status::OutOfMemory.code(),
-    };
-    match blocks::write_corrected_block(alloc, indices, min, total, &cells, cols, out, left_out) {
+    if !blocks::are_elements(shards) {
+        return Status::OutOfRange.code();
+    }
+    match blocks::write_corrected_block(alloc, indices, min, total, shards, cols, out, left_out) {
         Ok(Some((bytes, positions))) => {
             *written = bytes;
             *many = positions;

@@ -11,11 +11,14 @@ use Rattle.math_transforms.specs.DomainValues.{matrix_of}
 use Rattle.math_transforms.specs.Matrices.{MatrixOf, column_of, row_of}
 use Rattle.math_transforms.proofs.MatrixRows.{cell-of_column}
 use Rattle.math_shards.specs.Weights.{coefficient_of}
-use Rattle.math_splitting.proofs.GatheredColumns.{column_in}
 use Rattle.math_splitting.proofs.SameCells.{nought}
 
--- a column has an item for each row
-pub column-count : (count width k : ℕ) (cells room : List F) → room ≡ column_in count width cells k → length room ≡ count
+-- the column of these cells
+abbrev pub column_in : ℕ → ℕ → List F → ℕ → List F
+column_in count width cells k = column_of nought (matrix_of count width cells) k
+
+-- it has an item for each row
+column-count : (count width k : ℕ) (cells room : List F) → room ≡ column_in count width cells k → length room ≡ count
 column-count count width k cells room is = ap length is ∙ columns_are_full (matrix_of count width cells) k nought
 
 -- the first r cells of a column have these values, and the cells of the other columns are as they were

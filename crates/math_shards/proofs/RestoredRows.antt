@@ -15,10 +15,10 @@ use Rattle.math_shards.specs.Fitting.{HasValuesOf, distinct_among}
 use Rattle.math_restoring.specs.Restored.{AreDistinct, HaveCellsAsValues}
 use Rattle.math_splitting.specs.Shards.{value_at_index}
 use Rattle.math_shards.specs.Weights.{AreChosen}
+use Rattle.math_shards.proofs.PutCoefficients.{column_in}
 use Rattle.math_shards.proofs.ChosenRows.{below-kept, cell-at, chosen_among, count-kept, distinct-kept, distinct-most, is_one_of}
 use Rattle.math_shards.proofs.CountedIndices.{weight, weight_kept}
 use Rattle.math_shards.proofs.OnlyCoefficients.{coefficients_once}
-use Rattle.math_splitting.proofs.GatheredColumns.{column_in}
 use Rattle.math_splitting.proofs.SameCells.{nought}
 
 -- items that pass a test are fewer than those that pass another, where each that passes the one passes the other, and item k passes the other alone

@@ -2,7 +2,7 @@
 use Rattle.std.proofs.Common.{◌≡◌, ◌↔◌, ◌∙◌, ℕ, ◌+◌, ◌%◌, ◌<◌, ◌&&◌, Bool, true, List, [], ◌∷◌, ◌++◌, length, map, take, drop, get_or, sym, ap, append_assoc, arith}
 use Rattle.std.specs.List.{AllZip}
 use Rattle.std.proofs.lemmas.Bool.{and_from, and_parts}
-use Rattle.std.proofs.lemmas.List.{get_or_default, get_or-drop, get_or-map, get_or-take, length-take-le, map-append, take_more}
+use Rattle.std.proofs.lemmas.List.{drop-map, get_or_default, get_or-drop, get_or-map, get_or-take, length-drop, length-take, length-take-le, map-append, take-map, take_more}
 use Rattle.std.proofs.lemmas.List.Elements.{AllZip-get_or}
 use Rattle.math_numbers.specs.Goldilocks.{P}
 use Rattle.math_base.specs.declared.fields.goldilocks.F.{F}
@@ -11,6 +11,18 @@ use Rattle.math_base.proofs.ElementNumbers.{same_number}
 use Rattle.math_transforms.proofs.PlaceByPlace.{AllZip-next}
 use Rattle.math_transforms.proofs.WrittenRows.{part-read}
 use Rattle.math_splitting.proofs.SameCells.{nought, same_by_items}
+
+-- the number of an item in its place
+pub number_at : {A : Type 0} (f : A → ℕ) (xs : List A) (i : ℕ) (x : A) → i < length xs → x ≡ get_or xs i x → f x ≡ get_or (map f xs) i 0
+number_at f xs i x l e = ap f e ∙ sym (get_or-map f xs i x 0 l)
+
+-- and of one in a part
+pub number_in : {A : Type 0} (f : A → ℕ) (xs : List A) (from n i : ℕ) (x : A) → i < n → from + i < length xs → x ≡ get_or (take n (drop from xs)) i x
+    → f x ≡ get_or (take n (drop from (map f xs))) i 0
+number_in f xs from n i x l b e =
+    let part = take n (drop from xs) in
+    number_at f part i x (omega (arith, l, b, length-take n (drop from xs), length-drop from xs)) e
+    ∙ ap (λ ys. get_or ys i 0) (sym (ap (take n) (drop-map f from xs) ∙ take-map f n (drop from xs)))
 
 -- the element of one word more
 pub words-more : (words : List ℕ) (i : ℕ) (old items new : List F) (x : F) → i < length words → number x ≡ get_or words i 0 % P → items ≡ old ++ map residue (take i words)

@@ -213,14 +213,18 @@ marked_of_data elements words min width some size h =
 -- The words of data.
 
 -- behind the first one, the words that the elements of data unpack to are the data
-word_of_data : (words : List ℕ) (min : ℕ) (elements : List F) → AreDataOf words min elements → (k : ℕ) → k < length words → get_or (words_of elements) (k + 1) 0 ≡ get_or words k 0
+pub word_of_data : (words : List ℕ) (min : ℕ) (elements : List F) → AreDataOf words min elements → (k : ℕ) → k < length words → get_or (words_of elements) (k + 1) 0 ≡ get_or words k 0
 word_of_data words min elements h k within =
     let stand = data_stand (min * width_for min words) words h.each_word h.few in
     let behind : k + 1 - 1 ≡ k = omega arith in
     ap (λ (ws : List ℕ). get_or ws (k + 1) 0) (ap words_of h.packed ∙ stand.1) ∙ get_or-append (counted words) stand.0 0 (k + 1) (omega arith)
     ∙ counted-behind words (k + 1) (omega arith) ∙ ap (λ m. get_or words m 0) behind
 
--- a list of as many words as the data, which are those that the elements unpack to, from the second one on, is the data
-pub written_data : (words out : List ℕ) (min : ℕ) (elements : List F) → length words ≡ length out → AreDataOf words min elements → AreUnpacked elements 1 out → out ≡ words
-written_data words out min elements long h each =
-    ext_get_or 0 out words (sym long) (λ k l. each k l ∙ ap (λ n. get_or (words_of elements) n 0) (add_comm 1 k) ∙ word_of_data words min elements h k (omega (arith, l, long)))
+-- words in a row of those that the elements unpack to, behind the first one, are words of the data
+pub written_data : (words out : List ℕ) (min first : ℕ) (elements : List F) → first + length out ≤ length words → AreDataOf words min elements → AreUnpacked elements (first + 1) out
+    → out ≡ take (length out) (drop first words)
+written_data words out min first elements within h each =
+    let n = length out in
+    ext_get_or 0 out (take n (drop first words)) (sym (length-take-le n (drop first words) (omega (arith, within, length-drop first words))))
+    (λ k l. each k l ∙ ap (λ m. get_or (words_of elements) m 0) (let e : first + 1 + k ≡ first + k + 1 = omega arith in e)
+    ∙ word_of_data words min elements h (first + k) (omega (arith, l, within)) ∙ sym (part-read 0 words first n k l))

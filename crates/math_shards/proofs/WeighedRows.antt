@@ -14,8 +14,8 @@ use Rattle.math_transforms.proofs.MatrixRows.{cell-of_column, length-pieces}
 use Rattle.math_restoring.specs.Restored.{HaveCellsAsValues}
 use Rattle.math_splitting.specs.Shards.{value_at_index}
 use Rattle.math_shards.specs.Weights.{AreCoefficients, AreWeightsOf, weight_polynomial}
-use Rattle.math_splitting.proofs.GatheredColumns.{column_in}
 use Rattle.math_splitting.proofs.SameCells.{nought}
+use Rattle.math_shards.proofs.PutCoefficients.{column_in}
 use Rattle.math_shards.proofs.WeightedColumns.{HaveLength, column_at, value-at_place-same}
 
 module _ (total width : ℕ) (indices : List ℕ) (weights : MatrixOf F) (old new : List F) (size : length old ≡ length indices * width)

@@ -17,7 +17,6 @@ use Rattle.math_values.specs.Values.{AreElements, elements}
 use Rattle.math_shards.specs.declared.shards.Error.{Error}
 use Rattle.math_shards.specs.declared.shards.Error.TheVariants.{TooFew, Mismatch, Index}
 use Rattle.math_splitting.specs.declared.shards.Shard.{Shard}
-use Rattle.math_shards.specs.declared.shards.rows.WordRow.{WordRow}
 use Rattle.math_shards.specs.Fitting.{DoRowsFit}
 use Rattle.math_shards.specs.Joining.{HasUnsound, IsDueOfRows, IsMemory, IsSound, Matches}
 use Rattle.math_shards.specs.WordShards.{AreRefused, AreWordShards, DoJoinTo}
@@ -81,7 +80,7 @@ shards_all min total indices cells cols i shards count all h e =
     }
 
 -- Rows of words as shards: a vector lends its place to those of their cells.
-module _ (some : Vec WordRow) (min total cols : ℕ) (small : cols < 2 ^ 63) where
+module _ {R : Type 0} (some : Vec R) (min total cols : ℕ) (small : cols < 2 ^ 63) where
   abbrev pub vec_of : List ℕ → Vec F
   vec_of row = record {
     ptr = some.ptr;
@@ -156,10 +155,10 @@ pieces-more (suc n) cols cells =
     ∙ ap (λ xs. take cols cells ∷ (pieces n cols (drop cols cells) ++ take cols xs ∷ [])) (drop-drop (n * cols) cols cells ∙ ap (λ m. drop m cells) e)
 
 -- rows of words, each with its index
-pub rows_below : (total : ℕ) (indices : List ℕ) (rows : List WordRow) → map (λ (row : WordRow). row.index) rows ≡ indices → All (λ n. n < total) indices → All (λ row. row.index < total) rows
-rows_below total indices rows keys below = λ k d l.
-    let there : k < length indices = omega (arith, l, ap length keys, length-map rows (λ (row : WordRow). row.index)) in
-    subst (λ n. n < total) (ap (λ xs. get_or xs k d.index) (sym keys) ∙ get_or-map (λ (row : WordRow). row.index) rows k d) (below k d.index there)
+pub rows_below : {R : Type 0} (index : R → ℕ) (total : ℕ) (indices : List ℕ) (rows : List R) → map index rows ≡ indices → All (λ n. n < total) indices → All (λ row. index row < total) rows
+rows_below index total indices rows keys below = λ k d l.
+    let there : k < length indices = omega (arith, l, ap length keys, length-map rows index) in
+    subst (λ n. n < total) (ap (λ xs. get_or xs k (index d)) (sym keys) ∙ get_or-map index rows k d) (below k (index d) there)
 
 pieces_wide : (n cols : ℕ) (cells : List ℕ) → length cells ≡ n * cols → All (λ row. length row ≡ cols) (pieces n cols cells)
 pieces_wide zero cols cells e = λ k d l. absurd (omega (arith, l))
@@ -168,22 +167,16 @@ pieces_wide (suc n) cols cells e =
     All-cons (λ (row : List ℕ). length row ≡ cols) (take cols cells) (pieces n cols (drop cols cells)) (length-take-le cols cells (omega (arith, e, more)))
     (pieces_wide n cols (drop cols cells) (omega (arith, e, more, length-drop cols cells)))
 
-pub rows_wide : (n cols : ℕ) (cells : List ℕ) (rows : List WordRow) → length cells ≡ n * cols → map (λ (row : WordRow). row.words.now) rows ≡ pieces n cols cells
-    → All (λ (row : WordRow). length (elements row.words.now) ≡ cols) rows
-rows_wide n cols cells rows e words = λ k d l.
-    let there : k < length (pieces n cols cells) = omega (arith, l, ap length words, length-map rows (λ (row : WordRow). row.words.now)) in
-    length-map (get_or rows k d).words.now residue
-    ∙ subst (λ (row : List ℕ). length row ≡ cols) (ap (λ xs. get_or xs k d.words.now) (sym words) ∙ get_or-map (λ (row : WordRow). row.words.now) rows k d)
-    (pieces_wide n cols cells e k d.words.now there)
+pub rows_wide : {R : Type 0} (row_words : R → List ℕ) (n cols : ℕ) (cells : List ℕ) (rows : List R) → length cells ≡ n * cols → map row_words rows ≡ pieces n cols cells
+    → All (λ row. length (elements (row_words row)) ≡ cols) rows
+rows_wide row_words n cols cells rows e words = λ k d l.
+    let there : k < length (pieces n cols cells) = omega (arith, l, ap length words, length-map rows row_words) in
+    length-map (row_words (get_or rows k d)) residue
+    ∙ subst (λ (row : List ℕ). length row ≡ cols) (ap (λ xs. get_or xs k (row_words d)) (sym words) ∙ get_or-map row_words rows k d)
+    (pieces_wide n cols cells e k (row_words d) there)
 
 -- Rows of words, each with its index, and the shards that they are.
-module _ (some : Vec WordRow) (min total cols : ℕ) (small : cols < 2 ^ 63) where
-  abbrev row_index : WordRow → ℕ
-  row_index row = row.index
-
-  abbrev row_cells : WordRow → List F
-  row_cells row = elements row.words.now
-
+module _ {R : Type 0} (some : Vec R) (min total cols : ℕ) (small : cols < 2 ^ 63) where
   -- the shards are as wide as the rows, and have these numbers
   matches_of : (first : Shard) (indices cells : List ℕ) → first.min ≡ min → first.total ≡ total → length first.cells.items ≡ cols → 1 ≤ min → min ≤ total
       → length cells ≡ length indices * cols → All (Matches first) (word_shards some min total cols small indices cells)
@@ -265,41 +258,41 @@ module _ (some : Vec WordRow) (min total cols : ℕ) (small : cols < 2 ^ 63) whe
         (wide_first (length indices) cells e) some_min within e none,
   )
 
-  module _ (indices cells : List ℕ) (rows : List WordRow) (count : length cells ≡ length indices * cols) (below : AreElements cells) (there : 0 < length indices)
-      (keys : map row_index rows ≡ indices) (words : map (λ (row : WordRow). row.words.now) rows ≡ pieces (length indices) cols cells) where
+  module _ (row_index : R → ℕ) (row_words : R → List ℕ) (indices cells : List ℕ) (rows : List R) (count : length cells ≡ length indices * cols) (below : AreElements cells) (there : 0 < length indices)
+      (keys : map row_index rows ≡ indices) (words : map row_words rows ≡ pieces (length indices) cols cells) where
     abbrev shards_of : List Shard
     shards_of = word_shards some min total cols small indices cells
 
     same_keys : map key_of shards_of ≡ map row_index rows
     same_keys = keys_of some min total cols small indices cells ∙ sym keys
 
-    same_items : map items_in shards_of ≡ map row_cells rows
-    same_items = items_of some min total cols small indices cells ∙ ap (map elements) (sym words) ∙ map-map elements (λ (row : WordRow). row.words.now) rows
+    same_items : map items_in shards_of ≡ map (λ row. elements (row_words row)) rows
+    same_items = items_of some min total cols small indices cells ∙ ap (map elements) (sym words) ∙ map-map elements row_words rows
 
     -- the words that rows of words fit are the data of the shards that they are
-    pub join_of_words : (data_words : List ℕ) → DoRowsFit row_index row_cells data_words min total rows → DoJoinTo data_words min total indices cells
+    pub join_of_words : (data_words : List ℕ) → DoRowsFit row_index (λ row. elements (row_words row)) data_words min total rows → DoJoinTo data_words min total indices cells
     join_of_words data_words fit = (
       shards_of,
       are_word_shards some min total cols small indices cells count below,
       join_of_fit data_words min total shards_of (least_of some min total cols small indices cells) (most_of some min total cols small indices cells)
-          (fit_alike row_index row_cells rows key_of items_in shards_of same_keys same_items data_words min total fit),
+          (fit_alike row_index (λ row. elements (row_words row)) rows key_of items_in shards_of same_keys same_items data_words min total fit),
     )
 
   -- what is wrong with rows of words is wrong with the shards that they are
-  pub refused_rows : (indices cells : List ℕ) (rows : List WordRow) (count : length cells ≡ length indices * cols) (below : AreElements cells) (there : 0 < length indices)
-      (keys : map row_index rows ≡ indices) (words : map (λ (row : WordRow). row.words.now) rows ≡ pieces (length indices) cols cells) → 1 ≤ min → min ≤ total → All (λ n. n < total) indices
-      → (e : Error) → IsMemory e ⊎ IsDueOfRows row_index row_cells min total rows e → IsMemory e ⊎ AreRefused e min total indices cells
-  refused_rows [] cells rows count below there keys words some_min within inside e due = absurd (omega (arith, there))
-  refused_rows (i ∷ indices) cells rows count below there keys words some_min within inside e (inl memory) = inl memory
-  refused_rows (i ∷ indices) cells rows count below there keys words some_min within inside e (inr due) =
+  pub refused_rows : (row_index : R → ℕ) (row_words : R → List ℕ) (indices cells : List ℕ) (rows : List R) (count : length cells ≡ length indices * cols) (below : AreElements cells) (there : 0 < length indices)
+      (keys : map row_index rows ≡ indices) (words : map row_words rows ≡ pieces (length indices) cols cells) → 1 ≤ min → min ≤ total → All (λ n. n < total) indices
+      → (e : Error) → IsMemory e ⊎ IsDueOfRows row_index (λ row. elements (row_words row)) min total rows e → IsMemory e ⊎ AreRefused e min total indices cells
+  refused_rows row_index row_words [] cells rows count below there keys words some_min within inside e due = absurd (omega (arith, there))
+  refused_rows row_index row_words (i ∷ indices) cells rows count below there keys words some_min within inside e (inl memory) = inl memory
+  refused_rows row_index row_words (i ∷ indices) cells rows count below there keys words some_min within inside e (inr due) =
       let head : Shard = record { index = i; min = min; total = total; cells = vec_of some min total cols small cells } in
       let shards : List Shard = word_shards some min total cols small (i ∷ indices) cells in
       inr (
         shards,
         are_word_shards some min total cols small (i ∷ indices) cells count below,
         rows_due head shards e (sound_of head (i ∷ indices) cells refl refl (wide_first (length indices) cells count) some_min within count inside) (omega arith)
-            (inr (due_alike row_index row_cells rows key_of items_in shards min total (same_keys (i ∷ indices) cells rows count below there keys words)
-            (same_items (i ∷ indices) cells rows count below there keys words) e due)),
+            (inr (due_alike row_index (λ row. elements (row_words row)) rows key_of items_in shards min total (same_keys row_index row_words (i ∷ indices) cells rows count below there keys words)
+            (same_items row_index row_words (i ∷ indices) cells rows count below there keys words) e due)),
       )
 
 -- no index at all

@@ -18,15 +18,17 @@ mod rows;
 mod unpacking;
 mod weighing;
 
-pub use correcting::{Joined, join_corrected};
-pub use joining::join;
-pub use joining_rows::{join_rows, shards_of_rows};
+pub use correcting::{Joined, join_corrected, join_packed_corrected};
+pub use joining::{join, join_packed};
+pub use joining_rows::{join_cells, join_rows, shards_of_rows};
 pub use math_splitting::shards::{
     Room, Shard, Source, Word, shard_width, split, split_rows, split_source, split_source_at,
-    split_source_rows,
+    split_source_rows, split_source_rows_at,
 };
+pub use rows::Cell;
 use std::alloc::{AllocError, AllocFailed};
 use thiserror::Error;
+pub use unpacking::PackedData;
 
 /// Why shards give no data back.
 #[derive(Debug, Drop, Error)]

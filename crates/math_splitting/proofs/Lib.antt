@@ -5,7 +5,7 @@ pub mod PackedWords
 pub mod StripColumns
 pub mod StripSizes
 pub mod BegunShards
+pub mod PointValues
 pub mod WrittenColumns
 pub mod SourceWords
 pub mod SpelledWords
-pub mod GatheredColumns

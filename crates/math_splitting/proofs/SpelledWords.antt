@@ -96,7 +96,7 @@ spelled-parts k bytes within =
     (sym (ap (take k) whole ∙ take_at front rest k many), sym (ap (drop k) whole ∙ drop_at front rest k many))
 
 -- words as bytes spell the words
-spelled-words : (words : List ℕ) → All (λ w. w < 2 ^ 64) words → spelled_words (bytes_of words) ≡ words
+pub spelled-words : (words : List ℕ) → All (λ w. w < 2 ^ 64) words → spelled_words (bytes_of words) ≡ words
 spelled-words [] h = refl
 spelled-words (w ∷ words) h =
     ap spelled_words (flat_map-cons (to_be_bytes w64) w words) ∙ spelled-front (to_be_bytes w64 w) (bytes_of words) refl

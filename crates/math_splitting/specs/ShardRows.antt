@@ -1,29 +1,48 @@
 -- Shards of data as words, a shard a row: how they are written column by column.
-use Rattle.std.specs.Prelude.{◌≡◌, ℕ, ◌+◌, ◌*◌, ◌<◌, List, map, slice_index, slice_index_or}
-use Rattle.std.specs.List.{flat_map}
+use Rattle.std.specs.Prelude.{◌≡◌, ℕ, ◌+◌, ◌*◌, ◌<◌, List, length, map, slice_index, slice_index_or}
+use Rattle.std.specs.List.{flat_map, range_with_len}
 use Rattle.math_base.specs.declared.fields.goldilocks.F.{F}
 use Rattle.math_base.specs.Elements.{number, residue}
-use Rattle.math_transforms.specs.Matrices.{column_of}
+use Rattle.math_transforms.specs.Matrices.{MatrixOf, column_of}
 use Rattle.math_splitting.specs.declared.shards.Shard.{Shard}
-use Rattle.math_splitting.specs.Shards.{AreShardsOf, rows_for, value_at_index}
+use Rattle.math_splitting.specs.declared.shards.wanting.Wanted.{Wanted}
+use Rattle.math_splitting.specs.declared.shards.wanting.Wanted.TheVariants as wanted
+use Rattle.math_splitting.specs.Shards.{AreShardsAt, rows_for, value_at_index}
+
+-- the words are the numbers of the cells of the shards of these indices for the data, shard by shard
+abbrev pub AreRowsOfShardsAt : List ℕ → ℕ → ℕ → List ℕ → List ℕ → Type 0
+AreRowsOfShardsAt words min total indices cells = (shards : List Shard) × AreShardsAt words min total indices shards × (cells ≡ flat_map (λ s. map number s.cells.items) shards)
 
 -- the words are the numbers of the cells of the shards of the data, shard by shard
 abbrev pub AreRowsOfShards : List ℕ → ℕ → ℕ → List ℕ → Type 0
-AreRowsOfShards words min total cells = (shards : List Shard) × AreShardsOf words min total shards × (cells ≡ flat_map (λ s. map number s.cells.items) shards)
+AreRowsOfShards words min total cells = AreRowsOfShardsAt words min total (range_with_len 0 total) cells
+
+-- the indices of the shards that are asked for
+abbrev pub indices_in : Wanted → List ℕ
+indices_in (wanted.All total) = range_with_len 0 total
+indices_in (wanted.At indices) = indices.now
 
 -- the number in a cell of a shard: the value, at the power of the root that is its index, of the polynomial of the column
 abbrev pub number_at : List ℕ → ℕ → ℕ → ℕ → ℕ → ℕ
 number_at words min lg i k = number (value_at_index lg (column_of (residue 0) (rows_for min words) k) i)
 
--- the first n columns of rows of words have the numbers of the cells of the shards
-abbrev pub HaveColumns : List ℕ → ℕ → ℕ → ℕ → ℕ → ℕ → List ℕ → Type 0
-HaveColumns words min lg width rows n cells = (i k : ℕ) → i < rows → k < n → slice_index cells (i * width + k) ≡ number_at words min lg i k
+-- the first n columns of rows of words have the numbers of the cells of the shards of these indices
+abbrev pub HaveColumns : List ℕ → ℕ → ℕ → ℕ → List ℕ → ℕ → List ℕ → Type 0
+HaveColumns words min lg width indices n cells = (t k : ℕ) → t < length indices → k < n → slice_index cells (t * width + k) ≡ number_at words min lg (slice_index indices t) k
 
 -- the words are the numbers of the elements
 abbrev pub AreNumbers : List F → List ℕ → Type 0
 AreNumbers items words = words ≡ map number items
 
--- c columns of rows of words are written, from column `from` on: they are the numbers of the rows of a strip, and the columns before are as they were
-pub record AreColumnsWritten (width from c rows : ℕ) (strip : List F) (old new : List ℕ) : Type 0 where
-  pub written : (i k : ℕ) → i < rows → k < c → slice_index new (i * width + (from + k)) ≡ number (slice_index_or strip (i * c + k) (residue 0))
+-- c columns of rows of words are written, from column `from` on: they are the numbers of these elements, and the columns before are as they were
+pub record AreColumnsWritten (width from c rows : ℕ) (element : ℕ → ℕ → F) (old new : List ℕ) : Type 0 where
+  pub written : (i k : ℕ) → i < rows → k < c → slice_index new (i * width + (from + k)) ≡ number (element i k)
   pub kept : (i k : ℕ) → i < rows → k < from → slice_index new (i * width + k) ≡ slice_index old (i * width + k)
+
+-- the element in this column of the row of a strip that the index in this place is the number of
+abbrev pub strip_element : List ℕ → ℕ → List F → ℕ → ℕ → F
+strip_element indices c strip t k = slice_index_or strip (slice_index indices t * c + k) (residue 0)
+
+-- the value, at the power of the root that is the index in this place, of the polynomial of this column of the matrix
+abbrev pub value_element : List ℕ → ℕ → MatrixOf F → ℕ → ℕ → F
+value_element indices lg m t k = value_at_index lg (column_of (residue 0) m k) (slice_index indices t)

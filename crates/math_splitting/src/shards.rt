@@ -9,7 +9,6 @@
 //!
 //! The shards hide nothing of the data.
 
-mod columns;
 mod encoding;
 mod rooms;
 mod sources;
@@ -17,12 +16,14 @@ mod splitting;
 mod strips;
 mod wanting;
 
-pub use columns::gather;
 use math_base::fields::goldilocks::F;
 pub use rooms::Room;
 pub use sources::{Source, Word};
-pub use splitting::{split, split_rows, split_source, split_source_at, split_source_rows};
+pub use splitting::{
+    split, split_rows, split_source, split_source_at, split_source_rows, split_source_rows_at,
+};
 pub use strips::{Layout, shard_width, strip_room};
+pub use wanting::gather;
 
 /// One of `total` shards of some data, any `min` of which give them back: the values of all columns
 /// at power `index` of the root.

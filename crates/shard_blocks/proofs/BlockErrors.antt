@@ -1,11 +1,13 @@
 -- What is wrong with the shards of a block, as with those of its words: one error at most, and none but want of memory where they give a block back.
-use Rattle.std.proofs.Common.{◌≡◌, ℕ, ◌≤◌, List, [], ◌∷◌, Result, Ok, Err, refl}
+use Rattle.std.proofs.Common.{◌≡◌, ℕ, ◌≤◌, ◌⊎◌, inl, inr, List, [], ◌∷◌}
 use Rattle.std.specs.List.{All}
-use Rattle.std.specs.Result.{IfErr}
 use Rattle.math_shards.specs.declared.shards.Error.{Error}
 use Rattle.math_shards.specs.declared.shards.Error.TheVariants.{Memory, TooFew, Mismatch, Index, Conflict, Inconsistent}
 use Rattle.math_splitting.specs.declared.shards.Shard.{Shard}
-use Rattle.math_shards.specs.Joining.{IsDueFor, IsSound, RefusesWhereDue}
+use Rattle.math_splitting.specs.Shards.{JoinTo, distinct_indices}
+use Rattle.math_shards.specs.Joining.{HaveConflict, IsDueFor, IsMemory, IsSound}
+use Rattle.math_shards.specs.WordShards.{AreRefused}
+use Rattle.shard_blocks.specs.Blocks.{AreRowsRefused}
 use Rattle.shard_blocks.specs.BlockWords.{AreBytes, IsBlockOf, words_of_bytes}
 use Rattle.shard_blocks.proofs.UnpackedBytes.{words_once}
 
@@ -16,7 +18,7 @@ module _ (conflict : List Shard → Type 0) (indices : ℕ → List Shard → �
   BlockOf bytes shards = AreBytes bytes × data_of (words_of_bytes bytes) shards
 
   -- an error that is due for words is due for the block too
-  due_for_block : (shards : List Shard) (e : Error) → IsDueFor conflict indices data_of shards e → IsDueFor conflict indices BlockOf shards e
+  pub due_for_block : (shards : List Shard) (e : Error) → IsDueFor conflict indices data_of shards e → IsDueFor conflict indices BlockOf shards e
   due_for_block [] e h = h
   due_for_block (first ∷ rest) (Memory a) h = tt
   due_for_block (first ∷ rest) TooFew h = h
@@ -24,20 +26,6 @@ module _ (conflict : List Shard → Type 0) (indices : ℕ → List Shard → �
   due_for_block (first ∷ rest) Index h = h
   due_for_block (first ∷ rest) Conflict h = h
   due_for_block (first ∷ rest) Inconsistent h = (h.0, h.1, λ bytes j. h.2 (words_of_bytes bytes) j.1)
-
-  -- so is the error of an answer that is each of them exactly where it is due for words
-  pub due_of_words : {X : Type 0} (result : Result X Error) (shards : List Shard) → RefusesWhereDue result (IsDueFor conflict indices data_of shards) TooFew
-      → RefusesWhereDue result (IsDueFor conflict indices data_of shards) Mismatch → RefusesWhereDue result (IsDueFor conflict indices data_of shards) Index
-      → RefusesWhereDue result (IsDueFor conflict indices data_of shards) Conflict → RefusesWhereDue result (IsDueFor conflict indices data_of shards) Inconsistent
-      → IfErr result (IsDueFor conflict indices BlockOf shards)
-  due_of_words (Ok v) shards a b c d e = tt
-  due_of_words (Err (Memory m)) [] a b c d e = tt
-  due_of_words (Err (Memory m)) (first ∷ rest) a b c d e = tt
-  due_of_words (Err TooFew) shards a b c d e = due_for_block shards TooFew (a.0 refl)
-  due_of_words (Err Mismatch) shards a b c d e = due_for_block shards Mismatch (b.0 refl)
-  due_of_words (Err Index) shards a b c d e = due_for_block shards Index (c.0 refl)
-  due_of_words (Err Conflict) shards a b c d e = due_for_block shards Conflict (d.0 refl)
-  due_of_words (Err Inconsistent) shards a b c d e = due_for_block shards Inconsistent (e.0 refl)
 
   -- where data are those of shards that are sound and not in conflict, and of which enough indices count, and there is one list of them at most
   module _ (of_some : (words : List ℕ) → ¬ (data_of words []))
@@ -62,3 +50,8 @@ module _ (conflict : List Shard → Type 0) (indices : ℕ → List Shard → �
     inconsistent_of_words words (first ∷ rest) j none =
         let b = beside words first rest j in
         (b.0, b.1, λ block k. none block (k.0, once words (words_of_bytes block) (first ∷ rest) j k.1))
+
+-- what is wrong with the shards that rows are is wrong with them as those of a block
+pub rows_refused : (min total : ℕ) (indices cells : List ℕ) (e : Error) → IsMemory e ⊎ AreRefused e min total indices cells → IsMemory e ⊎ AreRowsRefused e min total indices cells
+rows_refused min total indices cells e (inl memory) = inl memory
+rows_refused min total indices cells e (inr (shards, are, due)) = inr (shards, are, due_for_block HaveConflict distinct_indices JoinTo shards e due)

@@ -1,6 +1,7 @@
 pub mod WordBytes
 pub mod PackedBytes
 pub mod UnpackedBytes
+pub mod ReadBlocks
 pub mod OneBlock
 pub mod CellCounts
 pub mod BlockErrors

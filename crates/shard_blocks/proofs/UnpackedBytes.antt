@@ -1,7 +1,8 @@
 -- The bytes that are unpacked from words are those of the block, where the words are those of one.
 use Rattle.std.proofs.Common.{◌≡◌, ℕ, ◌+◌, ◌-◌, ◌*◌, ◌^◌, ◌<◌, ◌≤◌, List, [], ◌∷◌, ◌++◌, length, take, drop, replicate, get_or, refl, sym, ◌∙◌, ap, ap₂, subst, lit<, arith}
-use Rattle.std.proofs.Math.Seq.{take-append_seam}
-use Rattle.std.proofs.lemmas.List.{drop_at, get_or_default, length-drop, length-take-le, take-append-drop}
+use Rattle.std.proofs.Math.Seq.{take-add, take-append_seam}
+use Rattle.std.proofs.lemmas.List.{append-nil, drop_at, drop-drop, get_or_default, length-drop, length-take-le, take_all, take_at, take-append-drop, take_more}
+use Rattle.std.proofs.lemmas.List.Concat.{flat_map-append}
 use Rattle.std.proofs.lemmas.List.Elements.{All-append, All-head, All-replicate, All-tail, All-take}
 use Rattle.std.specs.Int.{div_ceil, to_le_bytes, w64}
 use Rattle.std.specs.List.{All, flat_map}
@@ -33,6 +34,33 @@ count_within count words l = omega (arith, l, word_count count, length_unpacked 
 -- where each number that is read from a list is below 2^64, its items are
 all_below : (words : List ℕ) → ((k : ℕ) → get_or words k 0 < 2 ^ 64) → All (λ word. word < 2 ^ 64) words
 all_below words h k d l = subst (λ (x : ℕ). x < 2 ^ 64) (get_or_default words k 0 d l) (h k)
+
+-- the bytes of the words before the last one, and those of the last one
+unpacked_last : (k : ℕ) (packed : List ℕ) → length packed ≡ k + 1 → flat_map (to_le_bytes w64) packed ≡ flat_map (to_le_bytes w64) (take k packed) ++ to_le_bytes w64 (get_or packed k 0)
+unpacked_last k packed many =
+    let whole : take (k + 1) packed ≡ packed = take_all (k + 1) packed (omega (arith, many)) in
+    ap (flat_map (to_le_bytes w64)) (sym whole ∙ take_more packed k 0 (omega (arith, many))) ∙ flat_map-append (to_le_bytes w64) (take k packed) (get_or packed k 0 ∷ [])
+    ∙ ap (λ bytes. flat_map (to_le_bytes w64) (take k packed) ++ bytes) (append-nil (to_le_bytes w64 (get_or packed k 0)))
+
+length_before : (k : ℕ) (packed : List ℕ) → length packed ≡ k + 1 → length (flat_map (to_le_bytes w64) (take k packed)) ≡ 8 * k
+length_before k packed many = length_unpacked (take k packed) ∙ ap (λ n. 8 * n) (length-take-le k packed (omega (arith, many)))
+
+-- what follows so many bytes, of which some are in the last word, is in the last word
+pub drop_to_last : (k left : ℕ) (packed : List ℕ) → length packed ≡ k + 1 → drop (8 * k + left) (flat_map (to_le_bytes w64) packed) ≡ drop left (to_le_bytes w64 (get_or packed k 0))
+drop_to_last k left packed many =
+    let front = flat_map (to_le_bytes w64) (take k packed) in
+    let last = to_le_bytes w64 (get_or packed k 0) in
+    ap (drop (8 * k + left)) (unpacked_last k packed many) ∙ sym (drop-drop left (8 * k) (front ++ last)) ∙ ap (drop left) (drop_at front last (8 * k) (length_before k packed many))
+
+-- so many bytes are those of the words before the last one, and then some of the last one
+pub take_to_last : (k left : ℕ) (packed : List ℕ) → length packed ≡ k + 1
+    → take (8 * k + left) (flat_map (to_le_bytes w64) packed) ≡ flat_map (to_le_bytes w64) (take k packed) ++ take left (to_le_bytes w64 (get_or packed k 0))
+take_to_last k left packed many =
+    let front = flat_map (to_le_bytes w64) (take k packed) in
+    let last = to_le_bytes w64 (get_or packed k 0) in
+    let long = length_before k packed many in
+    ap (take (8 * k + left)) (unpacked_last k packed many) ∙ take-add (8 * k) left (front ++ last)
+    ∙ ap₂ (λ xs ys. xs ++ take left ys) (take_at front last (8 * k) long) (drop_at front last (8 * k) long)
 
 -- where nothing but zeros follows so many bytes, the words are those of the block of these bytes
 pub block_of_unpacked : (count : ℕ) (words bytes : List ℕ) → All (λ word. word < 2 ^ 64) words → count < 2 ^ 64

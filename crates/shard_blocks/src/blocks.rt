@@ -1,17 +1,22 @@
 //! Blocks to shards, and these to blocks.
 
-ghost use Rattle.std.specs.Prelude.{◌≡◌, ◌*◌, ◌<◌, ◌≤◌, ℕ, All, List, length, IfOk, IfErr, MatchResult, OnErr, OnOk};
+ghost use Rattle.std.specs.Prelude.{◌≡◌, ◌*◌, ◌<◌, ◌≤◌, ◌⊎◌, ℕ, All, List, length, IfOk, IfErr, IfNone, IfSome, MatchResult, OnErr, OnOk};
+ghost use Rattle.math_splitting.specs.DataWords.{spelled_words};
 ghost use Rattle.math_shards.specs.Joining.{IsMemory};
 ghost use Rattle.math_splitting.specs.Shards.{AreShardsAt, AreShardsOf, width_for};
+ghost use Rattle.math_shards.specs.WordShards.{StandInFront};
+ghost use Rattle.math_values.specs.Values.{AreElements};
 ghost use Rattle.math_shards.specs.declared.shards.Error.TheVariants.{TooFew, Mismatch, Index};
 ghost use Rattle.math_shards.specs.declared.shards.Error.TheVariants.{Conflict, Inconsistent};
 ghost use Rattle.shard_blocks.specs.BlockWords.{words_of_bytes};
-ghost use Rattle.shard_blocks.specs.Blocks.{AreByteRows, IsBlockDue, JoinToBlock, RefusesBlockExactly};
+ghost use Rattle.shard_blocks.specs.Blocks.{AreByteRows, AreByteRowsAt, AreRowsRefused, DoRowsJoinTo};
+ghost use Rattle.shard_blocks.specs.Blocks.{IsBlockDue, JoinToBlock, RefusesBlockExactly};
 
-use crate::words::{bytes_of, source_of};
+use crate::words::{block_in, block_size, source_of, write_block};
 use math_base::algebra::Mem;
 use math_shards::shards::{
-    Error, Shard, join, shard_width, split_source, split_source_at, split_source_rows,
+    Error, Shard, join_cells, join_packed, shard_width, split_source, split_source_at,
+    split_source_rows, split_source_rows_at,
 };
 use std::alloc::Global;
 
@@ -98,6 +103,39 @@ pub fn split_block_rows(
     Ok(())
 }
 
+/// Writes the shards of these indices over those of `out`, those that `split_block_rows` writes of
+/// all: row t is the shard of index t of the list. An index may stand there twice.
+///
+/// The conditions are those of `split_block_rows`, with as many rows as there are indices, and each
+/// index is below `total`. Takes memory as `split_block_rows` does, or less. Where that is refused
+/// nothing is written.
+///
+/// ```
+/// use shard_blocks::split_block_rows_at;
+/// let mut out = [0; 32];
+/// split_block_rows_at(alloc, b"data", 1, 2, &[1], &mut out)?;
+/// out[7]; // 2
+/// ```
+pub fn split_block_rows_at(
+    alloc: Global,
+    bytes: &[u8],
+    min: u32,
+    total: u32,
+    indices: &[u32],
+    out: &mut [u8],
+) -> Mem<()>
+    requires some { 1 ≤ min }
+    requires within { min ≤ total }
+    requires below { All (λ i. i < total) indices.now }
+    requires size { length out.old
+        ≡ length indices.now * (8 * width_for min (words_of_bytes bytes.now)) }
+    ensures ok { OnOk result (AreByteRowsAt bytes.now min total indices.now out.new) }
+    ensures err { OnErr result (out.new ≡ out.old) }
+{
+    split_source_rows_at(alloc, &source_of(bytes), min, total, indices, out)?;
+    Ok(())
+}
+
 /// Returns how many cells each shard has of a block of so many bytes, of which `min`, at least 1,
 /// give it back.
 ///
@@ -146,9 +184,59 @@ fn recovered_block(alloc: Global, shards: &[Shard]) -> Result<Vec<u8>, Error>
     ensures ok { IfOk result (λ bytes. JoinToBlock bytes.items shards.now) }
     ensures err { IfErr result (IsBlockDue shards.now) }
 {
-    let words = join(alloc, shards)?;
-    match bytes_of(alloc, &words)? {
+    let packed = join_packed(alloc, shards)?;
+    match block_in(alloc, &packed)? {
         Some(bytes) => Ok(bytes),
         None => Err(Error::Inconsistent),
     }
+}
+
+/// Writes the bytes of the shards over the first ones of `out`, and gives their number; `None` where
+/// there is no room for them.
+///
+/// Row i of the shards has the cells of the shard with index `indices[i]`: `cols` cells of eight
+/// bytes each, the number of an element, below P, the highest byte first. It refuses as `join_block`
+/// does, and then, and where there is no room, nothing is written. Takes memory as `join_rows` does:
+/// the cells are read where they lie, and the bytes written where they are wanted.
+///
+/// ```
+/// use shard_blocks::{join_block_rows, split_block_rows};
+/// let mut shards = [0; 64];
+/// split_block_rows(alloc, b"data", 1, 2, &mut shards)?;
+/// let mut out = [0; 5];
+/// join_block_rows(alloc, &[1], 1, 2, &shards[32..], 4, &mut out)?; // Some(4)
+/// out; // [100, 97, 116, 97, 0]
+/// ```
+pub fn join_block_rows(
+    alloc: Global,
+    indices: &[u32],
+    min: u32,
+    total: u32,
+    shards: &[u8],
+    cols: usize,
+    out: &mut [u8],
+) -> Result<Option<usize>, Error>
+    requires count { length shards.now ≡ 8 * (length indices.now * cols) }
+    requires below { AreElements (spelled_words shards.now) }
+    ensures some { IfOk result (λ answer. IfSome answer (λ n. (block : List ℕ)
+        × DoRowsJoinTo block min total indices.now (spelled_words shards.now)
+        × (n ≡ length block) × StandInFront block out.old out.new)) }
+    ensures none { IfOk result (λ answer. IfNone answer ((block : List ℕ)
+        × DoRowsJoinTo block min total indices.now (spelled_words shards.now)
+        × (length out.old < length block))) }
+    ensures kept { IfOk result (λ answer. IfNone answer (out.new ≡ out.old)) }
+    ensures err { OnErr result (out.new ≡ out.old) }
+    ensures due { IfErr result (λ e. IsMemory e
+        ⊎ AreRowsRefused e min total indices.now (spelled_words shards.now)) }
+{
+    let (cells, _) = shards.as_chunks::<8>();
+    let packed = join_cells(alloc, indices, min, total, cells, cols)?;
+    let Some(size) = block_size(&packed) else {
+        return Err(Error::Inconsistent);
+    };
+    if size > out.len() {
+        return Ok(None);
+    }
+    write_block(&packed, &mut out[..size]);
+    Ok(Some(size))
 }

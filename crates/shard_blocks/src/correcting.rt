@@ -7,8 +7,8 @@ ghost use Rattle.math_shards.specs.declared.shards.Error.TheVariants.{Conflict, 
 ghost use Rattle.shard_blocks.specs.Correcting.{AreCorrectedBlock, CorrectToBlock};
 ghost use Rattle.shard_blocks.specs.Correcting.{IsBlockDueCorrecting, RefusesBlockCorrecting};
 
-use crate::words::bytes_of;
-use math_shards::shards::{Error, Shard, join_corrected};
+use crate::words::block_in;
+use math_shards::shards::{Error, Shard, join_packed_corrected};
 use std::alloc::Global;
 
 /// The bytes of a block, and the shards that were left out.
@@ -53,12 +53,9 @@ fn corrected_block(alloc: Global, shards: &[Shard]) -> Result<JoinedBlock, Error
     ensures ok { IfOk result (λ j. AreCorrectedBlock j.bytes.items j.left_out.items shards.now) }
     ensures err { IfErr result (IsBlockDueCorrecting shards.now) }
 {
-    let joined = join_corrected(alloc, shards)?;
-    match bytes_of(alloc, &joined.words)? {
-        Some(bytes) => Ok(JoinedBlock {
-            bytes,
-            left_out: joined.left_out,
-        }),
+    let (packed, left_out) = join_packed_corrected(alloc, shards)?;
+    match block_in(alloc, &packed)? {
+        Some(bytes) => Ok(JoinedBlock { bytes, left_out }),
         None => Err(Error::Inconsistent),
     }
 }

@@ -5,11 +5,15 @@ ghost use Rattle.std.specs.Prelude.{IsTrue, IfOk, IfSome, IsSomeAnd};
 ghost use Rattle.std.specs.Int.{from_le_bytes, to_le_bytes, w64};
 ghost use Rattle.std.specs.List.{flat_map};
 ghost use Rattle.math_splitting.specs.DataWords.{words_in};
+ghost use Rattle.math_shards.specs.PackedWords.{HoldsWords};
 ghost use Rattle.shard_blocks.specs.BlockWords.{IsBlockOf, words_of_bytes};
 
 use math_base::algebra::Mem;
-use math_shards::shards::Source;
+use math_shards::shards::{PackedData, Source};
 use std::alloc::Global;
+
+/// How many words are unpacked at a time: a run of elements has so many.
+const RUN: usize = 63;
 
 /// The number of the bytes, and then the bytes, eight a word, the lowest first, with zeros after
 /// the last. They are read from the bytes as they are wanted.
@@ -39,26 +43,73 @@ fn padded_to_eight(rest: &[u8]) -> [u8; 8]
     eight
 }
 
-/// The bytes of the block whose words these are, where there is one.
-pub(crate) fn bytes_of(alloc: Global, words: &[u64]) -> Mem<Option<Vec<u8>>>
-    ensures some { IfOk result
-        (λ answer. IfSome answer (λ bytes. IsBlockOf words.now bytes.items)) }
-    ensures found { (block : List ℕ) → IsBlockOf words.now block
+/// How many bytes the block has whose words these data are; `None` where they are those of no block.
+pub(crate) fn block_size(packed: &PackedData) -> Option<usize>
+    ensures some { (words : List ℕ) → HoldsWords words packed.now
+        → IfSome result (λ n. (block : List ℕ) × IsBlockOf words block × (length block ≡ n)) }
+    ensures found { (words block : List ℕ) → HoldsWords words packed.now → IsBlockOf words block
+        → IsSomeAnd result (λ n. n ≡ length block) }
+{
+    let count = packed.count();
+    if count == 0 {
+        return None;
+    }
+    let bytes = packed.word(0) as usize;
+    if count - 1 != bytes.div_ceil(8) {
+        return None;
+    }
+    let left = bytes % 8;
+    if left > 0 && !all_zero(&packed.word(count - 1).to_le_bytes()[left..]) {
+        return None;
+    }
+    Some(bytes)
+}
+
+/// The bytes of the block whose words these data are, where there is one.
+pub(crate) fn block_in(alloc: Global, packed: &PackedData) -> Mem<Option<Vec<u8>>>
+    ensures some { (words : List ℕ) → HoldsWords words packed.now → IfOk result
+        (λ answer. IfSome answer (λ bytes. IsBlockOf words bytes.items)) }
+    ensures found { (words block : List ℕ) → HoldsWords words packed.now → IsBlockOf words block
         → IfOk result (λ answer. IsSomeAnd answer (λ bytes. bytes.items ≡ block)) }
 {
-    let Some((count, packed)) = words.split_first() else {
+    let Some(size) = block_size(packed) else {
         return Ok(None);
     };
-    let count = *count as usize;
-    if packed.len() != count.div_ceil(8) {
-        return Ok(None);
-    }
-    let mut bytes = unpacked(alloc, packed)?;
-    if !all_zero(&bytes[count..]) {
-        return Ok(None);
-    }
-    bytes.truncate(count);
+    let mut bytes = Vec::with_capacity(alloc, size)?;
+    bytes.resize(size, 0)?;
+    write_block(packed, &mut bytes);
     Ok(Some(bytes))
+}
+
+/// Writes the bytes of the block whose words these data are. There is room for just these.
+pub(crate) fn write_block(packed: &PackedData, out: &mut [u8])
+    ensures { (words block : List ℕ) → HoldsWords words packed.now → IsBlockOf words block
+        → length block ≡ length out.old → out.new ≡ block }
+{
+    let whole = out.len() / 8;
+    let (front, rest) = out.split_at_mut(8 * whole);
+    write_words(packed, whole, front);
+    let last = packed.word(1 + whole).to_le_bytes();
+    rest.copy_from_slice(&last[..rest.len()]);
+}
+
+/// Writes the eight bytes of each word but the first over the bytes, of so many words, the lowest
+/// first.
+///
+/// Some words at a time are unpacked to the stack.
+fn write_words(packed: &PackedData, count: usize, bytes: &mut [u8])
+    requires { length bytes.old ≡ 8 * count }
+    ensures { (words : List ℕ) → HoldsWords words packed.now → 1 + count ≤ length words
+        → bytes.new ≡ flat_map (to_le_bytes w64) (take count (drop 1 words)) }
+{
+    let mut some = [0; RUN];
+    let mut done = 0;
+    while done < count {
+        let next = (count - done).min(RUN);
+        packed.write(1 + done, &mut some[..next]);
+        put_words(&mut bytes[8 * done..8 * (done + next)], &some[..next]);
+        done += next;
+    }
 }
 
 /// Whether each byte is zero.
@@ -66,16 +117,6 @@ fn all_zero(bytes: &[u8]) -> bool
     ensures { IsTrue result ↔ All (λ byte. byte ≡ 0) bytes.now }
 {
     bytes.iter().all(|byte| *byte == 0)
-}
-
-/// The eight bytes of each word, the lowest first.
-fn unpacked(alloc: Global, words: &[u64]) -> Mem<Vec<u8>>
-    ensures { IfOk result (λ bytes. bytes.items ≡ flat_map (to_le_bytes w64) words.now) }
-{
-    let mut bytes = Vec::new(alloc);
-    bytes.resize(8 * words.len(), 0)?;
-    put_words(&mut bytes, words);
-    Ok(bytes)
 }
 
 /// Puts the eight bytes of each word in place of the bytes, the lowest first.

@@ -5,4 +5,3 @@ pub mod MarkedIndices
 pub mod RecordPlaces
 pub mod SpelledElements
 pub mod SpelledRecords
-pub mod PutElements

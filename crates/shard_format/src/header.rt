@@ -208,7 +208,7 @@ fn read_keys(alloc: Global, input: &mut &[u8]) -> Result<Keys, Error>
 }
 
 /// The number of an element.
-pub(crate) fn number_of(a: F) -> u64
+fn number_of(a: F) -> u64
     ensures { result ≡ number a }
 {
     u64::from_le_bytes(a.to_le_bytes())
@@ -307,7 +307,7 @@ fn write_split(alloc: Global, header: &Header, out: &mut Vec<u8>) -> Mem<()>
 }
 
 /// Writes two elements. What is written stays where memory runs out.
-fn write_pair(alloc: Global, first: F, second: F, out: &mut Vec<u8>) -> Mem<()>
+pub(crate) fn write_pair(alloc: Global, first: F, second: F, out: &mut Vec<u8>) -> Mem<()>
     ensures ok { OnOk result (out.new.items ≡ out.old.items
         ++ (to_be_bytes w64 (number first) ++ to_be_bytes w64 (number second))) }
     ensures kept { take (length out.old.items) out.new.items ≡ out.old.items }

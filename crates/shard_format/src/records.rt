@@ -4,12 +4,11 @@
 //! A record is the shard of a block and its two fingerprints. How many cells the shard of a block
 //! has is handed in, where it is asked for: `shard_blocks` says it.
 
-ghost use Rattle.std.specs.Prelude.{◌≡◌, ◌≢◌, ◌↔◌, ◌+◌, ◌*◌, ◌<◌, ◌≤◌, ◌^◌, ◌++◌, List, length, take, drop, OnOk, IsTrue, IsFalse, IfOk, IfSome, IsNone};
-ghost use Rattle.std.specs.Int.{to_be_bytes, w64};
+ghost use Rattle.std.specs.Prelude.{◌≡◌, ◌≢◌, ◌↔◌, ◌<◌, ◌≤◌, ◌^◌, List, length, OnOk, IsTrue, IsFalse, IfOk, IfSome, IsNone};
 ghost use Rattle.math_base.specs.declared.fields.goldilocks.F.{F};
-ghost use Rattle.shard_format.specs.Records.{AreCellsThatFit, HaveFingerprints, IsRecordOf, IsShardOfHeader, block_count, block_size, capped, element_spelling, elements_spelling, file_size, numbers_spelling, record_place, record_size, record_spelling};
+ghost use Rattle.shard_format.specs.Records.{AreCellsThatFit, AreElementBytes, HaveFingerprints, IsRecordOf, IsShardOfHeader, block_count, block_size, capped, element_spelling, elements_spelling, file_size, numbers_spelling, record_place, record_size, record_spelling};
 
-use crate::header::{HEADER_SIZE, Header, number_of};
+use crate::header::{HEADER_SIZE, Header, write_pair};
 use math_base::algebra::Mem;
 use math_base::fields::goldilocks::{F, MODULUS};
 use math_codec::codec::{len_size, write_len};
@@ -185,62 +184,36 @@ pub fn is_record_of(
     Ok(are_cells_that_fit(header, block, count as usize, room))
 }
 
-/// Puts a word at this place, the highest byte first.
-fn put_word(bytes: &mut [u8], at: usize, word: u64)
-    requires { at + 8 ≤ length bytes.old }
-    ensures { bytes.new ≡ take at bytes.old ++ (to_be_bytes w64 word ++ drop (at + 8) bytes.old) }
-{
-    let eight = word.to_be_bytes();
-    bytes[at] = eight[0];
-    bytes[at + 1] = eight[1];
-    bytes[at + 2] = eight[2];
-    bytes[at + 3] = eight[3];
-    bytes[at + 4] = eight[4];
-    bytes[at + 5] = eight[5];
-    bytes[at + 6] = eight[6];
-    bytes[at + 7] = eight[7];
-}
-
-/// Puts the elements from this place on, a word each.
-fn put_elements(bytes: &mut [u8], from: usize, elements: &[F])
-    requires { from + 8 * length elements.now ≤ length bytes.old }
-    ensures { bytes.new ≡ take from bytes.old
-        ++ (elements_spelling elements.now ++ drop (from + 8 * length elements.now) bytes.old) }
-{
-    for i in 0..elements.len() {
-        put_word(bytes, from + 8 * i, number_of(elements[i]));
-    }
-}
-
-/// Puts the numbers, and then the elements, which are first and last ones, a word each.
-fn put_record(bytes: &mut [u8], numbers: &[u8], first: &[F], last: &[F])
-    requires { length bytes.old
-        ≡ length numbers.now + 8 * length first.now + 8 * length last.now }
-    ensures { bytes.new ≡ numbers.now ++ elements_spelling (first.now ++ last.now) }
-{
-    let from = numbers.len();
-    bytes[..from].copy_from_slice(numbers);
-    put_elements(bytes, from, first);
-    put_elements(bytes, from + 8 * first.len(), last);
-}
-
 /// Writes the record of this block in the file with this header, in place of what `out` had: the
-/// cells, fewer than 2^32, and before and behind them what `is_record_of` asks for. So the bytes
-/// are the same whenever the header, the block and the cells are.
+/// bytes of the cells, a word each, and before and behind them what `is_record_of` asks for. So the
+/// bytes are the same whenever the header, the block and the cells are.
+///
+/// There are fewer than 2^32 cells. `room` is for them: who writes one record after the other hands
+/// in the same.
 pub fn write_record(
     alloc: Global,
     header: &Header,
     block: u64,
-    cells: &[F],
+    row: &[u8],
+    room: &mut Vec<F>,
     out: &mut Vec<u8>,
 ) -> Mem<()>
-    requires { length cells.now < 2 ^ 32 }
-    ensures exact { OnOk result (out.new.items ≡ record_spelling header.now block cells.now) }
-    ensures read { OnOk result (IsRecordOf header.now block (length cells.now) out.new.items) }
+    requires cells { AreElementBytes row.now }
+    requires few { length row.now < 2 ^ 35 }
+    ensures exact { OnOk result ((cells : List F) → row.now ≡ elements_spelling cells
+        → out.new.items ≡ record_spelling header.now block cells) }
+    ensures read { OnOk result ((cells : List F) → row.now ≡ elements_spelling cells
+        → IsRecordOf header.now block (length cells) out.new.items) }
 {
-    let stored = cells_fingerprints(&header.keys, block, header.index, cells);
-    let numbers = record_numbers(alloc, header, cells.len() as u32)?;
-    out.resize(numbers.len() + 8 * cells.len() + FINGERPRINTS_SIZE, 0)?;
-    put_record(out, &numbers, cells, &[stored.first, stored.second]);
+    if !read_elements(row, room)? {
+        unreachable!()
+    }
+    let stored = cells_fingerprints(&header.keys, block, header.index, room);
+    let numbers = record_numbers(alloc, header, room.len() as u32)?;
+    out.clear();
+    out.reserve(numbers.len() + row.len() + FINGERPRINTS_SIZE)?;
+    out.extend_from_slice(&numbers)?;
+    out.extend_from_slice(row)?;
+    write_pair(alloc, stored.first, stored.second, out)?;
     Ok(())
 }

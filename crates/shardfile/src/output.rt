@@ -1,10 +1,14 @@
 //! Files that stand under their final names only once all of them is written.
 
-ghost use Rattle.std.specs.Prelude.{◌≡◌, ◌+◌, ◌<◌, ◌≤◌, All, length, IfOk, OnOk};
+ghost use Rattle.std.specs.Prelude.{◌≡◌, ◌+◌, ◌*◌, ◌<◌, ◌≤◌, ◌^◌, ℕ, All, List, length, IfOk, OnOk};
+ghost use Rattle.math_splitting.specs.Shards.{width_for};
+ghost use Rattle.shard_blocks.specs.BlockWords.{words_of_bytes};
+ghost use Rattle.shardfile.specs.Rows.{AreElementRows};
 
 use crate::fault::Fault;
 use crate::names::folder_and_name;
-use shard_blocks::{Shard, split_block_at};
+use math_base::fields::goldilocks::F;
+use shard_blocks::{cells_for, split_block_rows_at};
 use shard_format::header::{HEADER_SIZE, Header, header_bytes};
 use shard_format::records::write_record;
 use std::alloc::Global;
@@ -428,7 +432,9 @@ pub struct ShardFiles {
     pub split: Header,
     /// The number of the next block.
     block: u64,
-    /// Room for one record.
+    /// Room for the shards of a block, for the cells of one of them and for one record.
+    rows: Vec<u8>,
+    cells: Vec<F>,
     record: Vec<u8>,
 }
 
@@ -445,6 +451,8 @@ impl ShardFiles {
             left: split.length,
             split: *split,
             block: 0,
+            rows: Vec::new(alloc),
+            cells: Vec::new(alloc),
             record: Vec::new(alloc),
         }
     }
@@ -519,12 +527,20 @@ impl ShardFiles {
             indices,
             split,
             block,
+            rows,
+            cells,
             record,
             ..
         } = self;
         if !indices.is_empty() {
-            let shards = split_block_at(rt.alloc(), bytes, split.min, split.total, indices)?;
-            append_all(rt, partials, &shards, split, *block, record)?;
+            let width = row_size(bytes.len(), split.min)?;
+            let Some(size) = indices.len().checked_mul(width) else {
+                return Err(Fault::Cells);
+            };
+            rows.resize(size, 0)?;
+            append_all(
+                rt, partials, indices, bytes, split, *block, width, rows, cells, record,
+            )?;
         }
         self.block = self.block.saturating_add(1);
         self.left -= bytes.len() as u64;
@@ -551,26 +567,72 @@ impl ShardFiles {
     }
 }
 
-/// Writes a record at the end of each file: the shard of the block with this number, and its
-/// fingerprints.
+/// How many bytes the cells of a shard are of a block of so many bytes, of which `min` give it back.
+/// It refuses where these are 2^32 cells or more.
+fn row_size(bytes: usize, min: u32) -> Result<usize, Fault>
+    requires { 1 ≤ min }
+    ensures size { IfOk result (λ width. (block : List ℕ) → length block ≡ bytes
+        → width ≡ 8 * width_for min (words_of_bytes block)) }
+    ensures few { IfOk result (λ width. width < 2 ^ 35) }
+{
+    let cells = cells_for(bytes, min);
+    if cells > u32::MAX as usize {
+        return Err(Fault::Cells);
+    }
+    Ok(8 * cells)
+}
+
+/// Writes a record at the end of each file: the shard of its index for the block with this number,
+/// and its fingerprints. The shards are written over `rows`, of which each has so many bytes.
 fn append_all(
     rt: &HostRuntime,
     partials: &mut [Partial],
-    shards: &[Shard],
+    indices: &[u32],
+    bytes: &[u8],
     split: &Header,
     block: u64,
+    width: usize,
+    rows: &mut [u8],
+    cells: &mut Vec<F>,
     record: &mut Vec<u8>,
-) -> Result<(), Fault> {
-    for (partial, shard) in partials.iter_mut().zip(shards) {
-        if shard.cells.len() > u32::MAX as usize {
-            return Err(Fault::Cells);
-        }
+) -> Result<(), Fault>
+    requires some { 1 ≤ split.now.min }
+    requires within { split.now.min ≤ split.now.total }
+    requires below { All (λ i. i < split.now.total) indices.now }
+    requires width { width ≡ 8 * width_for split.now.min (words_of_bytes bytes.now) }
+    requires few { width < 2 ^ 35 }
+    requires size { length rows.old ≡ length indices.now * width }
+{
+    split_block_rows_at(rt.alloc(), bytes, split.min, split.total, indices, rows)?;
+    append_rows(
+        rt, partials, indices, rows, width, split, block, cells, record,
+    )
+}
+
+/// Writes a record at the end of each file: the row of its index, and its fingerprints.
+fn append_rows(
+    rt: &HostRuntime,
+    partials: &mut [Partial],
+    indices: &[u32],
+    rows: &[u8],
+    width: usize,
+    split: &Header,
+    block: u64,
+    cells: &mut Vec<F>,
+    record: &mut Vec<u8>,
+) -> Result<(), Fault>
+    requires rows { AreElementRows width (length indices.now) rows.now }
+    requires few { width < 2 ^ 35 }
+    requires size { length rows.now ≡ length indices.now * width }
+{
+    for t in 0..indices.len().min(partials.len()) {
         let header = Header {
-            index: shard.index,
+            index: indices[t],
             ..*split
         };
-        write_record(rt.alloc(), &header, block, &shard.cells, record)?;
-        partial.append(rt, record)?;
+        let row = &rows[t * width..(t + 1) * width];
+        write_record(rt.alloc(), &header, block, row, cells, record)?;
+        partials[t].append(rt, record)?;
     }
     Ok(())
 }

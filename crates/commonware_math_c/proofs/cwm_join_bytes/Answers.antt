@@ -1,41 +1,21 @@
-use Rattle.std.proofs.Common.{◌≡◌, ◌∙◌, length, sym, ap, subst, inr, arith}
+use Rattle.std.proofs.Common.{◌≡◌, ◌∙◌, sym, inr}
 use Rattle.std.proofs.lemmas.Bool.{false≢true}
-use Rattle.c_calls.specs.ShardBytes.{DoJoinToBlock, word_bytes}
 use Rattle.c_calls.proofs.AlikeShards.{memory_status}
 use Rattle.c_calls.proofs.ShardBytes.{byte_rows_there, spell_there}
-use Rattle.c_calls.proofs.WrittenWords.{length-bytes}
 use Rattle.commonware_math_c.proofs.cwm_join_bytes.Goals as goal
 
 pub returns-in_default-clause-found : goal.returns-in_default-clause-found
 returns-in_default-clause-found c = λ block h l.
     absurd (c.in_default.ensures.none (byte_rows_there block c.args.min c.args.total c.args.indices.now c.args.shards.now h))
 
+pub returns-then-not-are_elements-clause-found : goal.returns-then-not-are_elements-clause-found
+returns-then-not-are_elements-clause-found c = λ block h l.
+    false≢true (sym c.if-not-are_elements.true ∙ c.are_elements.ensures.1 (spell_there block c.args.min c.args.total c.args.indices.now c.args.shards.now h))
+
 pub returns-in-Ok-None-clause-found : goal.returns-in-Ok-None-clause-found
 returns-in-Ok-None-clause-found c = λ block h l.
-    absurd (c.in-Ok-None.ensures.none c.in-Ok-None.field-0-is (spell_there block c.args.min c.args.total c.args.indices.now c.args.shards.now h))
-
-pub write_block-requires-clause-count : goal.write_block-requires-clause-count
-write_block-requires-clause-count c =
-    let spelled = (rw c.in-Ok-Some.field-0-is at c.in-Ok-Some.ensures.some).1 in
-    omega (arith, ap length c.deref.ensures.value, ap length spelled, length-bytes c.in-Ok-Some.cells.items, c.in-Some.ensures.some)
-
-pub returns-in-Ok-None-write_block-clause-size : goal.returns-in-Ok-None-write_block-clause-size
-returns-in-Ok-None-write_block-clause-size c = λ e.
-    let spelled = (rw c.in-Ok-Some.field-0-is at c.in-Ok-Some.ensures.some).1 in
-    let same : word_bytes c.deref.result.now ≡ c.args.shards.now = ap word_bytes c.deref.ensures.value ∙ sym spelled in
-    let other = rw c.in-Ok-None-write_block.field-0-is at c.in-Ok-None-write_block.ensures.none in
-    inr (other.0, subst (λ bs. DoJoinToBlock other.0 c.args.min c.args.total c.args.indices.now bs) same other.1, other.2)
-
-pub returns-in-Ok-None-write_block-clause-found : goal.returns-in-Ok-None-write_block-clause-found
-returns-in-Ok-None-write_block-clause-found c = λ block h l.
-    let spelled = (rw c.in-Ok-Some.field-0-is at c.in-Ok-Some.ensures.some).1 in
-    let same : word_bytes c.deref.result.now ≡ c.args.shards.now = ap word_bytes c.deref.ensures.value ∙ sym spelled in
-    let found = c.in-Ok-None-write_block.ensures.found block (subst (λ bs. DoJoinToBlock block c.args.min c.args.total c.args.indices.now bs) (sym same) h) l in
-    absurd (false≢true (rw c.in-Ok-None-write_block.field-0-is at found))
+    absurd (false≢true (rw c.in-Ok-None.field-0-is at (c.in-Ok-None.ensures.found block h l)))
 
 pub returns-clause-found : goal.returns-clause-found
 returns-clause-found c = λ block h l.
-    let spelled = (rw c.in-Ok-Some.field-0-is at c.in-Ok-Some.ensures.some).1 in
-    let same : word_bytes c.deref.result.now ≡ c.args.shards.now = ap word_bytes c.deref.ensures.value ∙ sym spelled in
-    let memory = c.in-Err-write_block.ensures.found block (subst (λ bs. DoJoinToBlock block c.args.min c.args.total c.args.indices.now bs) (sym same) h) l in
-    inr (c.code-in-Err-write_block.ensures ∙ c.of_shards.ensures ∙ memory_status c.in-Err-write_block.error memory)
+    inr (c.code-in-Err.ensures ∙ c.of_shards.ensures ∙ memory_status c.in-Err.error (c.in-Err.ensures.found block h l))

@@ -17,11 +17,12 @@ ghost use Rattle.math_shards.specs.Correcting.{IsDueCorrecting, RefusesCorrectin
 ghost use Rattle.math_shards.specs.Correcting.{IsRowOf, settled};
 ghost use Rattle.math_shards.specs.Joining.{ArePolynomialsOf, HoldsShards, IsDueBeside};
 ghost use Rattle.math_shards.specs.Joining.{IsMemory, IsSound};
+ghost use Rattle.math_shards.specs.PackedWords.{HoldsWords};
 ghost use Rattle.math_shards.specs.declared.shards.Error.TheVariants.{TooFew, Mismatch, Index};
 ghost use Rattle.math_shards.specs.declared.shards.Error.TheVariants.{Conflict, Inconsistent};
 
-use super::joining::{are_equal, check_numbers, data_words, fitted_elements, no_rows};
-use super::unpacking::data_count;
+use super::joining::{are_equal, check_numbers, fitted_elements, no_rows};
+use super::unpacking::{PackedData, data_count};
 use super::{Error, Shard};
 use math_base::algebra::Mem;
 use math_base::fields::goldilocks::F;
@@ -69,12 +70,36 @@ pub fn join_corrected(alloc: Global, shards: &[Shard]) -> Result<Joined, Error>
     ensures conflict { RefusesCorrecting result shards.now Conflict }
     ensures inconsistent { RefusesCorrecting result shards.now Inconsistent }
 {
-    corrected_data(alloc, shards)
+    corrected_words(alloc, shards)
 }
 
-/// The data of the shards and the positions of those that are left out, or what is wrong.
-fn corrected_data(alloc: Global, shards: &[Shard]) -> Result<Joined, Error>
+/// The words of the data of the shards and the positions of those that are left out, or what is
+/// wrong.
+fn corrected_words(alloc: Global, shards: &[Shard]) -> Result<Joined, Error>
     ensures ok { IfOk result (λ j. AreCorrected j.words.items j.left_out.items shards.now) }
+    ensures err { IfErr result (IsDueCorrecting shards.now) }
+{
+    let (data, left_out) = join_packed_corrected(alloc, shards)?;
+    let words = data.words(alloc)?;
+    Ok(Joined { words, left_out })
+}
+
+/// Gives the data of the shards back, packed, and the positions of those that are left out, as
+/// `join_corrected` does.
+///
+/// ```
+/// let mut shards = split(alloc, &[4, 6, 8], 2, 5)?;
+/// shards[3].cells[0] = F::from(0);
+/// let (data, left_out) = join_packed_corrected(alloc, &shards)?;
+/// data.word(2); // 8
+/// left_out; // [3]
+/// ```
+pub fn join_packed_corrected(
+    alloc: Global,
+    shards: &[Shard],
+) -> Result<(PackedData, Vec<usize>), Error>
+    ensures ok { IfOk result (λ j. (words : List ℕ) × HoldsWords words j.0
+        × AreCorrected words j.1.items shards.now) }
     ensures err { IfErr result (IsDueCorrecting shards.now) }
 {
     let Some(first) = shards.first() else {
@@ -82,16 +107,8 @@ fn corrected_data(alloc: Global, shards: &[Shard]) -> Result<Joined, Error>
     };
     check_numbers(shards, first)?;
     let width = first.cells.len();
-    if let Some((elements, count)) = fitted_elements(
-        alloc,
-        shards,
-        first.min,
-        first.total,
-        width,
-    )? {
-        let words = data_words(alloc, &elements, count)?;
-        let left_out = Vec::new(alloc);
-        return Ok(Joined { words, left_out });
+    if let Some(data) = fitted_elements(alloc, shards, first.min, first.total, width)? {
+        return Ok((data, Vec::new(alloc)));
     }
     let joined = corrected_rows(alloc, shards, first)?;
     Ok(joined)
@@ -99,10 +116,15 @@ fn corrected_data(alloc: Global, shards: &[Shard]) -> Result<Joined, Error>
 
 /// The data of sound shards and the positions of those that are left out, from the rows of the
 /// settled indices; or what is wrong.
-fn corrected_rows(alloc: Global, shards: &[Shard], first: &Shard) -> Result<Joined, Error>
+fn corrected_rows(
+    alloc: Global,
+    shards: &[Shard],
+    first: &Shard,
+) -> Result<(PackedData, Vec<usize>), Error>
     requires some { 0 < length shards.now }
     requires sound { All (IsSound first.now) shards.now }
-    ensures ok { IfOk result (λ j. AreCorrected j.words.items j.left_out.items shards.now) }
+    ensures ok { IfOk result (λ j. (words : List ℕ) × HoldsWords words j.0
+        × AreCorrected words j.1.items shards.now) }
     ensures err { IfErr result (IsDueBeside ⊥ (settled_indices first.now.total shards.now)
         (λ words. CorrectTo words shards.now) first.now shards.now) }
 {
@@ -114,11 +136,11 @@ fn corrected_rows(alloc: Global, shards: &[Shard], first: &Shard) -> Result<Join
         return Err(Error::Inconsistent);
     };
     let polynomials = corrected.polynomials;
-    let Some(words) = data_of(alloc, &polynomials, first.min, first.cells.len())? else {
+    let Some(data) = data_of(alloc, &polynomials, first.min, first.cells.len())? else {
         return Err(Error::Inconsistent);
     };
     let left_out = unlike_rows(alloc, shards, &polynomials.evaluate(alloc)?)?;
-    Ok(Joined { words, left_out })
+    Ok((data, left_out))
 }
 
 /// The first `min` rows of coefficients, one after the other.
@@ -140,16 +162,14 @@ fn data_of(
     polynomials: &PolynomialVector<F>,
     min: u32,
     width: usize,
-) -> Mem<Option<Vec<u64>>>
+) -> Mem<Option<PackedData>>
     requires some { 1 ≤ min }
     requires rows { min ≤ polynomials.now.rows }
     requires size { IsOfSize polynomials.now polynomials.now.rows width }
     requires short { (k i : ℕ) → k < polynomials.now.cols → min ≤ i
         → same (coefficient (residue 0) (column_of (residue 0) polynomials.now k) i) (residue 0) }
-    ensures each_word { IfOk result
-        (λ answer. IfSome answer (λ found. All (λ word. word < 2 ^ 64) found.items)) }
-    ensures some { IfOk result (λ answer. IfSome answer
-        (λ found. ArePolynomialsOf found.items min polynomials.now)) }
+    ensures some { IfOk result (λ answer. IfSome answer (λ found. (words : List ℕ)
+        × HoldsWords words found × ArePolynomialsOf words min polynomials.now)) }
     ensures none { (words : List ℕ) → All (λ word. word < 2 ^ 64) words → length words < 2 ^ 64
         → ArePolynomialsOf words min polynomials.now → IfOk result (λ answer. IsSome answer) }
 {
@@ -157,8 +177,7 @@ fn data_of(
     let Some(count) = data_count(&elements, min, width) else {
         return Ok(None);
     };
-    let words = data_words(alloc, &elements, count)?;
-    Ok(Some(words))
+    Ok(Some(PackedData { elements, count }))
 }
 
 /// Whether each shard that has the index of this one has its cells.

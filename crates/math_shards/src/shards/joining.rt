@@ -7,7 +7,8 @@ ghost use Rattle.std.specs.Int.{IsNextPowerOfTwo};
 ghost use Rattle.std.specs.List.{AllZip};
 ghost use Rattle.math_base.specs.Elements.{same};
 ghost use Rattle.math_transforms.specs.Matrices.{IsOfSize};
-ghost use Rattle.math_shards.specs.Fitting.{AreDataOf, DoRowsFit};
+ghost use Rattle.math_shards.specs.Fitting.{DoRowsFit};
+ghost use Rattle.math_shards.specs.PackedWords.{HoldsWords};
 ghost use Rattle.math_splitting.specs.Shards.{JoinTo};
 ghost use Rattle.math_shards.specs.Joining.{ArePlacesByIndex, HaveUnequalCells, IsDue, IsDueOfRows};
 ghost use Rattle.math_shards.specs.Joining.{IsMemory, IsSound, IsUnsound, Matches, RefusesExactly};
@@ -17,7 +18,7 @@ ghost use Rattle.math_shards.specs.declared.shards.Error.TheVariants.{Conflict, 
 use super::fitting::have_values;
 use super::restoring::coefficients;
 use super::rows::Row;
-use super::unpacking::{data_count, write_data};
+use super::unpacking::{PackedData, data_count};
 use super::{Error, Shard};
 use math_base::algebra::Mem;
 use math_base::fields::goldilocks::F;
@@ -64,44 +65,52 @@ pub fn join(alloc: Global, shards: &[Shard]) -> Result<Vec<u64>, Error>
     ensures conflict { RefusesExactly result shards.now Conflict }
     ensures inconsistent { RefusesExactly result shards.now Inconsistent }
 {
-    joined_data(alloc, shards)
+    joined_words(alloc, shards)
 }
 
-/// The data of the shards, or what is wrong with them.
-fn joined_data(alloc: Global, shards: &[Shard]) -> Result<Vec<u64>, Error>
+/// The words of the data of the shards, or what is wrong with these.
+fn joined_words(alloc: Global, shards: &[Shard]) -> Result<Vec<u64>, Error>
     ensures ok { IfOk result (λ words. JoinTo words.items shards.now) }
+    ensures err { IfErr result (IsDue shards.now) }
+{
+    let data = join_packed(alloc, shards)?;
+    let words = data.words(alloc)?;
+    Ok(words)
+}
+
+/// Gives the data of the shards back, packed, as `join` does.
+///
+/// ```
+/// let shards = split(alloc, &[4, 6, 8], 2, 5)?;
+/// join_packed(alloc, &shards)?.count(); // 3
+/// ```
+pub fn join_packed(alloc: Global, shards: &[Shard]) -> Result<PackedData, Error>
+    ensures ok { IfOk result (λ found. (words : List ℕ)
+        × HoldsWords words found × JoinTo words shards.now) }
     ensures err { IfErr result (IsDue shards.now) }
 {
     let Some(first) = shards.first() else {
         return Err(Error::TooFew);
     };
     check_numbers(shards, first)?;
-    let (elements, count) = joined_elements(
-        alloc,
-        shards,
-        first.min,
-        first.total,
-        first.cells.len(),
-    )?;
-    let words = data_words(alloc, &elements, count)?;
-    Ok(words)
+    let cols = first.cells.len();
+    let packed = joined_elements(alloc, shards, first.min, first.total, cols)?;
+    Ok(packed)
 }
 
-/// The elements of the data that the rows fit, and how many words these data are; or which refusal
-/// is due.
+/// The data that the rows fit, or which refusal is due.
 pub(super) fn joined_elements<R: Row>(
     alloc: Global,
     rows: &[R],
     min: u32,
     total: u32,
     width: usize,
-) -> Result<(Vec<F>, usize), Error>
+) -> Result<PackedData, Error>
     requires some { 1 ≤ min }
     requires within { min ≤ total }
     requires below { All (λ row. R.index row < total) rows.now }
     requires count { All (λ row. length (R.cells row) ≡ width) rows.now }
-    ensures ok { IfOk result (λ found. (words : List ℕ)
-        × (length words ≡ found.1) × AreDataOf words min found.0.items
+    ensures ok { IfOk result (λ found. (words : List ℕ) × HoldsWords words found
         × DoRowsFit R.index R.cells words min total rows.now) }
     ensures err { IfErr result (λ e. IsMemory e ⊎ IsDueOfRows R.index R.cells min total rows.now e) }
 {
@@ -112,8 +121,8 @@ pub(super) fn joined_elements<R: Row>(
     Err(error)
 }
 
-/// The elements of the data that the rows fit, and how many words these data are; `None` where
-/// fewer than `min` rows have distinct indices, or some row does not fit.
+/// The data that the rows fit; `None` where fewer than `min` rows have distinct indices, or some row
+/// does not fit.
 ///
 /// The first `min` rows of distinct indices have the values of one polynomial a column. Where there
 /// are further rows, all are compared with the values of these.
@@ -123,14 +132,13 @@ pub(super) fn fitted_elements<R: Row>(
     min: u32,
     total: u32,
     width: usize,
-) -> Mem<Option<(Vec<F>, usize)>>
+) -> Mem<Option<PackedData>>
     requires some { 1 ≤ min }
     requires within { min ≤ total }
     requires below { All (λ row. R.index row < total) rows.now }
     requires count { All (λ row. length (R.cells row) ≡ width) rows.now }
     ensures some { IfOk result (λ answer. IfSome answer (λ found. (words : List ℕ)
-        × (length words ≡ found.1) × AreDataOf words min found.0.items
-        × DoRowsFit R.index R.cells words min total rows.now)) }
+        × HoldsWords words found × DoRowsFit R.index R.cells words min total rows.now)) }
     ensures none { IfOk result (λ answer. IfNone answer ((words : List ℕ)
         → ¬ (DoRowsFit R.index R.cells words min total rows.now))) }
 {
@@ -144,7 +152,7 @@ pub(super) fn fitted_elements<R: Row>(
         return Ok(None);
     };
     if rows.len() == min as usize {
-        return Ok(Some((elements, count)));
+        return Ok(Some(PackedData { elements, count }));
     }
     let layout = Layout {
         min: min as usize,
@@ -154,7 +162,7 @@ pub(super) fn fitted_elements<R: Row>(
     if !have_values(alloc, rows, &elements, layout)? {
         return Ok(None);
     }
-    Ok(Some((elements, count)))
+    Ok(Some(PackedData { elements, count }))
 }
 
 /// Whether the rows, of this width, have the same cells.
@@ -246,17 +254,6 @@ fn refusal<R: Row>(alloc: Global, rows: &[R], min: u32, total: u32, width: usize
         return Ok(Error::TooFew);
     }
     Ok(Error::Inconsistent)
-}
-
-/// The data whose elements these are, of so many words.
-pub(super) fn data_words(alloc: Global, elements: &[F], count: usize) -> Mem<Vec<u64>>
-    ensures { (words : List ℕ) (min : ℕ) → length words ≡ count
-        → AreDataOf words min elements.now → IfOk result (λ out. out.items ≡ words) }
-{
-    let mut words = Vec::with_capacity(alloc, count)?;
-    words.resize(count, 0)?;
-    write_data(elements, &mut words);
-    Ok(words)
 }
 
 /// Whether the numbers and the number of cells are those of the first shard, and such as shards

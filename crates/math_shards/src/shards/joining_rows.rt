@@ -1,41 +1,42 @@
-//! Shards that are rows of words to data.
+//! Shards that are rows of words, or of bytes, to data.
 //!
-//! No shards are made of the words: beside one list of elements the data are written where they are
-//! wanted.
+//! The cells are read where they lie. No shards are made of them: beside one list of elements the
+//! data are written where they are wanted.
 
-ghost use Rattle.std.specs.Prelude.{◌≡◌, ◌↔◌, ◌+◌, ◌*◌, ◌<◌, ◌≤◌, ◌⊎◌, ℕ, List, All, length, map};
+ghost use Rattle.std.specs.Prelude.{◌≡◌, ◌↔◌, ◌+◌, ◌*◌, ◌<◌, ◌≤◌, ◌^◌, ◌⊎◌, ℕ, List, All, length, map};
 ghost use Rattle.std.specs.Prelude.{take, drop, slice_index};
 ghost use Rattle.std.specs.Prelude.{IsTrue, IfOk, IfErr, IfSome, IfNone, OnErr};
 ghost use Rattle.math_base.specs.Elements.{residue};
 ghost use Rattle.math_transforms.specs.Matrices.{pieces};
 ghost use Rattle.math_values.specs.Values.{AreElements};
-ghost use Rattle.math_shards.specs.Fitting.{AreDataOf, DoRowsFit};
+ghost use Rattle.math_shards.specs.Fitting.{DoRowsFit};
+ghost use Rattle.math_shards.specs.PackedWords.{HoldsWords};
 ghost use Rattle.math_shards.specs.Joining.{IsMemory};
 ghost use Rattle.math_shards.specs.WordShards.{AreRefused, AreWordShards, DoJoinTo, StandInFront};
 
 use super::joining::joined_elements;
-use super::rows::{Row, WordRow};
-use super::unpacking::write_data;
+use super::rows::{Cell, CellRow, Row};
+use super::unpacking::PackedData;
 use super::{Error, Shard};
 use math_base::algebra::Mem;
 use std::alloc::Global;
 
-/// Row i of rows of `cols` words, with an index.
-fn word_row<'a>(index: u32, cells: &'a [u64], i: usize, cols: usize) -> WordRow<'a>
+/// Row i of rows of `cols` cells, with an index.
+fn cell_row<'a, C: Cell>(index: u32, cells: &'a [C], i: usize, cols: usize) -> CellRow<'a, C>
     requires { (i + 1) * cols ≤ length cells.now }
     ensures index { result.index ≡ index }
-    ensures words { result.words.now ≡ take cols (drop (i * cols) cells.now) }
+    ensures cells { result.cells.now ≡ take cols (drop (i * cols) cells.now) }
 {
     let from = i * cols;
-    WordRow {
+    CellRow {
         index,
-        words: &cells[from..from + cols],
+        cells: &cells[from..from + cols],
     }
 }
 
-/// Makes the shards whose cells the words are: row i holds the cells of the shard with index
-/// `indices[i]`, each as the number of an element, below P. All have these numbers, and `cols`
-/// cells.
+/// Makes the shards whose cells these are: row i holds the cells of the shard with index
+/// `indices[i]`, each as the number of an element, below P, in a word or in eight bytes. All have
+/// these numbers, and `cols` cells.
 ///
 /// ```
 /// let mut cells = [0; 8];
@@ -44,21 +45,22 @@ fn word_row<'a>(index: u32, cells: &'a [u64], i: usize, cols: usize) -> WordRow<
 /// shards[1].index; // 1
 /// join(alloc, &shards)?; // [4, 6]
 /// ```
-pub fn shards_of_rows(
+pub fn shards_of_rows<C: Cell>(
     alloc: Global,
     indices: &[u32],
     min: u32,
     total: u32,
-    cells: &[u64],
+    cells: &[C],
     cols: usize,
 ) -> Mem<Vec<Shard>>
     requires count { length cells.now ≡ length indices.now * cols }
-    requires below { AreElements cells.now }
-    ensures { IfOk result (λ shards. AreWordShards min total indices.now cells.now shards.items) }
+    requires below { AreElements (map C.number cells.now) }
+    ensures { IfOk result (λ shards.
+        AreWordShards min total indices.now (map C.number cells.now) shards.items) }
 {
     let mut out = Vec::with_capacity(alloc, indices.len())?;
     for i in 0..indices.len() {
-        let row = word_row(indices[i], cells, i, cols);
+        let row = cell_row(indices[i], cells, i, cols);
         let mut cells = Vec::with_capacity(alloc, cols)?;
         row.append_to(&mut cells)?;
         out.push(Shard {
@@ -71,21 +73,21 @@ pub fn shards_of_rows(
     Ok(out)
 }
 
-/// The rows that the words are, one for each index.
-fn word_rows<'a>(
+/// The rows that the cells are, one for each index.
+fn cell_rows<'a, C: Cell>(
     alloc: Global,
     indices: &[u32],
-    cells: &'a [u64],
+    cells: &'a [C],
     cols: usize,
-) -> Mem<Vec<WordRow<'a>>>
+) -> Mem<Vec<CellRow<'a, C>>>
     requires { length cells.now ≡ length indices.now * cols }
     ensures indices { IfOk result (λ rows. map (λ row. row.index) rows.items ≡ indices.now) }
-    ensures words { IfOk result (λ rows. map (λ row. row.words.now) rows.items
-        ≡ pieces (length indices.now) cols cells.now) }
+    ensures cells { IfOk result (λ rows. map (λ row. map C.number row.cells.now) rows.items
+        ≡ pieces (length indices.now) cols (map C.number cells.now)) }
 {
     let mut rows = Vec::with_capacity(alloc, indices.len())?;
     for i in 0..indices.len() {
-        rows.push(word_row(indices[i], cells, i, cols))?;
+        rows.push(cell_row(indices[i], cells, i, cols))?;
     }
     Ok(rows)
 }
@@ -139,7 +141,43 @@ pub fn join_rows(
     ensures err { OnErr result (out.new ≡ out.old) }
     ensures due { IfErr result (λ e. IsMemory e ⊎ AreRefused e min total indices.now cells.now) }
 {
-    let rows = word_rows(alloc, indices, cells, cols)?;
+    let data = join_cells(alloc, indices, min, total, cells, cols)?;
+    let count = data.count();
+    if count > out.len() {
+        return Ok(None);
+    }
+    data.write(0, &mut out[..count]);
+    Ok(Some(count))
+}
+
+/// Gives the data of the shards whose cells these are back, packed, as `join_rows` does: row i holds
+/// the cells of the shard with index `indices[i]`, each as the number of an element, below P, in a
+/// word or in eight bytes.
+///
+/// ```
+/// let mut cells = [0_u64; 8];
+/// split_rows(alloc, &[4, 6], 1, 2, &mut cells)?;
+/// let data = join_cells(alloc, &[1], 1, 2, &cells[4..], 4)?;
+/// data.count(); // 2
+/// data.word(1); // 6
+/// ```
+pub fn join_cells<C: Cell>(
+    alloc: Global,
+    indices: &[u32],
+    min: u32,
+    total: u32,
+    cells: &[C],
+    cols: usize,
+) -> Result<PackedData, Error>
+    requires count { length cells.now ≡ length indices.now * cols }
+    requires fits { length cells.now < 2 ^ 63 }
+    requires below { AreElements (map C.number cells.now) }
+    ensures ok { IfOk result (λ found. (words : List ℕ) × HoldsWords words found
+        × DoJoinTo words min total indices.now (map C.number cells.now)) }
+    ensures due { IfErr result (λ e. IsMemory e
+        ⊎ AreRefused e min total indices.now (map C.number cells.now)) }
+{
+    let rows = cell_rows(alloc, indices, cells, cols)?;
     if indices.is_empty() {
         return Err(Error::TooFew);
     }
@@ -149,10 +187,6 @@ pub fn join_rows(
     if !are_below(indices, total) {
         return Err(Error::Index);
     }
-    let (elements, count) = joined_elements(alloc, &rows, min, total, cols)?;
-    if count > out.len() {
-        return Ok(None);
-    }
-    write_data(&elements, &mut out[..count]);
-    Ok(Some(count))
+    let packed = joined_elements(alloc, &rows, min, total, cols)?;
+    Ok(packed)
 }

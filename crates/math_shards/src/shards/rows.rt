@@ -1,7 +1,8 @@
-//! Shards as rows: an index and cells, which are elements or words.
+//! Shards as rows: an index and cells, which are elements, words or bytes.
 
 ghost use Rattle.std.specs.Prelude.{◌≡◌, ◌↔◌, ◌+◌, ◌≤◌, ◌++◌, ℕ, List, length, take, drop, map};
 ghost use Rattle.std.specs.Prelude.{IsTrue, OnOk};
+ghost use Rattle.std.specs.Int.{from_be_bytes, w64};
 ghost use Rattle.std.specs.List.{AllZip};
 ghost use Rattle.math_base.specs.declared.fields.goldilocks.F.{F};
 ghost use Rattle.math_base.specs.Elements.{residue, same};
@@ -51,36 +52,62 @@ impl Row for Shard {
     }
 }
 
-/// A shard whose cells are words, the numbers of elements.
-#[derive(Clone, Copy)]
-pub(super) struct WordRow<'a> {
-    /// Which of the shards it is.
-    pub(super) index: u32,
-    /// The numbers of its cells.
-    pub(super) words: &'a [u64],
+/// A cell where it lies in the caller's memory: the number of an element, as a word, or as the eight
+/// bytes of one, the highest first.
+pub trait Cell: Copy {
+    ghost number: { Self → ℕ };
+
+    /// The number.
+    fn number(self) -> u64
+        ensures { result ≡ number self };
 }
 
-impl<'a> Row for WordRow<'a> {
+impl Cell for u64 {
+    ghost number = { λ x. x };
+
+    fn number(self) -> u64 {
+        self
+    }
+}
+
+impl Cell for [u8; 8] {
+    ghost number = { from_be_bytes w64 };
+
+    fn number(self) -> u64 {
+        u64::from_be_bytes(self)
+    }
+}
+
+/// A shard whose cells lie in the caller's memory.
+#[derive(Clone, Copy)]
+pub(super) struct CellRow<'a, C> {
+    /// Which of the shards it is.
+    pub(super) index: u32,
+    /// Its cells.
+    pub(super) cells: &'a [C],
+}
+
+impl<'a, C: Cell> Row for CellRow<'a, C> {
     ghost index = { λ row. row.index };
 
-    ghost cells = { λ row. map residue row.words.now };
+    ghost cells = { λ row. map residue (map C.number row.cells.now) };
 
     fn index(&self) -> u32 {
         self.index
     }
 
     fn append_to(&self, out: &mut Vec<F>) -> Mem<()> {
-        for word in self.words {
-            out.push(F::from(*word))?;
+        for cell in self.cells {
+            out.push(F::from(cell.number()))?;
         }
         Ok(())
     }
 
     fn has_values(&self, from: usize, values: &[F]) -> bool {
-        let words = &self.words[from..from + values.len()];
+        let cells = &self.cells[from..from + values.len()];
         let mut equal = true;
         for i in 0..values.len() {
-            equal = equal & (values[i] == F::from(words[i]));
+            equal = equal & (values[i] == F::from(cells[i].number()));
         }
         equal
     }

@@ -9,14 +9,75 @@
 
 ghost use Rattle.std.specs.Prelude.{◌≡◌, ◌↔◌, ◌+◌, ◌*◌, ◌%◌, ◌<◌};
 ghost use Rattle.std.specs.Prelude.{◌≤◌, ◌^◌, ℕ, List, All, length};
-ghost use Rattle.std.specs.Prelude.{IsTrue, IfSome, IfNone, slice_index, slice_index_or};
+ghost use Rattle.std.specs.Prelude.{IsTrue, IfOk, IfSome, IfNone, drop, slice_index, slice_index_or, take};
 ghost use Rattle.std.specs.Int.{div_ceil};
 ghost use Rattle.math_base.specs.Elements.{number, residue, same};
 ghost use Rattle.math_base.specs.Packing.{words_of};
 ghost use Rattle.math_shards.specs.Fitting.{AreDataOf};
+ghost use Rattle.math_shards.specs.PackedWords.{HoldsWords};
 ghost use Rattle.math_shards.specs.Unpacking.{AreBetween, AreRepacked, AreUnpacked, word_between};
 
+use math_base::algebra::Mem;
 use math_base::fields::goldilocks::F;
+use std::alloc::Global;
+
+/// Data that shards gave back, packed in elements as they were before they were split.
+///
+/// ```
+/// let packed = join_packed(alloc, &split(alloc, &[4, 6, 8], 2, 5)?)?;
+/// packed.count(); // 3
+/// packed.word(2); // 8
+/// let mut out = [0; 2];
+/// packed.write(1, &mut out);
+/// out; // [6, 8]
+/// packed.words(alloc)?; // [4, 6, 8]
+/// ```
+#[derive(Debug, Drop)]
+pub struct PackedData {
+    /// The elements that the number of the words and the words pack to, and zeros.
+    pub(super) elements: Vec<F>,
+    /// How many words the data are.
+    pub(super) count: usize,
+}
+
+impl PackedData {
+    /// How many words the data are.
+    pub fn count(&self) -> usize
+        ensures { (words : List ℕ) → HoldsWords words self.now → result ≡ length words }
+    {
+        self.count
+    }
+
+    /// The word in this place, which is below the number of the words.
+    pub fn word(&self, place: usize) -> u64
+        requires { place < 2 ^ 62 }
+        ensures { (words : List ℕ) → HoldsWords words self.now → place < length words
+            → result ≡ slice_index words place }
+    {
+        word_at(&self.elements, place + 1)
+    }
+
+    /// Writes the words from this place on over those of `out`. So many have to be there.
+    pub fn write(&self, first: usize, out: &mut [u64])
+        requires { first + length out.old < 2 ^ 62 }
+        ensures { (words : List ℕ) → HoldsWords words self.now
+            → first + length out.old ≤ length words
+            → out.new ≡ take (length out.old) (drop first words) }
+    {
+        write_unpacked(&self.elements, first + 1, out);
+    }
+
+    /// A list of all words.
+    pub fn words(&self, alloc: Global) -> Mem<Vec<u64>>
+        ensures { (words : List ℕ) → HoldsWords words self.now
+            → IfOk result (λ out. out.items ≡ words) }
+    {
+        let mut words = Vec::with_capacity(alloc, self.count)?;
+        words.resize(self.count, 0)?;
+        self.write(0, &mut words);
+        Ok(words)
+    }
+}
 
 /// Whether all elements are zero.
 fn are_zero(elements: &[F]) -> bool
@@ -160,12 +221,4 @@ fn write_unpacked(elements: &[F], first: usize, out: &mut [u64])
         write_run(elements, at, &mut out[done..done + count]);
         done += count;
     }
-}
-
-/// Writes over the words the data whose elements these are.
-pub(super) fn write_data(elements: &[F], out: &mut [u64])
-    ensures { (words : List ℕ) (min : ℕ) → length words ≡ length out.old
-        → AreDataOf words min elements.now → out.new ≡ words }
-{
-    write_unpacked(elements, 1, out);
 }

@@ -29,7 +29,7 @@ use math_base::algebra::Mem;
 use math_base::fields::goldilocks::F;
 use math_base::weights::one_at;
 use math_ntt::ntt::{EvaluationVector, Matrix};
-use math_splitting::shards::gather;
+use math_splitting::shards::{gather, strip_room};
 use math_transforms::vanishing_points::VanishingPoints;
 use math_values::sums::sum_of_products;
 use std::alloc::{AllocError, Global};
@@ -138,25 +138,17 @@ fn put_column(cells: &mut [F], width: usize, k: usize, column: &[F], weights: &M
     }
 }
 
-/// Writes the coefficients of all columns over their cells.
-fn put_columns(
-    alloc: Global,
-    cells: &mut [F],
-    width: usize,
-    count: usize,
-    weights: &Matrix<F>,
-) -> Mem<()>
-    requires size { length cells.old ≡ count * width }
-    requires rows { count ≤ weights.now.rows }
-    requires cols { weights.now.cols ≡ count }
-    ensures { OnOk result (AreCoefficients weights.now count width cells.old cells.new) }
+/// Writes the coefficients of all columns over their cells. `column` is room for a column.
+fn put_columns(cells: &mut [F], width: usize, column: &mut [F], weights: &Matrix<F>)
+    requires size { length cells.old ≡ length column.old * width }
+    requires rows { length column.old ≤ weights.now.rows }
+    requires cols { weights.now.cols ≡ length column.old }
+    ensures { AreCoefficients weights.now (length column.old) width cells.old cells.new }
 {
-    let mut column = Vec::with_capacity(alloc, count)?;
     for k in 0..width {
-        gather(&mut column, cells, width, k, count)?;
-        put_column(cells, width, k, &column, weights);
+        gather(column, cells, width, k);
+        put_column(cells, width, k, column, weights);
     }
-    Ok(())
 }
 
 /// Writes the coefficients of all columns over their cells, by weights: row t of the cells has the
@@ -182,6 +174,7 @@ pub(super) fn put_weighed(
         → HaveCellsAsValues lg indices.now width cells.old cells.new) }
 {
     let weights = weights_of(alloc, indices, min, total)?;
-    put_columns(alloc, cells, width, indices.len(), &weights)?;
+    let mut column = strip_room(alloc, indices.len(), 1)?;
+    put_columns(cells, width, &mut column, &weights);
     Ok(())
 }

@@ -21,8 +21,9 @@ ghost use Rattle.std.specs.Prelude.{
 ghost use Rattle.std.specs.List.{range_with_len};
 ghost use Rattle.math_splitting.specs.DataWords.{words_in};
 ghost use Rattle.math_splitting.specs.Shards.{AreShardsAt, AreShardsOf, width_for};
-ghost use Rattle.math_splitting.specs.ShardRows.{AreColumnsWritten};
+ghost use Rattle.math_splitting.specs.ShardRows.{AreColumnsWritten, AreRowsOfShardsAt};
 ghost use Rattle.math_splitting.specs.ShardRows.{AreRowsOfShards, HaveColumns};
+ghost use Rattle.math_splitting.specs.ShardRows.{indices_in, strip_element};
 ghost use Rattle.math_splitting.specs.Strips.{AreBegun, AreExtended, IsExtendedBy, IsLayoutOf};
 ghost use Rattle.math_splitting.specs.Strips.{IsTableOf};
 
@@ -30,7 +31,9 @@ use super::Shard;
 use super::rooms::Room;
 use super::sources::{Source, Word, source_of};
 use super::strips::{Layout, layout_of, most_cols, strip_room, write_values};
-use super::wanting::{append_values, are_products_cheaper};
+use super::wanting::{
+    Wanted, append_values, are_products_cheaper, wanted_count, wanted_index, write_products,
+};
 use math_base::algebra::Mem;
 use math_base::fields::goldilocks::F;
 use math_transforms::transform::{evaluation_table, size_of};
@@ -162,19 +165,96 @@ pub fn split_source_rows<W: Word, R: Room>(
         (AreRowsOfShards (words_in W.word source.now) min total (R.words cells.new)) }
     ensures err { OnErr result (cells.new ≡ cells.old) }
 {
+    write_shards(alloc, source, min, total, Wanted::All(total), cells)
+}
+
+/// Writes the shards of these indices over words, or over bytes, those that `split_source_rows`
+/// writes of all: row t is the shard of index t of the list. An index may stand there twice.
+///
+/// The conditions are those of `split_source_rows`, with as many rows as there are indices, and each
+/// index is below `total`. Where there are few indices, each value is a sum of `min` products; else
+/// all values of a strip are computed as `split_rows` does, and those of these indices are written.
+/// Takes memory as `split_rows` does, or less. Where that is refused nothing is written.
+///
+/// ```
+/// let source = Source { first: None, words: &[4_u64, 6], last: None };
+/// let mut cells = [0_u64; 4];
+/// split_source_rows_at(alloc, &source, 1, 5, &[3], &mut cells)?;
+/// join(alloc, &shards_of_rows(alloc, &[3], 1, 5, &cells, 4)?)?; // [4, 6]
+/// ```
+pub fn split_source_rows_at<W: Word, R: Room>(
+    alloc: Global,
+    source: &Source<'_, W>,
+    min: u32,
+    total: u32,
+    indices: &[u32],
+    cells: &mut [R],
+) -> Mem<()>
+    requires some { 1 ≤ min }
+    requires within { min ≤ total }
+    requires few { length (words_in W.word source.now) < 2 ^ 61 }
+    requires below { All (λ i. i < total) indices.now }
+    requires size { length (R.words cells.old)
+        ≡ length indices.now * width_for min (words_in W.word source.now) }
+    requires fits { length (R.words cells.old) < 2 ^ 64 }
+    ensures ok { OnOk result (AreRowsOfShardsAt (words_in W.word source.now) min total indices.now
+        (R.words cells.new)) }
+    ensures err { OnErr result (cells.new ≡ cells.old) }
+{
+    write_shards(alloc, source, min, total, Wanted::At(indices), cells)
+}
+
+/// Writes the shards that are asked for over the rows of the cells, in the way that takes less work.
+fn write_shards<W: Word, R: Room>(
+    alloc: Global,
+    source: &Source<'_, W>,
+    min: u32,
+    total: u32,
+    wanted: Wanted<'_>,
+    cells: &mut [R],
+) -> Mem<()>
+    requires some { 1 ≤ min }
+    requires within { min ≤ total }
+    requires few { length (words_in W.word source.now) < 2 ^ 61 }
+    requires below { All (λ i. i < total) (indices_in wanted) }
+    requires size { length (R.words cells.old)
+        ≡ length (indices_in wanted) * width_for min (words_in W.word source.now) }
+    requires fits { length (R.words cells.old) < 2 ^ 64 }
+    ensures ok { OnOk result (AreRowsOfShardsAt (words_in W.word source.now) min total
+        (indices_in wanted.entry) (R.words cells.new)) }
+    ensures err { OnErr result (cells.new ≡ cells.old) }
+{
     let layout = layout_of(source, min, total);
+    write_all(alloc, source, layout, wanted, cells)?;
+    Ok(())
+}
+
+/// Writes the values of all columns into the rows of their shards, in the way that takes less work.
+fn write_all<W: Word, R: Room>(
+    alloc: Global,
+    source: &Source<'_, W>,
+    layout: Layout,
+    wanted: Wanted<'_>,
+    cells: &mut [R],
+) -> Mem<()>
+    requires layout { IsLayoutOf (words_in W.word source.now) layout }
+    requires points { All (λ i. i < 2 ^ layout.lg) (indices_in wanted) }
+    requires wide { 1 ≤ layout.width }
+    requires size { length (R.words cells.old) ≡ length (indices_in wanted) * layout.width }
+    requires fits { length (R.words cells.old) < 2 ^ 64 }
+    ensures columns { OnOk result (HaveColumns (words_in W.word source.now) layout.min layout.lg
+        layout.width (indices_in wanted.entry) layout.width (R.words cells.new)) }
+    ensures size { OnOk result (length (R.words cells.new) ≡ length (R.words cells.old)) }
+    ensures err { OnErr result (cells.new ≡ cells.old) }
+{
+    if are_products_cheaper(layout, wanted_count(wanted)) {
+        return write_products(alloc, source, layout, wanted, cells);
+    }
     let table = evaluation_table::<F>(alloc, layout.lg)?;
     let most = most_cols(layout);
     let mut room = strip_room(alloc, size_of(layout.lg), most)?;
     write_rows(
-        alloc,
-        source,
-        layout,
-        total as usize,
-        &table,
-        most,
-        &mut room,
-        cells,
+        alloc, source, layout, wanted, &table, most, &mut room, cells,
     );
     Ok(())
 }
@@ -185,21 +265,21 @@ fn write_rows<W: Word, R: Room>(
     alloc: Global,
     source: &Source<'_, W>,
     layout: Layout,
-    total: usize,
+    wanted: Wanted<'_>,
     table: &[F],
     most: usize,
     room: &mut [F],
     cells: &mut [R],
 )
     requires layout { IsLayoutOf (words_in W.word source.now) layout }
-    requires points { total ≤ 2 ^ layout.lg }
+    requires points { All (λ i. i < 2 ^ layout.lg) (indices_in wanted) }
     requires table { IsTableOf layout.lg table.now }
     requires some { 1 ≤ most }
     requires room { length room.old ≡ 2 ^ layout.lg * most }
-    requires size { length (R.words cells.old) ≡ total * layout.width }
+    requires size { length (R.words cells.old) ≡ length (indices_in wanted) * layout.width }
     requires fits { length (R.words cells.old) < 2 ^ 64 }
     ensures columns { HaveColumns (words_in W.word source.now) layout.min layout.lg layout.width
-        total layout.width (R.words cells.new) }
+        (indices_in wanted.entry) layout.width (R.words cells.new) }
     ensures size { length (R.words cells.new) ≡ length (R.words cells.old) }
 {
     let mut from = 0;
@@ -207,31 +287,33 @@ fn write_rows<W: Word, R: Room>(
         let cols = most.min(layout.width - from);
         let strip = &mut room[..size_of(layout.lg) * cols];
         write_values(alloc, source, layout, from, cols, table, strip);
-        write_columns(strip, cols, total, layout.width, from, cells);
+        write_columns(strip, cols, wanted, layout.width, from, cells);
         from += cols;
     }
 }
 
-/// Writes row i of the strip into row i of the cells, from column `from` on, for each i below
-/// `total`.
+/// Writes the row of the strip that has the number of an index into the row of the cells that is
+/// that index's, from column `from` on, for each of the indices.
 fn write_columns<R: Room>(
     strip: &[F],
     cols: usize,
-    total: usize,
+    wanted: Wanted<'_>,
     width: usize,
     from: usize,
     cells: &mut [R],
 )
-    requires strip { total * cols ≤ length strip.now }
+    requires strip { All (λ i. i * cols + cols ≤ length strip.now) (indices_in wanted) }
     requires within { from + cols ≤ width }
-    requires size { length (R.words cells.old) ≡ total * width }
+    requires size { length (R.words cells.old) ≡ length (indices_in wanted) * width }
     requires fits { length (R.words cells.old) < 2 ^ 64 }
-    ensures columns { AreColumnsWritten width from cols total strip.now
+    ensures columns { AreColumnsWritten width from cols (length (indices_in wanted.entry))
+        (strip_element (indices_in wanted.entry) cols strip.now)
         (R.words cells.old) (R.words cells.new) }
     ensures size { length (R.words cells.new) ≡ length (R.words cells.old) }
 {
-    for i in 0..total {
-        R::write(cells, i * width + from, &strip[i * cols..(i + 1) * cols]);
+    for t in 0..wanted_count(wanted) {
+        let at = wanted_index(wanted, t) * cols;
+        R::write(cells, t * width + from, &strip[at..at + cols]);
     }
 }
 

@@ -61,7 +61,7 @@ returns-in_default-2-clause-err c =
       (r.sound, λ x. x),
       enough,
       λ words k.
-          false≢true (rw c.in_default-2.is at (c.in_ok-words.ensures.none words k.each_word k.few (corrected_of_data g.0 first shards e r q wrong h words k))),
+          false≢true (rw c.in_default-2.is at (c.in_ok-data.ensures.none words k.each_word k.few (corrected_of_data g.0 first shards e r q wrong h words k))),
     )
 
 pub evaluate-requires : goal.evaluate-requires
@@ -112,10 +112,12 @@ returns-clause-ok c =
     let q = c.in-Some.corrected.polynomials in
     let wrong = c.in-Some.corrected.wrong.items in
     let h : IsCorrected goldilocks (root_of g.0) e first.min q wrong = (rw c.in-Some.is at c.in_ok-corrected.ensures.found) g.0 g.2.size.0 in
-    let words = c.in-Some-2.words.items in
-    let few : length words < 2 ^ 64 = search (rules, c.in-Some-2.words.small) in
-    corrected_with_positions g.0 first shards e r q wrong h words (rw c.in-Some-2.is at c.in_ok-words.ensures.some) c.in_ok-evaluate.field-0.matrix c.in_ok-evaluate.ensures.size
-    c.in_ok-evaluate.ensures.values (rw c.in-Some-2.is at c.in_ok-words.ensures.each_word) few c.in_ok-left_out.left_out.items c.in_ok-left_out.ensures
+    let found = rw c.in-Some-2.is at c.in_ok-data.ensures.some in (
+      found.0,
+      found.1,
+      corrected_with_positions g.0 first shards e r q wrong h found.0 found.2 c.in_ok-evaluate.field-0.matrix c.in_ok-evaluate.ensures.size
+          c.in_ok-evaluate.ensures.values found.1.elements.each_word found.1.elements.few c.in_ok-left_out.left_out.items c.in_ok-left_out.ensures,
+    )
 
 pub data_of-requires-clause-rows : goal.data_of-requires-clause-rows
 data_of-requires-clause-rows c =

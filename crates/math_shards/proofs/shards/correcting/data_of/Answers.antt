@@ -23,22 +23,17 @@ returns-in_default-clause-none c = λ words each_word few same_as.
     absurd ((rw c.in_default.is at c.data_count.ensures.none) words
     (record { each_word = each_word; few = few; packed = c.deref.ensures.value ∙ c.in_ok-elements.ensures ∙ cells }))
 
-pub returns-clause-each_word : goal.returns-clause-each_word
-returns-clause-each_word c =
-    let found = rw c.in-Some.is at c.data_count.ensures.some in
-    let are : AreDataOf found.0 c.args.min c.deref-2.result.now = subst (λ (xs : List F). AreDataOf found.0 c.args.min xs) (c.deref.ensures.value ∙ sym c.deref-2.ensures.value) found.2 in
-    subst (λ (ws : List ℕ). All (λ word. word < 2 ^ 64) ws) (sym (c.in_ok-words.ensures found.0 c.args.min found.1 are)) found.2.each_word
-
 pub returns-clause-some : goal.returns-clause-some
 returns-clause-some c =
     let q = c.args.polynomials.now in
     let min = c.args.min in
     let width = c.args.width in
     let found = rw c.in-Some.is at c.data_count.ensures.some in
-    let are : AreDataOf found.0 min c.deref-2.result.now = subst (λ (xs : List F). AreDataOf found.0 min xs) (c.deref.ensures.value ∙ sym c.deref-2.ensures.value) found.2 in
     let front : c.deref.result.now ≡ take (min * width) q.cells = c.deref.ensures.value ∙ c.in_ok-elements.ensures ∙ ap (λ w. take (min * w) q.cells) c.requires.size.1 in
     let all : min * width ≤ q.rows * width = mul-le min width q.rows width c.requires.rows (omega arith) in
-    let size : length c.deref.result.now ≡ min * width = ap length front ∙ length-take-le (min * width) q.cells (omega (arith, all, c.requires.size.2)) in
-    subst (λ (ws : List ℕ). ArePolynomialsOf ws min q) (sym (c.in_ok-words.ensures found.0 min found.1 are))
-    (polynomials_of_rows found.0 min q.rows width q c.requires.some c.requires.rows c.requires.size (width_of_data found.0 min width c.deref.result.now c.requires.some size found.2)
-    (sym front ∙ found.2.packed) c.requires.short)
+    let size : length c.deref.result.now ≡ min * width = ap length front ∙ length-take-le (min * width) q.cells (omega (arith, all, c.requires.size.2)) in (
+      found.0,
+      record { count = sym found.1; min = min; elements = subst (λ (xs : List F). AreDataOf found.0 min xs) c.deref.ensures.value found.2 },
+      polynomials_of_rows found.0 min q.rows width q c.requires.some c.requires.rows c.requires.size (width_of_data found.0 min width c.deref.result.now c.requires.some size found.2)
+          (sym front ∙ found.2.packed) c.requires.short,
+    )

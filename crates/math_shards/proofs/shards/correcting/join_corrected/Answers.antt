@@ -8,34 +8,34 @@ pub returns-clause-found : goal.returns-clause-found
 returns-clause-found c =
     let shards = c.args.shards.now in
     answers (λ _. ⊥) settled_indices CorrectTo corrected_of_some corrected_beside (λ j. j.words.items) (λ j. AreCorrected j.words.items j.left_out.items shards) shards (λ j h. h.0)
-    (λ words others. one_correction words others shards) c.corrected_data.result c.corrected_data.ensures.ok c.corrected_data.ensures.err
+    (λ words others. one_correction words others shards) c.corrected_words.result c.corrected_words.ensures.ok c.corrected_words.ensures.err
 
 pub returns-clause-too_few : goal.returns-clause-too_few
 returns-clause-too_few c =
     let shards = c.args.shards.now in
     refuses (λ _. ⊥) settled_indices CorrectTo corrected_of_some corrected_beside (λ j. j.words.items) (λ j. AreCorrected j.words.items j.left_out.items shards) shards (λ j h. h.0) TooFew (λ h. h)
-    c.corrected_data.result c.corrected_data.ensures.ok c.corrected_data.ensures.err
+    c.corrected_words.result c.corrected_words.ensures.ok c.corrected_words.ensures.err
 
 pub returns-clause-mismatch : goal.returns-clause-mismatch
 returns-clause-mismatch c =
     let shards = c.args.shards.now in
     refuses (λ _. ⊥) settled_indices CorrectTo corrected_of_some corrected_beside (λ j. j.words.items) (λ j. AreCorrected j.words.items j.left_out.items shards) shards (λ j h. h.0) Mismatch (λ h. h)
-    c.corrected_data.result c.corrected_data.ensures.ok c.corrected_data.ensures.err
+    c.corrected_words.result c.corrected_words.ensures.ok c.corrected_words.ensures.err
 
 pub returns-clause-index : goal.returns-clause-index
 returns-clause-index c =
     let shards = c.args.shards.now in
     refuses (λ _. ⊥) settled_indices CorrectTo corrected_of_some corrected_beside (λ j. j.words.items) (λ j. AreCorrected j.words.items j.left_out.items shards) shards (λ j h. h.0) Index (λ h. h)
-    c.corrected_data.result c.corrected_data.ensures.ok c.corrected_data.ensures.err
+    c.corrected_words.result c.corrected_words.ensures.ok c.corrected_words.ensures.err
 
 pub returns-clause-conflict : goal.returns-clause-conflict
 returns-clause-conflict c =
     let shards = c.args.shards.now in
     refuses (λ _. ⊥) settled_indices CorrectTo corrected_of_some corrected_beside (λ j. j.words.items) (λ j. AreCorrected j.words.items j.left_out.items shards) shards (λ j h. h.0) Conflict (λ h. h)
-    c.corrected_data.result c.corrected_data.ensures.ok c.corrected_data.ensures.err
+    c.corrected_words.result c.corrected_words.ensures.ok c.corrected_words.ensures.err
 
 pub returns-clause-inconsistent : goal.returns-clause-inconsistent
 returns-clause-inconsistent c =
     let shards = c.args.shards.now in
     refuses (λ _. ⊥) settled_indices CorrectTo corrected_of_some corrected_beside (λ j. j.words.items) (λ j. AreCorrected j.words.items j.left_out.items shards) shards (λ j h. h.0) Inconsistent (λ h. h)
-    c.corrected_data.result c.corrected_data.ensures.ok c.corrected_data.ensures.err
+    c.corrected_words.result c.corrected_words.ensures.ok c.corrected_words.ensures.err

@@ -33,8 +33,7 @@ returns-then-rows-min-2-clause-some g c =
     let found = rw c.in-Some-data_count.is at c.data_count.ensures.some in
     let are : AreDataOf found.0 c.args.min elements = subst (λ (xs : List F). AreDataOf found.0 c.args.min xs) c.deref.ensures.value found.2 in (
       found.0,
-      found.1,
-      are,
+      record { count = sym found.1; min = c.args.min; elements = are },
       rows_fit g.R.Row.index g.R.Row.cells found.0 c.args.min c.args.total c.args.width elements c.args.rows.now c.requires.some c.requires.within c.ranges.total.fits
           (rw c.in-Some.is at c.in_ok-elements.ensures.size) are (rw c.in-Some.is at c.in_ok-elements.ensures.enough) c.requires.below c.requires.count
           (rw c.in-Some.is at c.in_ok-elements.ensures.values c.if-rows-min-2.true),
@@ -51,8 +50,7 @@ returns-clause-some g c =
     let values = subst (λ (xs : List F). All (λ (row : g.row.R.Denot). HasValuesOf c.lg_of.result (matrix_of c.args.min c.args.width xs) (g.R.Row.index row) (g.R.Row.cells row)) c.args.rows.now)
     c.deref-2.ensures.value (c.in_ok-have_values.ensures.0 c.if-not-branch.false) in (
       found.0,
-      found.1,
-      are,
+      record { count = sym found.1; min = c.args.min; elements = are },
       rows_fit g.R.Row.index g.R.Row.cells found.0 c.args.min c.args.total c.args.width elements c.args.rows.now c.requires.some c.requires.within c.ranges.total.fits
           (rw c.in-Some.is at c.in_ok-elements.ensures.size) are (rw c.in-Some.is at c.in_ok-elements.ensures.enough) c.requires.below c.requires.count
           (λ lg next. subst (λ n. All (λ (row : g.row.R.Denot). HasValuesOf n (matrix_of c.args.min c.args.width elements) (g.R.Row.index row) (g.R.Row.cells row)) c.args.rows.now)

@@ -1,32 +1,34 @@
 use Rattle.std.proofs.Common.{◌≡◌, ◌∙◌, ◌*◌, length, sym, ap, arith}
-use Rattle.math_shards.proofs.PutCoefficients.{column-count, columns-more, columns-none}
-use Rattle.math_splitting.proofs.GatheredColumns.{column_in}
+use Rattle.math_shards.proofs.PutCoefficients.{column_in, columns-more, columns-none}
 use Rattle.math_shards.proofs.shards.weighing.put_columns.Goals as goal
-use Rattle.math_shards.proofs.shards.weighing.put_columns.Goals.{After-deref}
+use Rattle.math_shards.proofs.shards.weighing.put_columns.Goals.{After-gather}
 
-gathered : (c : After-deref) → c.deref.result.now ≡ column_in c.args.count c.args.width c.loop-k.cells c.loop-k.k
-gathered c = c.deref.ensures.value ∙ c.in_ok-gather.ensures
+same : (c : After-gather) → length c.gather.new.column ≡ length c.args.column.now
+same c = c.gather.auto.column ∙ c.loop-k.auto.column
 
-count : (c : After-deref) → length c.deref.result.now ≡ c.args.count
-count c = column-count c.args.count c.args.width c.loop-k.k c.loop-k.cells c.deref.result.now (gathered c)
+pub gather-requires-clause-size : goal.gather-requires-clause-size
+gather-requires-clause-size c = c.loop-k.auto.cells ∙ c.requires.size ∙ ap (λ n. n * c.args.width) (sym c.loop-k.auto.column)
 
 pub put_column-requires-clause-size : goal.put_column-requires-clause-size
 put_column-requires-clause-size c =
-    c.loop-k.auto.cells ∙ c.requires.size ∙ ap (λ n. n * c.args.width) (sym (count (goal.at.put_column-requires-clause-size c).After-deref))
+    c.loop-k.auto.cells ∙ c.requires.size ∙ ap (λ n. n * c.args.width) (sym (same (goal.at.put_column-requires-clause-size c).After-gather))
 
 pub put_column-requires-clause-rows : goal.put_column-requires-clause-rows
-put_column-requires-clause-rows c = omega (arith, c.requires.rows, count (goal.at.put_column-requires-clause-rows c).After-deref)
+put_column-requires-clause-rows c = omega (arith, c.requires.rows, same (goal.at.put_column-requires-clause-rows c).After-gather)
 
 pub put_column-requires-clause-cols : goal.put_column-requires-clause-cols
-put_column-requires-clause-cols c = c.requires.cols ∙ sym (count (goal.at.put_column-requires-clause-cols c).After-deref)
+put_column-requires-clause-cols c = c.requires.cols ∙ sym (same (goal.at.put_column-requires-clause-cols c).After-gather)
 
 pub loop-k-init : goal.loop-k-init
-loop-k-init c = columns-none c.args.weights.now c.args.count c.args.width c.args.cells.now
+loop-k-init c = columns-none c.args.weights.now (length c.args.column.now) c.args.width c.args.cells.now
 
 pub loop-k-preserved : goal.loop-k-preserved
 loop-k-preserved c =
-    columns-more c.args.weights.now c.args.count c.args.width c.loop-k.k c.args.cells.now c.loop-k.cells c.put_column.new.cells c.deref.result.now c.requires.size
-    (c.loop-k.auto.cells ∙ c.requires.size) (gathered (goal.at.loop-k-preserved c).After-deref) c.loop-k-test.true c.put_column.ensures.column c.put_column.ensures.others c.loop-k.invariant
+    let count = length c.args.column.now in
+    let gathered : c.gather.new.column ≡ column_in count c.args.width c.loop-k.cells c.loop-k.k =
+    c.gather.ensures ∙ ap (λ n. column_in n c.args.width c.loop-k.cells c.loop-k.k) c.loop-k.auto.column in
+    columns-more c.args.weights.now count c.args.width c.loop-k.k c.args.cells.now c.loop-k.cells c.put_column.new.cells c.gather.new.column c.requires.size
+    (c.loop-k.auto.cells ∙ c.requires.size) gathered c.loop-k-test.true c.put_column.ensures.column c.put_column.ensures.others c.loop-k.invariant
 
 pub returns : goal.returns
 returns c = record {

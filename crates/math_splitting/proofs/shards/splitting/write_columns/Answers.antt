@@ -1,30 +1,37 @@
-use Rattle.std.proofs.Common.{◌≡◌, ◌∙◌, ◌+◌, ◌-◌, ◌*◌, ◌≤◌, drop, length, take, arith}
+use Rattle.std.proofs.Common.{◌≡◌, ◌∙◌, ℕ, ◌+◌, ◌-◌, ◌*◌, ◌<◌, ◌≤◌, List, drop, get_or, length, take, sym, ap, subst, arith}
 use Rattle.std.proofs.lemmas.List.{length-drop, length-take-le}
 use Rattle.std.proofs.lemmas.Nat.{mul-le}
-use Rattle.math_splitting.proofs.WrittenColumns.{columns-more, left-more, size-kept}
+use Rattle.math_base.specs.declared.fields.goldilocks.F.{F}
+use Rattle.math_splitting.specs.ShardRows.{indices_in, strip_element}
+use Rattle.math_splitting.proofs.SameCells.{nought}
+use Rattle.math_splitting.proofs.WrittenColumns.{columns-more, left-more, size-kept, strip_row}
 use Rattle.math_splitting.proofs.shards.splitting.write_columns.Goals as goal
 
-pub loop-i-preserved : goal.loop-i-preserved
-loop-i-preserved g c =
-    let i = c.loop-i.i in
+pub loop-t-preserved : goal.loop-t-preserved
+loop-t-preserved g c =
+    let t = c.loop-t.t in
     let cols = c.args.cols in
     let width = c.args.width in
     let from = c.args.from in
     let strip = c.args.strip.now in
-    let old = g.R.Room.words c.loop-i.cells in
+    let indices = indices_in c.args.wanted in
+    let old = g.R.Room.words c.loop-t.cells in
     let first = g.R.Room.words c.args.cells.now in
-    let m = (i + 1) * cols - i * cols in
-    let n = length (take m (drop (i * cols) strip)) in
-    let up : (i + 1) * width ≤ c.args.total * width = mul-le (i + 1) width c.args.total width (omega arith) (omega arith) in
-    let next : (i + 1) * width ≡ i * width + width = omega arith in
-    let over : (i + 1) * cols ≤ c.args.total * cols = mul-le (i + 1) cols c.args.total cols (omega arith) (omega arith) in
-    let after : (i + 1) * cols ≡ i * cols + cols = omega arith in
-    let q : m ≡ cols = omega (arith, after) in
-    let inside : i * width + width ≤ length old = omega (arith, up, next, c.requires.size, c.loop-i.invariant.size) in
-    let there : i * cols + cols ≤ length strip = omega (arith, over, after, c.requires.strip) in
-    let e : n ≡ cols = length-take-le m (drop (i * cols) strip) (omega (arith, q, there, length-drop (i * cols) strip)) ∙ q in
+    let i = c.wanted_index.result in
+    let m = i * cols + cols - i * cols in
+    let items : List F = take m (drop (i * cols) strip) in
+    let element : ℕ → ℕ → F = strip_element indices cols strip in
+    let below : t < length indices = omega (arith, c.wanted_count-t-end.ensures) in
+    let q : m ≡ cols = omega arith in
+    let there : i * cols + cols ≤ length strip = subst (λ j. j * cols + cols ≤ length strip) (sym c.wanted_index.ensures) (c.requires.strip t 0 below) in
+    let long : length items ≡ cols = length-take-le m (drop (i * cols) strip) (omega (arith, q, there, length-drop (i * cols) strip)) ∙ q in
+    let is : (k : ℕ) → k < cols → get_or items k nought ≡ element t k = λ k l.
+    ap (λ j. get_or (take m (drop (j * cols) strip)) k nought) c.wanted_index.ensures ∙ strip_row indices cols t m strip q k l in
+    let up : (t + 1) * width ≤ length indices * width = mul-le (t + 1) width (length indices) width (omega (arith, below)) (omega arith) in
+    let next : (t + 1) * width ≡ t * width + width = omega arith in
+    let inside : t * width + width ≤ length old = omega (arith, up, next, c.requires.size, c.loop-t.invariant.size) in
     rw c.write.ensures record {
-      size = size-kept width from cols i n m strip first old e q c.requires.within inside there ∙ c.loop-i.invariant.size;
-      columns = columns-more width from cols i n m strip first old e q c.requires.within inside there c.loop-i.invariant.columns c.loop-i.invariant.left;
-      left = left-more width from cols i n m strip first old e q c.requires.within inside there c.loop-i.invariant.left;
+      size = size-kept width from cols t items element first old long c.requires.within inside is ∙ c.loop-t.invariant.size;
+      columns = columns-more width from cols t items element first old long c.requires.within inside is c.loop-t.invariant.columns c.loop-t.invariant.left;
+      left = left-more width from cols t items element first old long c.requires.within inside is c.loop-t.invariant.left;
     }

@@ -1,11 +1,11 @@
 use Rattle.std.proofs.Common.{◌≡◌, ℕ, ◌*◌, ◌≤◌, get_or, length}
-use Rattle.math_splitting.specs.ShardRows.{AreColumnsWritten}
+use Rattle.math_splitting.specs.ShardRows.{AreColumnsWritten, indices_in, strip_element}
 use Rattle.math_splitting.proofs.shards.splitting.write_columns.Given as goal
 
 -- the rows so far are written in these columns, and the others are as they were
-abbrev pub invariant-loop-i : goal.invariant-loop-i
-invariant-loop-i g l = record {
+abbrev pub invariant-loop-t : goal.invariant-loop-t
+invariant-loop-t g l = record {
   size : length (g.R.Room.words l.cells) ≡ length (g.R.Room.words l.initial.cells);
-  columns : AreColumnsWritten l.width l.from l.cols l.i l.strip (g.R.Room.words l.initial.cells) (g.R.Room.words l.cells);
-  left : (p : ℕ) → l.i * l.width ≤ p → get_or (g.R.Room.words l.cells) p 0 ≡ get_or (g.R.Room.words l.initial.cells) p 0;
+  columns : AreColumnsWritten l.width l.from l.cols l.t (strip_element (indices_in l.wanted) l.cols l.strip) (g.R.Room.words l.initial.cells) (g.R.Room.words l.cells);
+  left : (p : ℕ) → l.t * l.width ≤ p → get_or (g.R.Room.words l.cells) p 0 ≡ get_or (g.R.Room.words l.initial.cells) p 0;
 }

@@ -1,6 +1,6 @@
 use Rattle.std.proofs.Common.{◌≡◌, ◌-◌, ◌≤◌, length}
 use Rattle.math_splitting.specs.DataWords.{words_in}
-use Rattle.math_splitting.specs.ShardRows.{HaveColumns}
+use Rattle.math_splitting.specs.ShardRows.{HaveColumns, indices_in}
 use Rattle.math_splitting.proofs.shards.splitting.write_rows.Given as goal
 
 -- the columns so far
@@ -8,7 +8,7 @@ abbrev pub invariant-loop-from : goal.invariant-loop-from
 invariant-loop-from g l = record {
   within : l.from ≤ l.layout.width;
   size : length (g.R.Room.words l.cells) ≡ length (g.R.Room.words l.initial.cells);
-  columns : HaveColumns (words_in g.W.Word.word l.source) l.layout.min l.layout.lg l.layout.width l.total l.from (g.R.Room.words l.cells);
+  columns : HaveColumns (words_in g.W.Word.word l.source) l.layout.min l.layout.lg l.layout.width (indices_in l.wanted) l.from (g.R.Room.words l.cells);
 }
 
 abbrev pub decreases-loop-from : goal.decreases-loop-from

@@ -1,0 +1,33 @@
+use Rattle.std.proofs.Common.{sym}
+use Rattle.std.proofs.lemmas.Result.{err_from_is_err_and}
+use Rattle.math_shards.specs.Joining.{HaveConflict}
+use Rattle.math_splitting.specs.Shards.{JoinTo, distinct_indices}
+use Rattle.math_shards.proofs.DueErrors.{due_beside, rows_due, unsound_due}
+use Rattle.math_shards.proofs.JoinedRows.{join_of_fit}
+use Rattle.math_shards.proofs.shards.joining.join_packed.Goals as goal
+
+pub returns-in_err-check_numbers-clause-err : goal.returns-in_err-check_numbers-clause-err
+returns-in_err-check_numbers-clause-err c =
+    let q = err_from_is_err_and c.from_residual.result c.from_residual.ensures.1 in
+    let item = c.in-Some.ensures.item in
+    let e = c.in_err-check_numbers.field-0.0 in
+    let due = unsound_due HaveConflict distinct_indices JoinTo c.in-Some.first.now c.args.shards.now e c.in_err-check_numbers.ensures.err in
+    rw (q.1, q.2) (due_beside HaveConflict distinct_indices JoinTo c.in-Some.first.now c.args.shards.now e item.3.0 (sym item.1) due)
+
+pub returns-in_err-packed-clause-err : goal.returns-in_err-packed-clause-err
+returns-in_err-packed-clause-err c =
+    let q = err_from_is_err_and c.from_residual-in_err-packed.result c.from_residual-in_err-packed.ensures.1 in
+    let item = c.in-Some.ensures.item in
+    let first = c.in-Some.first.now in
+    let shards = c.args.shards.now in
+    let e = c.in_err-packed.field-0.0 in
+    let due = rows_due first shards e c.in_ok-check_numbers.ensures.ok item.3.0 c.in_err-packed.ensures.err in
+    rw (q.1, q.2) (due_beside HaveConflict distinct_indices JoinTo first shards e item.3.0 (sym item.1) due)
+
+pub returns-clause-ok : goal.returns-clause-ok
+returns-clause-ok c =
+    let first = c.in-Some.first.now in
+    let shards = c.args.shards.now in
+    let sound = c.in_ok-check_numbers.ensures.ok in
+    let found = c.in_ok-packed.ensures.ok in
+    (found.0, found.1, join_of_fit found.0 first.min first.total shards (λ i d l. (sound i d l).0.least) (λ i d l. (sound i d l).0.most) found.2)

@@ -1,9 +1,0 @@
-use Rattle.std.proofs.Common.{◌↔◌, drop, map, take}
-use Rattle.std.specs.Bool.{IsTrue}
-use Rattle.std.specs.List.{AllZip}
-use Rattle.math_base.specs.Elements.{residue, same}
-use Rattle.math_shards.proofs.shards.rows.WordRowRow.has_values.Given as goal
-
--- all were equal so far exactly where the values so far are the elements of the words
-abbrev pub invariant-loop-i : goal.invariant-loop-i
-invariant-loop-i l = IsTrue l.equal ↔ AllZip same (take l.i l.values) (take l.i (drop l.from (map residue l.self.words.now)))
