@@ -10,12 +10,12 @@ returns-in_default-clause-found c = λ block h l.
 
 pub returns-then-not-are_elements-clause-found : goal.returns-then-not-are_elements-clause-found
 returns-then-not-are_elements-clause-found c = λ block h l.
-    false≢true (sym c.if-not-are_elements.true ∙ c.are_elements.ensures.1 (spell_there block c.args.min c.args.total c.args.indices.now c.args.shards.now h))
+    absurd (false≢true (sym c.if-not-are_elements.true ∙ c.are_elements.ensures.1 (spell_there block c.args.min c.args.total c.args.indices.now c.args.shards.now h)))
 
 pub returns-in-Ok-None-clause-found : goal.returns-in-Ok-None-clause-found
 returns-in-Ok-None-clause-found c = λ block h l.
     absurd (false≢true (rw c.in-Ok-None.field-0-is at (c.in-Ok-None.ensures.found block h l)))
 
-pub returns-clause-found : goal.returns-clause-found
-returns-clause-found c = λ block h l.
+pub returns-in-Err-clause-found : goal.returns-in-Err-clause-found
+returns-in-Err-clause-found c = λ block h l.
     inr (c.code-in-Err.ensures ∙ c.of_shards.ensures ∙ memory_status c.in-Err.error (c.in-Err.ensures.found block h l))
