@@ -17,6 +17,7 @@ use Rattle.math_splitting.specs.DataWords.{spelled_words}
 use Rattle.math_shards.specs.Joining.{HaveConflict, IsMemory, RefusesWhereDue}
 use Rattle.math_splitting.specs.Shards.{JoinTo, distinct_indices, width_for}
 use Rattle.math_shards.proofs.DueErrors.{joined_beside, joined_of_some, not_due}
+use Rattle.math_shards.proofs.JoinedCorrection.{joined_corrected}
 use Rattle.math_shards.proofs.OnlyData.{only_data}
 use Rattle.math_splitting.proofs.SpelledWords.{bytes-spelled, spelled-words}
 use Rattle.shard_blocks.specs.BlockWords.{words_of_bytes}
@@ -170,3 +171,9 @@ pub refused_of_corrected : (min total : ℕ) (indices bytes : List ℕ) → Spel
     → IsMemory e ⊎ IsBlockDueCorrecting shards e → IsMemory e ⊎ AreBlockRefusedCorrecting e min total indices bytes
 refused_of_corrected min total indices bytes h shards e are (inl memory) = inl memory
 refused_of_corrected min total indices bytes h shards e are (inr due) = inr (spelled_words bytes, (cells_of_spelled bytes h).1, shards, are, due)
+
+-- the block that sound shards join to is the one that they are corrected to, and none is wrong
+pub corrected_of_joined : (min total : ℕ) (indices bytes : List ℕ) → SpellElements bytes → (block : List ℕ) → DoRowsJoinTo block min total indices (spelled_words bytes)
+    → DoCorrectToBlock block [] min total indices bytes
+corrected_of_joined min total indices bytes h block (shards, are, join) =
+    (spelled_words bytes, (cells_of_spelled bytes h).1, shards, are, (join.0, joined_corrected (words_of_bytes block) shards join.1))

@@ -122,8 +122,49 @@ pub fn write_block(
 /// Writes the block of the shards, however some are wrong, over the first bytes of `out`, and the
 /// positions of the wrong ones over the first items of `left_out`, and gives the numbers of both.
 ///
-/// `None` where there is no room for the block. It refuses as `join_block_corrected` does.
+/// `None` where there is no room for the block. It refuses as `join_block_corrected` does. Sound
+/// shards are joined where they lie.
 pub fn write_corrected_block(
+    alloc: Global,
+    indices: &[u32],
+    min: u32,
+    total: u32,
+    shards: &[u8],
+    cols: usize,
+    out: &mut [u8],
+    left_out: &mut [usize],
+) -> Result<Option<(usize, usize)>, Error>
+    requires count { length shards.now ≡ 8 * (length indices.now * cols) }
+    requires below { SpellElements shards.now }
+    requires room { length indices.now ≤ length left_out.old }
+    ensures some { IfOk result (λ answer. IfSome answer (λ n. (block positions : List ℕ)
+        × DoCorrectToBlock block positions min total indices.now shards.now
+        × (n.0 ≡ length block) × StandInFront block out.old out.new
+        × (n.1 ≡ length positions) × StandInFront positions left_out.old left_out.new)) }
+    ensures none { IfOk result (λ answer. IfNone answer ((block positions : List ℕ)
+        × DoCorrectToBlock block positions min total indices.now shards.now
+        × (length out.old < length block))) }
+    ensures kept { IfOk result (λ answer. IfNone answer
+        ((out.new ≡ out.old) × (left_out.new ≡ left_out.old))) }
+    ensures err { OnErr result ((out.new ≡ out.old) × (left_out.new ≡ left_out.old)) }
+    ensures due { IfErr result (λ e. IsMemory e
+        ⊎ AreBlockRefusedCorrecting e min total indices.now shards.now) }
+    ensures found { (block positions : List ℕ)
+        → DoCorrectToBlock block positions min total indices.now shards.now
+        → length block ≤ length out.old → MatchResult result (λ answer. IsSome answer) IsMemory }
+{
+    match join_block_rows(alloc, indices, min, total, shards, cols, out) {
+        Ok(Some(n)) => Ok(Some((n, 0))),
+        Ok(None) => Ok(None),
+        Err(Error::Memory(error)) => Err(Error::Memory(error)),
+        Err(_) => {
+            write_corrected_shards(alloc, indices, min, total, shards, cols, out, left_out)
+        }
+    }
+}
+
+/// As `write_corrected_block`, of bytes that fit no block: from shards that are made of these.
+fn write_corrected_shards(
     alloc: Global,
     indices: &[u32],
     min: u32,

@@ -7,7 +7,9 @@ ghost use Rattle.c_calls.specs.WordEncodings.{StandInFront};
 ghost use Rattle.c_calls.specs.WordShards.{AreRefusedCorrecting, AreRowsOf, AreWordsOfShards, DoCorrectTo, HaveShardSizes, IsSplit};
 
 use commonware_math::algebra::Mem;
-use commonware_math::shards::{Error, join_corrected, shard_width, shards_of_rows, split_rows};
+use commonware_math::shards::{
+    Error, join_corrected, join_rows, shard_width, shards_of_rows, split_rows,
+};
 use std::alloc::Global;
 
 /// 2^57: there are fewer words of data, and fewer of shards.
@@ -79,8 +81,44 @@ pub fn write_shards(
 /// Writes the data of the shards, however some are wrong, over the first words of `out`, and the
 /// positions of the wrong ones over the first items of `left_out`, and gives the numbers of both.
 ///
-/// `None` where there is no room for the data. It refuses as `join_corrected` does.
+/// `None` where there is no room for the data. It refuses as `join_corrected` does. Sound shards are
+/// joined where they lie.
 pub fn write_corrected(
+    alloc: Global,
+    indices: &[u32],
+    min: u32,
+    total: u32,
+    cells: &[u64],
+    cols: usize,
+    out: &mut [u64],
+    left_out: &mut [usize],
+) -> Result<Option<(usize, usize)>, Error>
+    requires count { length cells.now ≡ length indices.now * cols }
+    requires below { AreElements cells.now }
+    requires room { length indices.now ≤ length left_out.old }
+    ensures some { IfOk result (λ answer. IfSome answer (λ n. (words positions : List ℕ)
+        × DoCorrectTo words positions min total indices.now cells.now
+        × (n.0 ≡ length words) × StandInFront words out.old out.new
+        × (n.1 ≡ length positions) × StandInFront positions left_out.old left_out.new)) }
+    ensures none { IfOk result (λ answer. IfNone answer ((words positions : List ℕ)
+        × DoCorrectTo words positions min total indices.now cells.now
+        × (length out.old < length words))) }
+    ensures kept { IfOk result (λ answer. IfNone answer
+        ((out.new ≡ out.old) × (left_out.new ≡ left_out.old))) }
+    ensures err { OnErr result ((out.new ≡ out.old) × (left_out.new ≡ left_out.old)) }
+    ensures due { IfErr result
+        (λ e. IsMemory e ⊎ AreRefusedCorrecting e min total indices.now cells.now) }
+{
+    match join_rows(alloc, indices, min, total, cells, cols, out) {
+        Ok(Some(n)) => Ok(Some((n, 0))),
+        Ok(None) => Ok(None),
+        Err(Error::Memory(error)) => Err(Error::Memory(error)),
+        Err(_) => write_corrected_shards(alloc, indices, min, total, cells, cols, out, left_out),
+    }
+}
+
+/// As `write_corrected`, of words that fit no data: from shards that are made of these.
+fn write_corrected_shards(
     alloc: Global,
     indices: &[u32],
     min: u32,
