@@ -383,6 +383,27 @@ pub trait FieldNTT: Field {
         Ok(())
     }
 
+    /// Returns a x + b y.
+    ///
+    /// That is two products and their sum; a type may do it at less cost.
+    ///
+    /// ```
+    /// let (two, five) = (F::from(2), F::from(5));
+    /// <F as FieldNTT>::sum_of_products(alloc, &two, &F::from(3), &F::from(4), &five)?; // 26
+    /// ```
+    fn sum_of_products(alloc: Global, a: &Self, x: &Self, b: &Self, y: &Self) -> Mem<Self>
+        ensures ok { IfOk result (λ answer. Self.same answer
+            (Self.sum (Self.product a.now x.now) (Self.product b.now y.now))) }
+        ensures never { IsTrue Self.NEVER_REFUSES → IsOk result }
+    {
+        let mut out = a.clone(alloc)?;
+        out.mul_assign(alloc, x)?;
+        let mut second = b.clone(alloc)?;
+        second.mul_assign(alloc, y)?;
+        out.add_assign(alloc, &second)?;
+        Ok(out)
+    }
+
     /// The order of each root is exactly 2^lg, each is the square of the next, the shift is no
     /// power of any of them, and a half twice is the value.
     ghost roots: { HasRootsOfUnity Self.same Self.zero Self.sum Self.product Self.one

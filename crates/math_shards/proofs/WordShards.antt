@@ -177,58 +177,56 @@ rows_wide row_words n cols cells rows e words = λ k d l.
 
 -- Rows of words, each with its index, and the shards that they are.
 module _ {R : Type 0} (some : Vec R) (min total cols : ℕ) (small : cols < 2 ^ 63) where
-  -- the shards are as wide as the rows, and have these numbers
-  matches_of : (first : Shard) (indices cells : List ℕ) → first.min ≡ min → first.total ≡ total → length first.cells.items ≡ cols → 1 ≤ min → min ≤ total
-      → length cells ≡ length indices * cols → All (Matches first) (word_shards some min total cols small indices cells)
-  matches_of first indices cells least most wide least_is within e k d l =
-      let shards : List Shard = word_shards some min total cols small indices cells in
-      let has_min : (get_or shards k d).min ≡ min = least_of some min total cols small indices cells k d l in
-      let has_total : (get_or shards k d).total ≡ total = most_of some min total cols small indices cells k d l in record {
-        least = has_min ∙ sym least;
-        most = has_total ∙ sym most;
-        count = count_of some min total cols small indices cells e k d l ∙ sym wide;
-        some = omega (arith, has_min, least_is);
-        within = omega (arith, has_min, has_total, within);
-      }
-
   wide_first : (n : ℕ) (cells : List ℕ) → length cells ≡ suc n * cols → length (elements (take cols cells)) ≡ cols
   wide_first n cells e =
       let more : suc n * cols ≡ cols + n * cols = omega arith in
       length-map (take cols cells) residue ∙ length-take-le cols cells (omega (arith, e, more))
 
-  -- the first index that is out of range
-  first_past : (first : Shard) (indices cells : List ℕ) → first.min ≡ min → first.total ≡ total → length first.cells.items ≡ cols → 1 ≤ min → min ≤ total
-      → length cells ≡ length indices * cols → ¬ (All (λ n. n < total) indices)
-      → HasUnsound first (λ s. Matches first s × (s.total ≤ s.index)) (word_shards some min total cols small indices cells)
-  first_past first [] cells least most wide some_min within e none = absurd (none (λ k d l. absurd (omega (arith, l))))
-  first_past first (i ∷ indices) cells least most wide some_min within e none =
-      let rest : List Shard = word_shards some min total cols small indices (drop cols cells) in
-      let head : Shard = record { index = i; min = min; total = total; cells = vec_of some min total cols small cells } in
-      let fits : Matches first head = record { least = sym least; most = sym most; count = wide_first (length indices) cells e ∙ sym wide; some = some_min; within = within } in
-      let more : suc (length indices) * cols ≡ cols + length indices * cols = omega arith in
-      elim (cases_lt i total) as (λ _. HasUnsound first (λ s. Matches first s × (s.total ≤ s.index)) (head ∷ rest)) [
-        | inl below ↦
-            let later = first_past first indices (drop cols cells) least most wide some_min within (omega (arith, e, more, length-drop cols cells))
-            (λ all. none (All-cons (λ n. n < total) i indices below all)) in record {
-              before = head ∷ later.before;
-              found = later.found;
-              after = later.after;
-              parts = ap (λ xs. head ∷ xs) later.parts;
-              sound = All-cons (IsSound first) head later.before (fits, below) later.sound;
-              fault = later.fault;
-            }
-        | inr past ↦ record { before = []; found = head; after = rest; parts = refl; sound = λ k d l. absurd (omega (arith, l)); fault = (fits, past) }
-      ]
+  -- the shards beside a first one that is as wide as the rows, and has these numbers
+  module _ (first : Shard) (least : first.min ≡ min) (most : first.total ≡ total) (wide : length first.cells.items ≡ cols) (some_min : 1 ≤ min) (within : min ≤ total) where
+    matches_of : (indices cells : List ℕ) → length cells ≡ length indices * cols → All (Matches first) (word_shards some min total cols small indices cells)
+    matches_of indices cells e k d l =
+        let shards : List Shard = word_shards some min total cols small indices cells in
+        let has_min : (get_or shards k d).min ≡ min = least_of some min total cols small indices cells k d l in
+        let has_total : (get_or shards k d).total ≡ total = most_of some min total cols small indices cells k d l in record {
+          least = has_min ∙ sym least;
+          most = has_total ∙ sym most;
+          count = count_of some min total cols small indices cells e k d l ∙ sym wide;
+          some = omega (arith, has_min, some_min);
+          within = omega (arith, has_min, has_total, within);
+        }
 
-  sound_of : (first : Shard) (indices cells : List ℕ) → first.min ≡ min → first.total ≡ total → length first.cells.items ≡ cols → 1 ≤ min → min ≤ total
-      → length cells ≡ length indices * cols → All (λ n. n < total) indices → All (IsSound first) (word_shards some min total cols small indices cells)
-  sound_of first indices cells least most wide some_min within e below k d l =
-      let shards : List Shard = word_shards some min total cols small indices cells in
-      let many : length shards ≡ length indices = sym (length-map shards key_of) ∙ ap length (keys_of some min total cols small indices cells) in
-      let index : (get_or shards k d).index ≡ get_or indices k d.index = sym (get_or-map key_of shards k d) ∙ ap (λ xs. get_or xs k d.index) (keys_of some min total cols small indices cells) in (
-        matches_of first indices cells least most wide some_min within e k d l,
-        omega (arith, index, below k d.index (omega (arith, l, many)), most_of some min total cols small indices cells k d l),
-      )
+    -- the first index that is out of range
+    first_past : (indices cells : List ℕ) → length cells ≡ length indices * cols → ¬ (All (λ n. n < total) indices)
+        → HasUnsound first (λ s. Matches first s × (s.total ≤ s.index)) (word_shards some min total cols small indices cells)
+    first_past [] cells e none = absurd (none (λ k d l. absurd (omega (arith, l))))
+    first_past (i ∷ indices) cells e none =
+        let rest : List Shard = word_shards some min total cols small indices (drop cols cells) in
+        let head : Shard = record { index = i; min = min; total = total; cells = vec_of some min total cols small cells } in
+        let fits : Matches first head = record { least = sym least; most = sym most; count = wide_first (length indices) cells e ∙ sym wide; some = some_min; within = within } in
+        let more : suc (length indices) * cols ≡ cols + length indices * cols = omega arith in
+        elim (cases_lt i total) as (λ _. HasUnsound first (λ s. Matches first s × (s.total ≤ s.index)) (head ∷ rest)) [
+          | inl below ↦
+              let later = first_past indices (drop cols cells) (omega (arith, e, more, length-drop cols cells))
+              (λ all. none (All-cons (λ n. n < total) i indices below all)) in record {
+                before = head ∷ later.before;
+                found = later.found;
+                after = later.after;
+                parts = ap (λ xs. head ∷ xs) later.parts;
+                sound = All-cons (IsSound first) head later.before (fits, below) later.sound;
+                fault = later.fault;
+              }
+          | inr past ↦ record { before = []; found = head; after = rest; parts = refl; sound = λ k d l. absurd (omega (arith, l)); fault = (fits, past) }
+        ]
+
+    sound_of : (indices cells : List ℕ) → length cells ≡ length indices * cols → All (λ n. n < total) indices → All (IsSound first) (word_shards some min total cols small indices cells)
+    sound_of indices cells e below k d l =
+        let shards : List Shard = word_shards some min total cols small indices cells in
+        let many : length shards ≡ length indices = sym (length-map shards key_of) ∙ ap length (keys_of some min total cols small indices cells) in
+        let index : (get_or shards k d).index ≡ get_or indices k d.index = sym (get_or-map key_of shards k d) ∙ ap (λ xs. get_or xs k d.index) (keys_of some min total cols small indices cells) in (
+          matches_of indices cells e k d l,
+          omega (arith, index, below k d.index (omega (arith, l, many)), most_of some min total cols small indices cells k d l),
+        )
 
   -- numbers that no shards have
   pub refused_numbers : (indices cells : List ℕ) → length cells ≡ length indices * cols → AreElements cells → 0 < length indices → ¬ ((1 ≤ min) × (min ≤ total))
@@ -254,8 +252,8 @@ module _ {R : Type 0} (some : Vec R) (min total cols : ℕ) (small : cols < 2 ^ 
   refused_index (i ∷ indices) cells e below some_min within none = (
     word_shards some min total cols small (i ∷ indices) cells,
     are_word_shards some min total cols small (i ∷ indices) cells e below,
-    first_past (record { index = i; min = min; total = total; cells = vec_of some min total cols small cells }) (i ∷ indices) cells refl refl
-        (wide_first (length indices) cells e) some_min within e none,
+    first_past (record { index = i; min = min; total = total; cells = vec_of some min total cols small cells }) refl refl (wide_first (length indices) cells e) some_min within (i ∷ indices)
+        cells e none,
   )
 
   module _ (row_index : R → ℕ) (row_words : R → List ℕ) (indices cells : List ℕ) (rows : List R) (count : length cells ≡ length indices * cols) (below : AreElements cells) (there : 0 < length indices)
@@ -290,7 +288,7 @@ module _ {R : Type 0} (some : Vec R) (min total cols : ℕ) (small : cols < 2 ^ 
       inr (
         shards,
         are_word_shards some min total cols small (i ∷ indices) cells count below,
-        rows_due head shards e (sound_of head (i ∷ indices) cells refl refl (wide_first (length indices) cells count) some_min within count inside) (omega arith)
+        rows_due head shards e (sound_of head refl refl (wide_first (length indices) cells count) some_min within (i ∷ indices) cells count inside) (omega arith)
             (inr (due_alike row_index (λ row. elements (row_words row)) rows key_of items_in shards min total (same_keys row_index row_words (i ∷ indices) cells rows count below there keys words)
             (same_items row_index row_words (i ∷ indices) cells rows count below there keys words) e due)),
       )

@@ -11,35 +11,33 @@ use Rattle.math_transforms.specs.Quarters.{IsTurned}
 use Rattle.math_transforms.proofs.PointsBelow.{plain}
 
 module _ {K : Type 0} (C : CommutativeRing K) (e f g a b c d : K) where
-  module _ (turn eg one a1 b1 b2 c1 d1 d2 new_a new_b new_c new_d : K) (product_is : eg ≡ C.product e g) (one_is : one ≡ C.one) where
+  module _ (eg minus_fg one a1 b1 c1 d1 new_a new_b new_c new_d : K) (product_is : eg ≡ C.product e g) (negative_is : minus_fg ≡ C.negative (C.product f g)) (one_is : one ≡ C.one) where
     abbrev xs : List K
-    xs = a ∷ b ∷ c ∷ d ∷ e ∷ g ∷ turn ∷ []
+    xs = a ∷ b ∷ c ∷ d ∷ e ∷ f ∷ g ∷ []
 
-    -- forward, by three products and one by the root of order four
-    four-forward-plain : IsCombined (plain C) true g a c a1 c1 → b1 ≡ C.product b e → IsCombined (plain C) true eg b1 d b2 d1 → d2 ≡ C.product d1 turn
-        → IsCombined (plain C) true one a1 b2 new_a new_b → IsCombined (plain C) true one c1 d2 new_c new_d
-        → IsTurned (plain C) true e (C.product e turn) g a b c d new_a new_b new_c new_d
-    four-forward-plain h hb k hd l m = record {
-      first = rw (l.sum, h.sum, k.sum, hb, product_is, one_is) (ring C xs ((v0 ⊕ (v2 ⊗ v5)) ⊕ (((v1 ⊗ v4) ⊕ (v3 ⊗ (v4 ⊗ v5))) ⊗ 𝟙)) ((v0 ⊕ (v2 ⊗ v5)) ⊕ ((v1 ⊕ (v3 ⊗ v5)) ⊗ v4)) refl);
-      second = rw (l.difference, h.sum, k.sum, hb, product_is, one_is)
-          (ring C xs ((v0 ⊕ (v2 ⊗ v5)) ⊕ minus (((v1 ⊗ v4) ⊕ (v3 ⊗ (v4 ⊗ v5))) ⊗ 𝟙)) ((v0 ⊕ (v2 ⊗ v5)) ⊕ minus ((v1 ⊕ (v3 ⊗ v5)) ⊗ v4)) refl);
-      third = rw (m.sum, h.difference, hd, k.difference, hb, product_is, one_is)
-          (ring C xs ((v0 ⊕ minus (v2 ⊗ v5)) ⊕ ((((v1 ⊗ v4) ⊕ minus (v3 ⊗ (v4 ⊗ v5))) ⊗ v6) ⊗ 𝟙)) ((v0 ⊕ minus (v2 ⊗ v5)) ⊕ ((v1 ⊕ minus (v3 ⊗ v5)) ⊗ (v4 ⊗ v6))) refl);
-      fourth = rw (m.difference, h.difference, hd, k.difference, hb, product_is, one_is)
-          (ring C xs ((v0 ⊕ minus (v2 ⊗ v5)) ⊕ minus ((((v1 ⊗ v4) ⊕ minus (v3 ⊗ (v4 ⊗ v5))) ⊗ v6) ⊗ 𝟙)) ((v0 ⊕ minus (v2 ⊗ v5)) ⊕ minus ((v1 ⊕ minus (v3 ⊗ v5)) ⊗ (v4 ⊗ v6))) refl);
+    -- forward, by one product and two sums of two products
+    four-forward-plain : IsCombined (plain C) true g a c a1 c1 → b1 ≡ C.sum (C.product e b) (C.product eg d) → d1 ≡ C.sum (C.product f b) (C.product minus_fg d)
+        → IsCombined (plain C) true one a1 b1 new_a new_b → IsCombined (plain C) true one c1 d1 new_c new_d → IsTurned (plain C) true e f g a b c d new_a new_b new_c new_d
+    four-forward-plain h hb hd l m = record {
+      first = rw (l.sum, h.sum, hb, product_is, one_is) (ring C xs ((v0 ⊕ (v2 ⊗ v6)) ⊕ (((v4 ⊗ v1) ⊕ ((v4 ⊗ v6) ⊗ v3)) ⊗ 𝟙)) ((v0 ⊕ (v2 ⊗ v6)) ⊕ ((v1 ⊕ (v3 ⊗ v6)) ⊗ v4)) refl);
+      second = rw (l.difference, h.sum, hb, product_is, one_is)
+          (ring C xs ((v0 ⊕ (v2 ⊗ v6)) ⊕ minus (((v4 ⊗ v1) ⊕ ((v4 ⊗ v6) ⊗ v3)) ⊗ 𝟙)) ((v0 ⊕ (v2 ⊗ v6)) ⊕ minus ((v1 ⊕ (v3 ⊗ v6)) ⊗ v4)) refl);
+      third = rw (m.sum, h.difference, hd, negative_is, one_is)
+          (ring C xs ((v0 ⊕ minus (v2 ⊗ v6)) ⊕ (((v5 ⊗ v1) ⊕ (minus (v5 ⊗ v6) ⊗ v3)) ⊗ 𝟙)) ((v0 ⊕ minus (v2 ⊗ v6)) ⊕ ((v1 ⊕ minus (v3 ⊗ v6)) ⊗ v5)) refl);
+      fourth = rw (m.difference, h.difference, hd, negative_is, one_is)
+          (ring C xs ((v0 ⊕ minus (v2 ⊗ v6)) ⊕ minus (((v5 ⊗ v1) ⊕ (minus (v5 ⊗ v6) ⊗ v3)) ⊗ 𝟙)) ((v0 ⊕ minus (v2 ⊗ v6)) ⊕ minus ((v1 ⊕ minus (v3 ⊗ v6)) ⊗ v5)) refl);
     }
 
     -- and on the way back
-    four-back-plain : IsCombined (plain C) false one a b a1 b1 → IsCombined (plain C) false one c d c1 d1 → d2 ≡ C.product d1 turn
-        → IsCombined (plain C) false g a1 c1 new_a new_c → IsCombined (plain C) false eg b1 d2 b2 new_d → new_b ≡ C.product b2 e
-        → IsTurned (plain C) false e (C.product e turn) g a b c d new_a new_b new_c new_d
-    four-back-plain h k hd l m hb = record {
+    four-back-plain : IsCombined (plain C) false one a b a1 b1 → IsCombined (plain C) false one c d c1 d1 → IsCombined (plain C) false g a1 c1 new_a new_c
+        → new_b ≡ C.sum (C.product e b1) (C.product f d1) → new_d ≡ C.sum (C.product eg b1) (C.product minus_fg d1) → IsTurned (plain C) false e f g a b c d new_a new_b new_c new_d
+    four-back-plain h k l hb hd = record {
       first = rw (l.sum, h.sum, k.sum) refl;
-      second = rw (hb, m.sum, hd, h.difference, k.difference, one_is)
-          (ring C xs ((((v0 ⊕ minus v1) ⊗ 𝟙) ⊕ (((v2 ⊕ minus v3) ⊗ 𝟙) ⊗ v6)) ⊗ v4) (((v0 ⊕ minus v1) ⊗ v4) ⊕ ((v2 ⊕ minus v3) ⊗ (v4 ⊗ v6))) refl);
+      second = rw (hb, h.difference, k.difference, one_is)
+          (ring C xs ((v4 ⊗ ((v0 ⊕ minus v1) ⊗ 𝟙)) ⊕ (v5 ⊗ ((v2 ⊕ minus v3) ⊗ 𝟙))) (((v0 ⊕ minus v1) ⊗ v4) ⊕ ((v2 ⊕ minus v3) ⊗ v5)) refl);
       third = rw (l.difference, h.sum, k.sum) refl;
-      fourth = rw (m.difference, hd, h.difference, k.difference, one_is, product_is)
-          (ring C xs ((((v0 ⊕ minus v1) ⊗ 𝟙) ⊕ minus (((v2 ⊕ minus v3) ⊗ 𝟙) ⊗ v6)) ⊗ (v4 ⊗ v5)) ((((v0 ⊕ minus v1) ⊗ v4) ⊕ minus ((v2 ⊕ minus v3) ⊗ (v4 ⊗ v6))) ⊗ v5) refl);
+      fourth = rw (hd, h.difference, k.difference, one_is, product_is, negative_is)
+          (ring C xs (((v4 ⊗ v6) ⊗ ((v0 ⊕ minus v1) ⊗ 𝟙)) ⊕ (minus (v5 ⊗ v6) ⊗ ((v2 ⊕ minus v3) ⊗ 𝟙))) ((((v0 ⊕ minus v1) ⊗ v4) ⊕ minus ((v2 ⊕ minus v3) ⊗ v5)) ⊗ v6) refl);
     }
 
   -- by four weights
@@ -148,29 +146,27 @@ module _ {A : Type 0} (R : RingOf A) (E : IsEquality R.same) (G : IsGroup R.same
         (weights-back-plain C (class E e) (class E f) (class E g) (class E a) (class E b) (class E c) (class E d) (class E a1) (class E b1) (class E c1) (class E d1) (class E new_a) (class E new_b) (class E new_c) (class E new_d)
         (combined-class false _ _ _ _ _ h) (combined-class false _ _ _ _ _ k) (combined-class false _ _ _ _ _ l) (combined-class false _ _ _ _ _ m)))
 
-    pub four-forward : n ≢ 0 → (turn eg one a1 b1 b2 c1 d1 d2 new_a new_b new_c new_d : A) → R.same eg (R.product e g) → R.same one R.one
-        → IsCombined R true g a c a1 c1 → R.same b1 (R.product b e) → IsCombined R true eg b1 d b2 d1 → R.same d2 (R.product d1 turn)
-        → IsCombined R true one a1 b2 new_a new_b → IsCombined R true one c1 d2 new_c new_d
-        → IsTurned R (not (eqb n 0)) e (R.product e turn) g a b c d new_a new_b new_c new_d
-    four-forward s turn eg one a1 b1 b2 c1 d1 d2 new_a new_b new_c new_d product_is one_is h hb k hd l m =
-        at-forward s e (R.product e turn) g new_a new_b new_c new_d
-        (turned-same true e (R.product e turn) g a b c d new_a new_b new_c new_d
-        (four-forward-plain C (class E e) (class E f) (class E g) (class E a) (class E b) (class E c) (class E d) (class E turn) (class E eg) (class E one)
-        (class E a1) (class E b1) (class E b2) (class E c1) (class E d1) (class E d2) (class E new_a) (class E new_b) (class E new_c) (class E new_d)
-        (class_same E _ _ product_is) (class_same E _ _ one_is) (combined-class true _ _ _ _ _ h) (class_same E _ _ hb) (combined-class true _ _ _ _ _ k) (class_same E _ _ hd)
+    pub four-forward : n ≢ 0 → (eg minus_fg one a1 b1 c1 d1 new_a new_b new_c new_d : A) → R.same eg (R.product e g) → R.same minus_fg (R.negative (R.product f g)) → R.same one R.one
+        → IsCombined R true g a c a1 c1 → R.same b1 (R.sum (R.product e b) (R.product eg d)) → R.same d1 (R.sum (R.product f b) (R.product minus_fg d))
+        → IsCombined R true one a1 b1 new_a new_b → IsCombined R true one c1 d1 new_c new_d → IsTurned R (not (eqb n 0)) e f g a b c d new_a new_b new_c new_d
+    four-forward s eg minus_fg one a1 b1 c1 d1 new_a new_b new_c new_d product_is negative_is one_is h hb hd l m =
+        at-forward s e f g new_a new_b new_c new_d
+        (turned-same true e f g a b c d new_a new_b new_c new_d
+        (four-forward-plain C (class E e) (class E f) (class E g) (class E a) (class E b) (class E c) (class E d) (class E eg) (class E minus_fg) (class E one)
+        (class E a1) (class E b1) (class E c1) (class E d1) (class E new_a) (class E new_b) (class E new_c) (class E new_d)
+        (class_same E _ _ product_is) (class_same E _ _ negative_is) (class_same E _ _ one_is) (combined-class true _ _ _ _ _ h) (class_same E _ _ hb) (class_same E _ _ hd)
         (combined-class true _ _ _ _ _ l) (combined-class true _ _ _ _ _ m)))
 
-    pub four-back : n ≡ 0 → (turn eg one a1 b1 b2 c1 d1 d2 new_a new_b new_c new_d : A) → R.same eg (R.product e g) → R.same one R.one
-        → IsCombined R false one a b a1 b1 → IsCombined R false one c d c1 d1 → R.same d2 (R.product d1 turn)
-        → IsCombined R false g a1 c1 new_a new_c → IsCombined R false eg b1 d2 b2 new_d → R.same new_b (R.product b2 e)
-        → IsTurned R (not (eqb n 0)) e (R.product e turn) g a b c d new_a new_b new_c new_d
-    four-back s turn eg one a1 b1 b2 c1 d1 d2 new_a new_b new_c new_d product_is one_is h k hd l m hb =
-        at-back s e (R.product e turn) g new_a new_b new_c new_d
-        (turned-same false e (R.product e turn) g a b c d new_a new_b new_c new_d
-        (four-back-plain C (class E e) (class E f) (class E g) (class E a) (class E b) (class E c) (class E d) (class E turn) (class E eg) (class E one)
-        (class E a1) (class E b1) (class E b2) (class E c1) (class E d1) (class E d2) (class E new_a) (class E new_b) (class E new_c) (class E new_d)
-        (class_same E _ _ product_is) (class_same E _ _ one_is) (combined-class false _ _ _ _ _ h) (combined-class false _ _ _ _ _ k) (class_same E _ _ hd)
-        (combined-class false _ _ _ _ _ l) (combined-class false _ _ _ _ _ m) (class_same E _ _ hb)))
+    pub four-back : n ≡ 0 → (eg minus_fg one a1 b1 c1 d1 new_a new_b new_c new_d : A) → R.same eg (R.product e g) → R.same minus_fg (R.negative (R.product f g)) → R.same one R.one
+        → IsCombined R false one a b a1 b1 → IsCombined R false one c d c1 d1 → IsCombined R false g a1 c1 new_a new_c
+        → R.same new_b (R.sum (R.product e b1) (R.product f d1)) → R.same new_d (R.sum (R.product eg b1) (R.product minus_fg d1)) → IsTurned R (not (eqb n 0)) e f g a b c d new_a new_b new_c new_d
+    four-back s eg minus_fg one a1 b1 c1 d1 new_a new_b new_c new_d product_is negative_is one_is h k l hb hd =
+        at-back s e f g new_a new_b new_c new_d
+        (turned-same false e f g a b c d new_a new_b new_c new_d
+        (four-back-plain C (class E e) (class E f) (class E g) (class E a) (class E b) (class E c) (class E d) (class E eg) (class E minus_fg) (class E one)
+        (class E a1) (class E b1) (class E c1) (class E d1) (class E new_a) (class E new_b) (class E new_c) (class E new_d)
+        (class_same E _ _ product_is) (class_same E _ _ negative_is) (class_same E _ _ one_is) (combined-class false _ _ _ _ _ h) (combined-class false _ _ _ _ _ k)
+        (combined-class false _ _ _ _ _ l) (class_same E _ _ hb) (class_same E _ _ hd)))
 
     pub one-forward : n ≢ 0 → (turn one a1 b1 c1 d1 d2 new_a new_b new_c new_d : A) → R.same one R.one
         → IsCombined R true one a c a1 c1 → IsCombined R true one b d b1 d1 → R.same d2 (R.product d1 turn)

@@ -28,6 +28,7 @@ pub fn run<R: Element>(
         }
         "scale" | "exp" => by_limbs(alloc, call, arguments),
         "msm" | "msm_naive" => weighted(alloc, call, arguments),
+        "sum_of_products" => of_four(alloc, arguments),
         _ => return run_others(alloc, call, arguments, answer),
     };
     answer.found(x).and(Ok(true))
@@ -193,6 +194,18 @@ fn weighted<R: Element>(alloc: Global, call: &str, arguments: &str) -> Result<R,
     let given = begin(alloc, &(&points, &scalars));
     let out = sum(alloc, call, &points, &scalars);
     end(alloc, given, &(&points, &scalars), out.is_err());
+    out.map_err(Fault::Memory)
+}
+
+/// `sum_of_products A X B Y`: a x + b y.
+fn of_four<R: Element>(alloc: Global, arguments: &str) -> Result<R, Fault> {
+    let factors = elements::<R>(alloc, arguments)?;
+    let [a, x, b, y] = &factors[..] else {
+        return Err(Fault::OutOfRange("four factors"));
+    };
+    let given = begin(alloc, &factors);
+    let out = R::sum_of_products(alloc, a, x, b, y);
+    end(alloc, given, &factors, out.is_err());
     out.map_err(Fault::Memory)
 }
 

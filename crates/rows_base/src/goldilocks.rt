@@ -21,7 +21,6 @@ pub fn run(alloc: Global, call: &str, arguments: &str, text: &mut String) -> Res
     let done = match call {
         "operators" => operators(arguments, text),
         "constants" => constants(text).map_err(Fault::Memory),
-        "sum_of_products" => sum_of_products(alloc, arguments, text),
         "to_le_bytes" => to_le_bytes(alloc, arguments, text),
         "bits_to_elements" => bits_to_elements(arguments, text),
         "pack" => pack(alloc, arguments, text),
@@ -80,15 +79,6 @@ fn put_operators(a: F, b: F, text: &mut String) -> Mem<()> {
         put_element(text, *x)?;
     }
     Ok(())
-}
-
-/// `sum_of_products A X B Y`: a x + b y.
-fn sum_of_products(alloc: Global, arguments: &str, text: &mut String) -> Result<(), Fault> {
-    let factors = elements::<F>(alloc, arguments)?;
-    let [a, x, b, y] = &factors[..] else {
-        return Err(Fault::OutOfRange("four factors"));
-    };
-    put_element(text, F::sum_of_products(*a, *x, *b, *y)).map_err(Fault::Memory)
 }
 
 /// `pack W ..`: the elements that the words are packed into.

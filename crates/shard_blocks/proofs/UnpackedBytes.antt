@@ -31,10 +31,6 @@ zeros_alone (x ∷ xs) h = ap₂ (λ y ys. y ∷ ys) (All-head (λ x. x ≡ 0) x
 pub count_within : (count : ℕ) (words : List ℕ) → length words ≡ div_ceil count 8 → count ≤ length (flat_map (to_le_bytes w64) words)
 count_within count words l = omega (arith, l, word_count count, length_unpacked words, piece_count-enough 64 (8 * count) (lit< tt))
 
--- where each number that is read from a list is below 2^64, its items are
-all_below : (words : List ℕ) → ((k : ℕ) → get_or words k 0 < 2 ^ 64) → All (λ word. word < 2 ^ 64) words
-all_below words h k d l = subst (λ (x : ℕ). x < 2 ^ 64) (get_or_default words k 0 d l) (h k)
-
 -- the bytes of the words before the last one, and those of the last one
 unpacked_last : (k : ℕ) (packed : List ℕ) → length packed ≡ k + 1 → flat_map (to_le_bytes w64) packed ≡ flat_map (to_le_bytes w64) (take k packed) ++ to_le_bytes w64 (get_or packed k 0)
 unpacked_last k packed many =
@@ -131,11 +127,3 @@ block_in_front words packed bytes count e unpacked block of =
       ap₂ (λ m xs. take m xs) (sym n) parts ∙ take-append_seam block (replicate z.0 0),
       subst (All (λ x. x ≡ 0)) (sym (ap (drop count) parts ∙ drop_at block (replicate z.0 0) count n)) (All-replicate (λ x. x ≡ 0) z.0 0 refl),
     )
-
--- where nothing else follows, the words are those of a block
-pub block_of_words : (words packed bytes block : List ℕ) (count : ℕ) → ((k : ℕ) → get_or words k 0 < 2 ^ 64) → words ≡ count ∷ packed → length packed ≡ div_ceil count 8
-    → bytes ≡ flat_map (to_le_bytes w64) packed → All (λ x. x ≡ 0) (drop count bytes) → block ≡ take count bytes → IsBlockOf words block
-block_of_words words packed bytes block count w e l unpacked zeros front =
-    let each : All (λ word. word < 2 ^ 64) (count ∷ packed) = subst (All (λ word. word < 2 ^ 64)) e (all_below words w) in
-    let of = block_of_unpacked count packed bytes (All-tail (λ word. word < 2 ^ 64) count packed each) (All-head (λ word. word < 2 ^ 64) count packed each) l unpacked zeros in
-    subst (IsBlockOf words) (sym front) (of.0, e ∙ of.1)

@@ -525,6 +525,11 @@ impl FieldNTT for F {
         Ok(())
     }
 
+    /// Both products are reduced at once.
+    fn sum_of_products(_alloc: Global, a: &F, x: &F, b: &F, y: &F) -> Mem<F> {
+        Ok(F::sum_of_products(*a, *x, *b, *y))
+    }
+
     ghost roots = { roots };
 }
 

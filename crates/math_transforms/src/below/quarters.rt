@@ -6,8 +6,9 @@
 //! (a - c g) - (b - d g) f. On the way back, with the inverses of these points, each step is undone
 //! but for a factor of two: so four times the coefficients come.
 //!
-//! Four products are seen here, by g twice and by e and f. With e g at hand three do, and one by
-//! the root of order four.
+//! Four products are seen here, by g twice and by e and f. But (b + d g) e is b e + d (e g), and
+//! (b - d g) f is b f - d (f g): with e g and f g at hand each is a sum of two products, which a type
+//! may reduce at once.
 
 ghost use Rattle.std.specs.Prelude.{
   ◌≡◌,
@@ -29,9 +30,9 @@ ghost use Rattle.math_transforms.specs.CountedWork.{AddsAtMost};
 ghost use Rattle.math_transforms.specs.Quarters.{AreTurned, IsTurned};
 ghost use Rattle.math_transforms.specs.RootTrees.{AreOnesBelow, entry};
 
-use crate::transform::butterflies::{combine, combine_cells};
+use crate::transform::butterflies::{combine, combine_by_four, combine_cells};
 use crate::work::Work;
-use math_base::algebra::{Field, FieldNTT, Mem, Multiplicative, Object, Ring};
+use math_base::algebra::{Additive, Field, FieldNTT, Mem, Multiplicative, Object, Ring};
 use std::alloc::Global;
 
 /// Turns four cells by four combinations, each with its weight.
@@ -68,7 +69,8 @@ fn turn_by_weights<F: FieldNTT, const FORWARD: bool>(
     Ok(())
 }
 
-/// Turns four cells by three products and one by the root of order four, where `eg` is e g.
+/// Turns four cells by one product and two sums of two products, where `eg` is e g and `minus_fg` is
+/// -f g.
 fn turn_four<F: FieldNTT, const FORWARD: bool>(
     alloc: Global,
     a: &mut F,
@@ -76,39 +78,33 @@ fn turn_four<F: FieldNTT, const FORWARD: bool>(
     c: &mut F,
     d: &mut F,
     e: &F,
-    eg: &F,
+    f: &F,
     g: &F,
+    eg: &F,
+    minus_fg: &F,
     one: &F,
-    turn: &F,
     work: &mut Work,
 ) -> Mem<()>
-    requires order { 2 ≤ F.MAX_LG_ROOT_ORDER }
-    requires turn { F.same turn.now (F.root 2) ⊎ F.same turn.now (F.inverse (F.root 2)) }
     requires product { F.same eg.now (F.product e.now g.now) }
+    requires negative { F.same minus_fg.now (F.negative (F.product f.now g.now)) }
     requires one { F.same one.now F.one }
     requires room { work.old.butterflies + 4 < 2 ^ 128 }
-    ensures turned { OnOk result
-        (IsTurned F.Ring FORWARD e.now (F.product e.now turn.now) g.now
+    ensures turned { OnOk result (IsTurned F.Ring FORWARD e.now f.now g.now
         a.old b.old c.old d.old a.new b.new c.new d.new) }
     ensures counted { OnOk result (work.new.butterflies ≡ work.old.butterflies + 4) }
     ensures bounded { AddsAtMost 8 work.old work.new }
-    ensures refused { OnErr result (work.old.butterflies < work.new.butterflies) }
     ensures never { IsTrue F.NEVER_REFUSES → IsOk result }
 {
     if FORWARD {
         combine::<F, true, false>(alloc, a, c, g, work)?;
-        b.mul_assign(alloc, e)?;
-        combine::<F, true, false>(alloc, b, d, eg, work)?;
-        d.times_root_of_four(alloc, turn)?;
+        combine_by_four(alloc, b, d, e, eg, f, minus_fg, work)?;
         combine::<F, true, true>(alloc, a, b, one, work)?;
         combine::<F, true, true>(alloc, c, d, one, work)?;
     } else {
         combine::<F, false, true>(alloc, a, b, one, work)?;
         combine::<F, false, true>(alloc, c, d, one, work)?;
-        d.times_root_of_four(alloc, turn)?;
         combine::<F, false, false>(alloc, a, c, g, work)?;
-        combine::<F, false, false>(alloc, b, d, eg, work)?;
-        b.mul_assign(alloc, e)?;
+        combine_by_four(alloc, b, d, e, f, eg, minus_fg, work)?;
     }
     Ok(())
 }
@@ -123,19 +119,18 @@ fn turn_copies<F: FieldNTT, const FORWARD: bool>(
     c: &mut F,
     d: &mut F,
     e: &F,
-    eg: &F,
+    f: &F,
     g: &F,
+    eg: &F,
+    minus_fg: &F,
     one: &F,
-    turn: &F,
     work: &mut Work,
 ) -> Mem<()>
-    requires order { 2 ≤ F.MAX_LG_ROOT_ORDER }
-    requires turn { F.same turn.now (F.root 2) ⊎ F.same turn.now (F.inverse (F.root 2)) }
     requires product { F.same eg.now (F.product e.now g.now) }
+    requires negative { F.same minus_fg.now (F.negative (F.product f.now g.now)) }
     requires one { F.same one.now F.one }
     requires room { work.old.butterflies + 4 < 2 ^ 128 }
-    ensures turned { OnOk result
-        (IsTurned F.Ring FORWARD e.now (F.product e.now turn.now) g.now
+    ensures turned { OnOk result (IsTurned F.Ring FORWARD e.now f.now g.now
         a.old b.old c.old d.old a.new b.new c.new d.new) }
     ensures counted { OnOk result (work.new.butterflies ≡ work.old.butterflies + 4) }
     ensures bounded { AddsAtMost 8 work.old work.new }
@@ -146,7 +141,7 @@ fn turn_copies<F: FieldNTT, const FORWARD: bool>(
     let mut y = c.clone(alloc)?;
     let mut z = d.clone(alloc)?;
     turn_four::<F, FORWARD>(
-        alloc, &mut w, &mut x, &mut y, &mut z, e, eg, g, one, turn, work,
+        alloc, &mut w, &mut x, &mut y, &mut z, e, f, g, eg, minus_fg, one, work,
     )?;
     *a = w;
     *b = x;
@@ -303,19 +298,16 @@ fn turn_further_cells<F: FieldNTT, const FORWARD: bool>(
     c: &mut [F],
     d: &mut [F],
     e: &F,
+    f: &F,
     g: &F,
-    turn: &F,
     work: &mut Work,
 ) -> Mem<()>
-    requires order { 2 ≤ F.MAX_LG_ROOT_ORDER }
-    requires turn { F.same turn.now (F.root 2) ⊎ F.same turn.now (F.inverse (F.root 2)) }
     requires second { length b.old ≡ length a.old }
     requires third { length c.old ≡ length a.old }
     requires fourth { length d.old ≡ length a.old }
     requires some { 0 < length a.old }
     requires room { work.old.butterflies + 4 * length a.old < 2 ^ 128 + 4 }
-    ensures turned { OnOk result
-        (AreTurned F.Ring FORWARD e.now (F.product e.now turn.now) g.now 1 (length a.old)
+    ensures turned { OnOk result (AreTurned F.Ring FORWARD e.now f.now g.now 1 (length a.old)
         a.old b.old c.old d.old a.new b.new c.new d.new) }
     ensures counted { OnOk result
         (work.new.butterflies + 4 ≡ work.old.butterflies + 4 * length a.old) }
@@ -325,16 +317,19 @@ fn turn_further_cells<F: FieldNTT, const FORWARD: bool>(
     let one = F::one(alloc)?;
     let mut eg = e.clone(alloc)?;
     eg.mul_assign(alloc, g)?;
+    let mut fg = f.clone(alloc)?;
+    fg.mul_assign(alloc, g)?;
+    let minus_fg = fg.neg(alloc)?;
     for p in 1..a.len() {
         turn_copies::<F, FORWARD>(
-            alloc, &mut a[p], &mut b[p], &mut c[p], &mut d[p], e, &eg, g, &one, turn, work,
+            alloc, &mut a[p], &mut b[p], &mut c[p], &mut d[p], e, f, g, &eg, &minus_fg, &one, work,
         )?;
     }
     Ok(())
 }
 
 /// Turns the cells of four quarters, place by place: the first of each by its weights, so that
-/// nothing is refused before a pair is combined, and the others with e g at hand.
+/// nothing is refused before a pair is combined, and the others with e g and f g at hand.
 fn turn_cells<F: FieldNTT, const FORWARD: bool>(
     alloc: Global,
     a: &mut [F],
@@ -344,16 +339,12 @@ fn turn_cells<F: FieldNTT, const FORWARD: bool>(
     e: &F,
     f: &F,
     g: &F,
-    turn: &F,
     work: &mut Work,
 ) -> Mem<()>
-    requires order { 2 ≤ F.MAX_LG_ROOT_ORDER }
-    requires turn { F.same turn.now (F.root 2) ⊎ F.same turn.now (F.inverse (F.root 2)) }
     requires second { length b.old ≡ length a.old }
     requires third { length c.old ≡ length a.old }
     requires fourth { length d.old ≡ length a.old }
     requires some { 0 < length a.old }
-    requires odd { F.same f.now (F.product e.now turn.now) }
     requires room { work.old.butterflies + 4 * length a.old < 2 ^ 128 }
     ensures turned { OnOk result (AreTurned F.Ring FORWARD e.now f.now g.now 0 (length a.old)
         a.old b.old c.old d.old a.new b.new c.new d.new) }
@@ -367,7 +358,7 @@ fn turn_cells<F: FieldNTT, const FORWARD: bool>(
         alloc, &mut a[0], &mut b[0], &mut c[0], &mut d[0], e, f, g, work,
     )?;
     if a.len() > 1 {
-        turn_further_cells::<F, FORWARD>(alloc, a, b, c, d, e, g, turn, work)?;
+        turn_further_cells::<F, FORWARD>(alloc, a, b, c, d, e, f, g, work)?;
     }
     Ok(())
 }
@@ -413,7 +404,7 @@ fn turn_quarters<F: FieldNTT, const FORWARD: bool>(
         outcome?;
         return Ok(());
     }
-    let outcome = turn_cells::<F, FORWARD>(alloc, a, b, c, d, e, f, g, turn, &mut counted);
+    let outcome = turn_cells::<F, FORWARD>(alloc, a, b, c, d, e, f, g, &mut counted);
     work.join(counted);
     outcome
 }

@@ -54,6 +54,35 @@ pub(crate) fn combine<F: FieldNTT, const FORWARD: bool, const AT_ONE: bool>(
     Ok(())
 }
 
+/// Combines a pair of cells by four weights, to p low + q high and r low + s high. Counts one
+/// butterfly.
+pub(crate) fn combine_by_four<F: FieldNTT>(
+    alloc: Global,
+    low: &mut F,
+    high: &mut F,
+    p: &F,
+    q: &F,
+    r: &F,
+    s: &F,
+    work: &mut Work,
+) -> Mem<()>
+    requires room { work.old.butterflies + 1 < 2 ^ 128 }
+    ensures first { OnOk result (F.same low.new
+        (F.sum (F.product p.now low.old) (F.product q.now high.old))) }
+    ensures second { OnOk result (F.same high.new
+        (F.sum (F.product r.now low.old) (F.product s.now high.old))) }
+    ensures counted { work.new.butterflies ≡ work.old.butterflies + 1 }
+    ensures root_products { work.new.root_products ≡ work.old.root_products }
+    ensures never { IsTrue F.NEVER_REFUSES → IsOk result }
+{
+    work.add_butterfly();
+    let first = F::sum_of_products(alloc, p, low, q, high)?;
+    let second = F::sum_of_products(alloc, r, low, s, high)?;
+    *low = first;
+    *high = second;
+    Ok(())
+}
+
 /// Combines the cells of two rows, place by place, by one power.
 pub(crate) fn combine_cells<F: FieldNTT, const FORWARD: bool, const AT_ONE: bool>(
     alloc: Global,

@@ -13,15 +13,10 @@ returns-in_err-turn_further_cells-clause-bounded g c =
 
 pub returns-in_ok-turn_further_cells-clause-turned : goal.returns-in_ok-turn_further_cells-clause-turned
 returns-in_ok-turn_further_cells-clause-turned g c =
-    let F = g.met.F in
     let R = ring_members g.F.Multiplicative.product g.F.Debug.debug_output g.F.Object.same g.F.Object.NEVER_REFUSES g.F.Additive.zero g.F.Additive.sum g.F.Additive.negative g.F.Ring.one in
     let e = c.args.e.now in
     let f = c.args.f.now in
     let g' = c.args.g.now in
     turned-then R _ e f g' 0 1 _ _ _ _ _ _ _ _ _ _ _ _ _ (omega arith) (omega arith)
     (turned-one R _ e f g' 0 _ _ _ _ _ _ _ _ (omega arith) (omega arith) (omega arith) (omega arith) _ _ _ _ c.in_ok-turn_by_weights.ensures.turned)
-    (turned-weights R _ e e (R.product e c.args.turn.now) f g' g' 1 _ _ _ _ _ _ _ _ _
-    (λ x y z w new_x new_y new_z new_w h.
-    turned-by R F.Object.equality F.Additive.group F.Multiplicative.commutes F.Ring.ring (not (eqb g.row.FORWARD 0)) e e (R.product e c.args.turn.now) f g' g' x y z w new_x new_y new_z new_w
-    (F.Object.equality.reflexive e) (F.Object.equality.symmetric _ _ c.requires.odd) (F.Object.equality.reflexive g') h)
-    (rw (length-set c.args.a.now 0 c.turn_by_weights.new.a) at c.in_ok-turn_further_cells.ensures.turned))
+    (rw (length-set c.args.a.now 0 c.turn_by_weights.new.a) at c.in_ok-turn_further_cells.ensures.turned)

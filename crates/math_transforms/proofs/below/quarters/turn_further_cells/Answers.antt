@@ -13,3 +13,16 @@ loop-p-preserved g c = record {
   butterflies = omega (arith, c.loop-p.invariant.butterflies, c.in_ok-turn_copies.ensures.counted);
   root_products = omega (arith, c.in_ok-turn_copies.ensures.bounded.root_products, c.loop-p.invariant.root_products);
 }
+
+pub turn_copies-requires-clause-product : goal.turn_copies-requires-clause-product
+turn_copies-requires-clause-product g c =
+    let E = g.met.F.Object.equality in
+    let P = g.met.F.Multiplicative.commutes in
+    grw (E.transitive, E.reflexive, P.respects, c.in_ok-mul_assign.ensures.ok, c.in_ok-eg.ensures.ok)
+
+pub turn_copies-requires-clause-negative : goal.turn_copies-requires-clause-negative
+turn_copies-requires-clause-negative g c =
+    let E = g.met.F.Object.equality in
+    let G = g.met.F.Additive.group in
+    let P = g.met.F.Multiplicative.commutes in
+    grw (E.transitive, E.reflexive, G.respects_negative, P.respects, c.in_ok-minus_fg.ensures.ok, c.in_ok-mul_assign-2.ensures.ok, c.in_ok-fg.ensures.ok)
