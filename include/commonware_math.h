@@ -1,21 +1,21 @@
 /* commonware-math for C: polynomials over the Goldilocks field and data in shards, in the caller's memory.
  *
- * An element of the field is a whole number below P = 2^64 - 2^32 + 1, in a uint64_t. Every word that is
- * handed in as one is tested, but for those of rows that are not filled: P or more gives CWM_OUT_OF_RANGE.
+ * An element of the field is a whole number below P = 2^64 - 2^32 + 1, in a uint64_t. Each call tests the words
+ * that it takes as elements, but for those of rows that are not filled: P or more gives CWM_OUT_OF_RANGE.
  * Coefficients go from the constant upwards.
  *
  * Rows of cells lie one behind the other: cell (i, k) is cells[i * cols + k], and each column is a
  * polynomial of its own. A domain has N = 2^lg points, lg at most 32: point i is power i of the root of
  * order N, which is 0xee41f5320c4ea145 to the power 2^(32 - lg).
  *
- * Each function but cwm_version answers a status. Where it is not CWM_DONE, nothing was written.
+ * Each function but cwm_version answers a status. If it is not CWM_DONE, the call wrote nothing.
  *
  * The library keeps nothing between calls, so calls on buffers of their own may run at the same time, in any threads.
  *
- * The memory that a call takes until it ends is said in words of 8 bytes: the most that was measured, where a block that
- * grows is copied.
+ * For each call the text says how much memory it takes until it ends, in words of 8 bytes. That is the most that we
+ * measured, with an allocator that copies a block that grows.
  *
- * What no function can test, and the caller has to see to:
+ * The caller has to see to what no function can test:
  * - a pointer is not null, also where its length is 0, and is aligned for what it points to;
  * - the length behind it is true, and below 2^63 bytes;
  * - what is written does not overlap with anything else that is handed in;
@@ -38,7 +38,7 @@ extern "C" {
 #define CWM_VERSION_PATCH 0
 #define CWM_VERSION (10000 * CWM_VERSION_MAJOR + 100 * CWM_VERSION_MINOR + CWM_VERSION_PATCH)
 
-/* A status is not to be passed over. */
+/* Compilers warn where a status is not used. */
 #if defined(__GNUC__) || defined(__clang__)
 #define CWM_MUST_USE __attribute__((warn_unused_result))
 #else
@@ -54,11 +54,11 @@ enum cwm_status {
   CWM_OUT_OF_MEMORY = 1,   /* malloc gave none */
   CWM_OUT_OF_RANGE = 2,    /* a word is P or more, or a byte that says whether a row is filled is neither 0 nor 1 */
   CWM_WRONG_SIZE = 3,      /* a number of words, rows or columns is none that the call takes, or there is no room */
-  CWM_TOO_FEW = 4,         /* fewer than `min` distinct indices of shards are there, or fewer filled rows than coefficients */
+  CWM_TOO_FEW = 4,         /* there are fewer than `min` distinct indices of shards, or fewer filled rows than coefficients */
   CWM_MISMATCH = 5,        /* not 1 <= min <= total */
-  CWM_WRONG_INDEX = 6,     /* an index is not below the total, or of weights not above the one before it */
+  CWM_WRONG_INDEX = 6,     /* an index is not below the total, or, for weights, not above the one before it */
   CWM_CONFLICT = 7,        /* two shards have one index and unequal words */
-  CWM_INCONSISTENT = 8,    /* nothing fits: there are no data that have each of the shards, or no polynomials near the values */
+  CWM_INCONSISTENT = 8,    /* nothing fits: no data have all of the shards, or no polynomials are near the values */
   CWM_END_OF_BUFFER = 9,   /* the bytes end within a polynomial */
   CWM_INVALID_VARINT = 10, /* the bytes begin with no length */
   CWM_INVALID_LENGTH = 11, /* the length is zero */
@@ -66,10 +66,10 @@ enum cwm_status {
   CWM_REPEATED = 13        /* a point is there twice */
 };
 
-/* The version of the library, as CWM_VERSION is that of the header. */
+/* Returns the version of the library, as CWM_VERSION is that of the header. */
 uint32_t cwm_version(void);
 
-/* The name of a status, as "CWM_DONE"; that of a number that is no status is "no status". */
+/* Returns the name of a status, as "CWM_DONE". For a number that is no status it is "no status". */
 static inline const char *cwm_status_name(uint32_t status) {
   switch (status) {
     case CWM_DONE: return "CWM_DONE";
@@ -93,85 +93,86 @@ static inline const char *cwm_status_name(uint32_t status) {
 /* How many bytes hold the text of any status and a zero behind it. */
 #define CWM_TEXT_SIZE 32
 
-/* Writes the text of a status, in ASCII, and zeros behind it, up to m bytes.
- * CWM_WRONG_SIZE where m is below CWM_TEXT_SIZE. The text of a number that is no status is "no status". */
+/* Writes the text of a status, in ASCII, and zeros behind it, up to m bytes. For a number that is no status it is
+ * "no status". If m is below CWM_TEXT_SIZE: CWM_WRONG_SIZE. */
 uint32_t cwm_status_text(uint32_t status, char *text, size_t m);
 
 /* Writes the value at x of the polynomial with these n coefficients into *out.
  * n is 1 to 2^32 - 1, else CWM_WRONG_SIZE. A word of P or more: CWM_OUT_OF_RANGE. Takes memory for 512 words at
- * most, and for 2,048 where n is 2^17 or more. */
+ * most, and for 2,048 if n is 2^17 or more. */
 CWM_MUST_USE uint32_t cwm_eval(const uint64_t *coefficients, size_t n, uint64_t x, uint64_t *out);
 
-/* Row i of the cells holds coefficient i of each polynomial. Puts in its place the values at point i.
+/* Evaluates polynomials at all points of a domain: row i of the cells holds coefficient i of each polynomial, and gets
+ * the values at point i.
  * n cells in rows of `cols`: cols is 1 or more and n / cols is a power of two, 2^32 at most, else
  * CWM_WRONG_SIZE. A word of P or more: CWM_OUT_OF_RANGE. Takes memory for n words, one more a row, and
  * 64. */
 CWM_MUST_USE uint32_t cwm_evaluate(uint64_t *cells, size_t n, size_t cols);
 
-/* The way back: row i holds the values at point i, and gets coefficient i of each polynomial.
+/* Goes the way back: row i holds the values at point i, and gets coefficient i of each polynomial.
  * Sizes, statuses and memory as for cwm_evaluate. */
 CWM_MUST_USE uint32_t cwm_interpolate(uint64_t *cells, size_t n, size_t cols);
 
-/* Row i of the cells holds the values at point i of each polynomial where filled[i] is 1. Where it is 0 the row may hold
- * anything, and is not read. Puts in place of the cells the coefficients of the polynomials, coefficient i in row i:
- * in each column the only one that has these values, and whose coefficients from the number of filled
- * rows on are zero. So polynomials of at most m coefficients are recovered from any m of their rows.
+/* Recovers polynomials of at most m coefficients from any m rows of their values. If filled[i] is 1, row i of the cells
+ * holds the values at point i. If it is 0, the row may hold anything, and is not read. Puts the coefficients in place of
+ * the cells, coefficient i in row i. In each column that is the only polynomial that has these values and whose
+ * coefficients from the number of filled rows on are zero.
  * n cells in rows of `cols`: cols is 1 or more, rows is n / cols and a power of two, 2^32 at most, else
  * CWM_WRONG_SIZE. A byte of `filled` that is neither 0 nor 1, or a word of P or more in a filled row:
  * CWM_OUT_OF_RANGE. Takes memory for n words, four more a row, and 1024. */
 CWM_MUST_USE uint32_t cwm_recover(uint64_t *cells, size_t n, size_t cols, const uint8_t *filled, size_t rows);
 
-/* As cwm_recover, where some of the filled rows are wrong, and nobody knows which. A row is wrong if one of its
+/* Does what cwm_recover does though some of the filled rows are wrong, and says which. A row is wrong if one of its
  * cells is. Puts in place of the cells the coefficients of polynomials of at most `count` coefficients that have
- * the values of all m filled rows but at most (m - count) / 2, rounded down: then they are the only ones. Writes the
- * numbers of these rows, rising, over the first of the `room` places of `wrong`, and how many they are into
- * *written. Where there are no such polynomials: CWM_INCONSISTENT. Where more rows are wrong than that, they may
- * fit other polynomials, which are then given.
+ * the values of all m filled rows but at most (m - count) / 2, rounded down. They are the only such polynomials. Writes
+ * the numbers of the wrong rows, rising, over the first of the `room` places of `wrong`, and how many they are into
+ * *written. If there are no such polynomials: CWM_INCONSISTENT. If more rows are wrong than that, they may fit other
+ * polynomials, and the call then gives these.
  * n, cols, rows and words as for cwm_recover: a row that is not filled is not read. room is rows / 2 or more, else
  * CWM_WRONG_SIZE. count is at most the number of filled rows, else CWM_TOO_FEW. With no wrong row it takes the time of
  * cwm_recover; with some, time grows with their number and with m^2. Takes three times the memory of cwm_recover. */
 CWM_MUST_USE uint32_t cwm_correct(uint64_t *cells, size_t n, size_t cols, const uint8_t *filled, size_t rows, size_t count,
                                   size_t *wrong, size_t room, size_t *written);
 
-/* At each of n points stands a value, and some of the values are wrong. Writes the k coefficients of the polynomial
- * that has all of the values but at most (n - k) / 2, rounded down: then it is the only one. Writes the places of
- * these values, rising, over the first of the `room` places of `wrong`, and how many they are into *written. Where
- * there is no such polynomial: CWM_INCONSISTENT. Where more values are wrong than that, they may fit another one.
+/* Finds the polynomial of k coefficients from its values at n points though some values are wrong, and says which. It
+ * has all of the values but at most (n - k) / 2, rounded down, and is the only such polynomial. Writes its coefficients.
+ * Writes the places of the wrong values, rising, over the first of the `room` places of `wrong`, and how many they are
+ * into *written. If there is no such polynomial: CWM_INCONSISTENT. If more values are wrong than that, they may fit
+ * another one.
  * m is n, k is at most n, and room is (n - k) / 2 or more, else CWM_WRONG_SIZE. A word of P or more:
  * CWM_OUT_OF_RANGE. A point that is there twice: CWM_REPEATED. Time grows with n^2. Takes memory for 9 n words. */
 CWM_MUST_USE uint32_t cwm_decode(const uint64_t *points, size_t n, const uint64_t *values, size_t m, uint64_t *coefficients,
                                  size_t k, size_t *wrong, size_t room, size_t *written);
 
 /* Writes for each of the n points a weight: the sum of the values at the points, each times its weight,
- * is the value at x, for every polynomial of at most n coefficients. Where x is one of the points, the
- * first such has weight 1 and the others 0; and else, where a point is there twice, all weights are 0.
+ * is the value at x, for every polynomial of at most n coefficients. If x is one of the points, the
+ * first such has weight 1 and the others 0. Otherwise, if a point is there twice, all weights are 0.
  * m is n, else CWM_WRONG_SIZE. A word of P or more: CWM_OUT_OF_RANGE. Time grows with n^2. Takes memory for 3 n words. */
 CWM_MUST_USE uint32_t cwm_weights(const uint64_t *points, size_t n, uint64_t x, uint64_t *weights, size_t m);
 
 /* Writes the same weights for the points of a domain that have these n indices; N is `total` rounded up
  * to a power of two. total is 1 or more and m is n, else CWM_WRONG_SIZE. The indices strictly rise and are
- * below total, else CWM_WRONG_INDEX. x of P or more: CWM_OUT_OF_RANGE. Time grows with N lg N for x that
- * is zero, and with N lg^2 N at most. Takes memory for 7 N words. */
+ * below total, else CWM_WRONG_INDEX. x of P or more: CWM_OUT_OF_RANGE. Time grows with N lg N if x is
+ * zero, and with N lg^2 N at most. Takes memory for 7 N words. */
 CWM_MUST_USE uint32_t cwm_weights_at_roots(uint32_t total, const uint32_t *indices, size_t n, uint64_t x, uint64_t *weights,
                                            size_t m);
 
 /* Writes the encoding of the polynomial with these n coefficients over the first of the m bytes of out,
- * and their number into *written: n as 1 to 5 bytes, seven bits a byte and the lowest first, where bit 7
- * says that another follows; then each coefficient as 8 bytes, highest first. 8 n + 5 bytes are enough.
+ * and their number into *written. The encoding is n as 1 to 5 bytes, seven bits a byte and the lowest first, where
+ * bit 7 says that another follows; then each coefficient as 8 bytes, highest first. 8 n + 5 bytes are enough.
  * n is 1 to 2^32 - 1 and there is room, else CWM_WRONG_SIZE. A word of P or more: CWM_OUT_OF_RANGE. Takes memory
  * for a few words. */
 CWM_MUST_USE uint32_t cwm_encode_poly(const uint64_t *coefficients, size_t n, uint8_t *out, size_t m, size_t *written);
 
 /* Writes the coefficients of the polynomial that the n bytes encode over the first of the m words of out,
- * and their number into *count. n / 8 words are enough; less room than needed: CWM_WRONG_SIZE. Bytes that
+ * and their number into *count. n / 8 words are enough; too little room: CWM_WRONG_SIZE. Bytes that
  * are no encoding give their first fault: CWM_INVALID_VARINT, CWM_INVALID_LENGTH, CWM_END_OF_BUFFER,
  * CWM_OUT_OF_RANGE for a word of P or more, CWM_EXTRA_DATA. Takes no memory. */
 CWM_MUST_USE uint32_t cwm_decode_poly(const uint8_t *bytes, size_t n, uint64_t *out, size_t m, size_t *count);
 
-/* Data of n words, each any uint64_t, are split into `total` shards of which any `min` give them back. A
- * shard is known by its index, from 0 to total - 1, and has the same number of words as each other, all
- * below P: about n / min. The shards hide nothing of the data. Keep min, total and each shard's index
- * beside it; the number of data words need not be kept.
+/* The calls for shards split data of n words, each any uint64_t, into `total` shards, any `min` of which give them back.
+ * A shard has an index, from 0 to total - 1. All have the same number of words, about n / min, all below P. The shards
+ * hide nothing of the data. Keep min, total and the index beside each shard; the number of data words need not be kept.
  *
  * Writes how many words each shard of `words` words of data has into *cells.
  * 1 <= min <= total, else CWM_MISMATCH. The words of the data, and total times *cells, are below 2^57, else
@@ -180,69 +181,68 @@ CWM_MUST_USE uint32_t cwm_shard_sizes(size_t words, uint32_t min, uint32_t total
 
 /* Writes the shards of the n words of data: shard i is row i of the m words of `cells`, in `total` rows of
  * as many words as cwm_shard_sizes says.
- * 1 <= min <= total, else CWM_MISMATCH. m is total times the size of a shard, and the sizes are such as
- * cwm_shard_sizes takes, else CWM_WRONG_SIZE. Takes memory for N words and for N rows, each of as many
- * words as a shard has, but of no more than the greater of 8 and 2^15 / N; N is `total` rounded up to a power of two. */
+ * 1 <= min <= total, else CWM_MISMATCH. m is total times the size of a shard, and cwm_shard_sizes takes the sizes,
+ * else CWM_WRONG_SIZE. N is `total` rounded up to a power of two. Takes memory for N words and for N rows; a row has
+ * as many words as a shard, but no more than the greater of 8 and 2^15 / N. */
 CWM_MUST_USE uint32_t cwm_split(const uint64_t *data, size_t n, uint32_t min, uint32_t total, uint64_t *cells, size_t m);
 
 /* Writes the data that k shards give back over the first of the m words of data, and their number into
- * *written. Row i of the n words of `cells`, in k rows, is the shard whose index is indices[i]; the order
- * does not matter, and a shard that is there twice counts once. At most min * (n / k) words are written,
- * and no more than were split; less room than needed: CWM_WRONG_SIZE.
- * n is a multiple of k, and 0 where k is, else CWM_WRONG_SIZE. A word of P or more: CWM_OUT_OF_RANGE. Then,
+ * *written. Row i of the n words of `cells`, in k rows, is the shard whose index is indices[i]. The order
+ * does not matter, and a shard that is there twice counts once. The call writes at most min * (n / k) words,
+ * and no more than were split; too little room: CWM_WRONG_SIZE.
+ * n is a multiple of k, and 0 if k is, else CWM_WRONG_SIZE. A word of P or more: CWM_OUT_OF_RANGE. Then,
  * in this order: no shard at all: CWM_TOO_FEW; not 1 <= min <= total: CWM_MISMATCH; an index of `total` or
  * more: CWM_WRONG_INDEX; unequal shards of one index: CWM_CONFLICT; fewer than `min` distinct indices:
- * CWM_TOO_FEW; shards of no data: CWM_INCONSISTENT. Where shards of more than `min` distinct indices are
- * there, damage to one is so found; where there are just `min`, it may not be.
- * Shards of data take memory for `min` times the words of a shard, for 9 times N rows of `min` words and of 64 more, for 3 words
- * a row and for 16,384, where N is `total` rounded up to a power of two. Others take it for 9 times N rows of a shard's words and
- * of 64 more too: who takes shards from strangers bounds `total` first. */
+ * CWM_TOO_FEW; shards of no data: CWM_INCONSISTENT. So the call finds damage to one shard if there are
+ * more than `min` distinct indices; if there are just `min`, it may not.
+ * N is `total` rounded up to a power of two. Shards of data take memory for `min` times the words of a shard, for 9 times N rows
+ * of `min` words and of 64 more, for 3 words a row and for 16,384. Other shards also take it for 9 times N rows of a shard's
+ * words and of 64 more: limit `total` before you join shards from someone you do not trust. */
 CWM_MUST_USE uint32_t cwm_join(const uint32_t *indices, size_t k, uint32_t min, uint32_t total, const uint64_t *cells, size_t n,
                                uint64_t *data, size_t m, size_t *written);
 
-/* As cwm_join, where some of the shards are wrong, and nobody knows which. An index whose shards have unequal cells
- * counts as missing. Of the i distinct indices that are left at most (i - min) / 2, rounded down, have wrong shards:
- * then the data are the only such ones. Writes the positions of the shards that are not shards of the data, rising,
- * over the first of the `room` places of `left_out`, and how many they are into *many. The position of a shard is its
- * row. Where there are no such data: CWM_INCONSISTENT. Where more shards are wrong than that, they may have other
- * data, which are then given.
+/* Does what cwm_join does though some of the shards are wrong, and says which. An index whose shards have unequal cells
+ * counts as missing. Of the i distinct indices that remain at most (i - min) / 2, rounded down, have wrong shards; the
+ * data are the only such ones. Writes the positions of the shards that are not shards of the data, rising, over the first
+ * of the `room` places of `left_out`, and how many they are into *many. The position of a shard is its row. If there are
+ * no such data: CWM_INCONSISTENT. If more shards are wrong than that, they may have other data, and the call then gives
+ * these.
  * Sizes, words and statuses as for cwm_join; but there is no CWM_CONFLICT, and CWM_TOO_FEW says that i is below min. room is k or
- * more, else CWM_WRONG_SIZE. Where it is not CWM_DONE, nothing is written. Takes memory for 9 times N rows of a shard's words and
- * of 64 more, with N as there. */
+ * more, else CWM_WRONG_SIZE. Takes memory for 9 times N rows of a shard's words and of 64 more, with N as there. */
 CWM_MUST_USE uint32_t cwm_join_corrected(const uint32_t *indices, size_t k, uint32_t min, uint32_t total, const uint64_t *cells,
                                          size_t n, uint64_t *data, size_t m, size_t *written, size_t *left_out, size_t room,
                                          size_t *many);
 
-/* As cwm_shard_sizes, cwm_split and cwm_join for bytes: any n of them, nothing to pack, and their number is kept inside, so
- * it comes back too. A shard is bytes: each of its words as eight, the highest first. Keep min, total and each shard's index beside it.
+/* The same calls for bytes, any n of them: there is nothing to pack, and their number is kept inside, so it comes back too.
+ * A shard is bytes: each of its words as eight, the highest first. Keep min, total and the index beside each shard.
  *
  * Writes how many bytes each shard of so many bytes of data has into *size.
  * 1 <= min <= total, else CWM_MISMATCH. total times *size is below 2^60, else CWM_WRONG_SIZE. Takes no memory. */
 CWM_MUST_USE uint32_t cwm_shard_bytes_sizes(size_t bytes, uint32_t min, uint32_t total, size_t *size);
 
 /* Writes the shards of the n bytes of data: shard i is row i of the m bytes of `shards`, in `total` rows of as many
- * bytes as cwm_shard_bytes_sizes says. Data that are large are best cut into blocks of some 256 KiB, each split by
- * itself: the words of a block then stay in the processor's cache.
- * 1 <= min <= total, else CWM_MISMATCH. m is total times the size of a shard, and the sizes are such as
- * cwm_shard_bytes_sizes takes, else CWM_WRONG_SIZE. Takes memory as cwm_split does. */
+ * bytes as cwm_shard_bytes_sizes says. Cut large data into blocks of some 256 KiB, and split each by itself: the words of
+ * a block then stay in the processor's cache.
+ * 1 <= min <= total, else CWM_MISMATCH. m is total times the size of a shard, and cwm_shard_bytes_sizes takes the sizes,
+ * else CWM_WRONG_SIZE. Takes memory as cwm_split does. */
 CWM_MUST_USE uint32_t cwm_split_bytes(const uint8_t *data, size_t n, uint32_t min, uint32_t total, uint8_t *shards, size_t m);
 
 /* Writes the data that k shards give back over the first of the m bytes of data, and their number into *written. Row i
- * of the n bytes of `shards`, in k rows, is the shard whose index is indices[i]; the order does not matter, and a shard
- * that is there twice counts once. Fewer than min * (n / k) bytes are written; less room than needed: CWM_WRONG_SIZE.
- * n is a multiple of 8 k, and 0 where k is, else CWM_WRONG_SIZE. A word of P or more: CWM_OUT_OF_RANGE. Then as
- * cwm_join; shards of words that are those of no bytes: CWM_INCONSISTENT. Takes memory as cwm_join does: words are read
- * from the bytes where these lie. */
+ * of the n bytes of `shards`, in k rows, is the shard whose index is indices[i]. The order does not matter, and a shard
+ * that is there twice counts once. The call writes fewer than min * (n / k) bytes; too little room: CWM_WRONG_SIZE.
+ * n is a multiple of 8 k, and 0 if k is, else CWM_WRONG_SIZE. A word of P or more: CWM_OUT_OF_RANGE. Then as
+ * cwm_join; shards of words that are those of no bytes: CWM_INCONSISTENT. Takes memory as cwm_join does: it reads words
+ * from the bytes where these lie. Limit `total` before you join shards from someone you do not trust. */
 CWM_MUST_USE uint32_t cwm_join_bytes(const uint32_t *indices, size_t k, uint32_t min, uint32_t total, const uint8_t *shards,
                                      size_t n, uint8_t *data, size_t m, size_t *written);
 
-/* As cwm_join_bytes, where some of the shards are wrong, and nobody knows which. As for cwm_join_corrected, an index whose
- * shards are unequal counts as missing, and of the i distinct indices that are left at most (i - min) / 2, rounded down,
- * have wrong shards: then the data are the only such ones. Writes the positions of the shards that are not shards of the
- * data, rising, over the first of the `room` places of `left_out`, and how many they are into *many. The position of a
- * shard is its row. Where more shards are wrong than that, they may have other data, which are then given.
+/* Does what cwm_join_bytes does though some of the shards are wrong, and says which. As for cwm_join_corrected, an index
+ * whose shards are unequal counts as missing. Of the i distinct indices that remain at most (i - min) / 2, rounded down,
+ * have wrong shards; the data are the only such ones. Writes the positions of the shards that are not shards of the data,
+ * rising, over the first of the `room` places of `left_out`, and how many they are into *many. The position of a shard is
+ * its row. If more shards are wrong than that, they may have other data, and the call then gives these.
  * Sizes, words and statuses as for cwm_join_bytes; but there is no CWM_CONFLICT, and CWM_TOO_FEW says that i is below min.
- * room is k or more, else CWM_WRONG_SIZE. Where it is not CWM_DONE, nothing is written. Takes memory as cwm_join_corrected does. */
+ * room is k or more, else CWM_WRONG_SIZE. Takes memory as cwm_join_corrected does. */
 CWM_MUST_USE uint32_t cwm_join_bytes_corrected(const uint32_t *indices, size_t k, uint32_t min, uint32_t total,
                                                const uint8_t *shards, size_t n, uint8_t *data, size_t m, size_t *written,
                                                size_t *left_out, size_t room, size_t *many);

@@ -5,11 +5,11 @@
 b'any three of five shards give these bytes back'
 
 An element of the field is a whole number below ``MODULUS``, 2**64 - 2**32 + 1. Words are a contiguous buffer of
-unsigned 64-bit numbers, as ``array('Q')``, a memoryview or an array of numpy; where a call only reads them they may
-be any numbers in a list, too. What a call writes in place it writes without a copy, and not at all where it raises.
+unsigned 64-bit numbers: an ``array('Q')``, a memoryview or an array of numpy. If a call only reads them, a list of
+numbers will do. A call that writes in place makes no copy of the buffer, and leaves it as it was if it raises.
 
-No call shares anything with another, and others run meanwhile: calls on buffers of their own may run in threads at
-the same time. Nothing may change a buffer while a call has it.
+Calls share nothing and let other threads run, so calls on buffers of their own may run in threads at the same time.
+Nothing may change a buffer while a call has it.
 """
 
 from __future__ import annotations
@@ -38,7 +38,7 @@ Bytes = Union[bytes, bytearray, memoryview, Any]
 
 
 class Error(Exception):
-    """A call was refused, and nothing was written. ``status`` is what the library answered.
+    """A call was refused, and wrote nothing. ``status`` is what the library answered.
 
     >>> try:
     ...     eval([MODULUS], 5)
@@ -78,7 +78,7 @@ class WrongSize(Error, ValueError):
 
 
 class TooFew(Error):
-    """Fewer than ``min`` shards are there, or fewer filled rows than coefficients."""
+    """There are fewer than ``min`` shards, or fewer filled rows than coefficients."""
 
     status = 4
 
@@ -90,13 +90,13 @@ class Mismatch(Error, ValueError):
 
 
 class WrongIndex(Error, ValueError):
-    """An index is not below the total, or of weights not above the one before it."""
+    """An index is not below the total, or, for weights, not above the one before it."""
 
     status = 6
 
 
 class Conflict(Error):
-    """Two shards have one index and unequal words. A mapping has no such: ``join`` never raises it."""
+    """Two shards have one index and unequal words. ``join`` never raises it: a mapping has each index once."""
 
     status = 7
 
@@ -193,7 +193,7 @@ def _array(at: Any, count: int) -> "array[int]":
 
 
 def version() -> tuple[int, int, int]:
-    """The version of the library: major, minor and patch.
+    """Returns the version of the library: major, minor and patch.
 
     >>> version() >= (1, 0, 0)
     True
@@ -203,7 +203,7 @@ def version() -> tuple[int, int, int]:
 
 
 def shard_size(length: int, min: int, total: int) -> int:
-    """How many bytes each of ``total`` shards of so many bytes has, of which any ``min`` give them back.
+    """Returns how many bytes each of ``total`` shards of so many bytes has, of which any ``min`` give them back.
 
     >>> shard_size(1000, 4, 6)
     264
@@ -214,7 +214,7 @@ def shard_size(length: int, min: int, total: int) -> int:
 
 
 def split(data: Bytes, min: int, total: int) -> list[bytes]:
-    """The shards of the bytes: ``total`` of one length each, of which any ``min`` give the bytes back.
+    """Cuts the bytes into shards: ``total`` of one length, of which any ``min`` give the bytes back.
 
     Keep the index of each beside it, and ``min`` and ``total``. The shards hide nothing of the data. Cut large data
     into blocks of some 256 KiB and split each by itself: that is faster, and joins of them take little memory.
@@ -232,11 +232,11 @@ def split(data: Bytes, min: int, total: int) -> list[bytes]:
 
 
 def join(shards: Mapping[int, Bytes], min: int, total: int) -> bytes:
-    """The bytes that the shards, each under its index, give back: ``min`` of them or more.
+    """Returns the bytes that the shards, each under its index, give back: ``min`` of them or more.
 
-    Where there are more than ``min``, damage to one is sure to be found, and raises ``Inconsistent`` or
-    ``OutOfRange``; where there are just ``min``, it may not be. Bound ``total`` before you join shards of strangers:
-    the memory that is taken grows with it.
+    If there are more than ``min``, damage to one is sure to raise ``Inconsistent`` or ``OutOfRange``. If there are
+    just ``min``, it may go unnoticed. Limit ``total`` before you join shards from someone you do not trust: the
+    memory grows with it.
 
     >>> shards = split(b"0123456789", 2, 3)
     >>> join({2: shards[2], 0: shards[0]}, 2, 3)
@@ -253,9 +253,9 @@ def join(shards: Mapping[int, Bytes], min: int, total: int) -> bytes:
 
 
 def join_corrected(shards: Mapping[int, Bytes], min: int, total: int) -> tuple[bytes, list[int]]:
-    """As ``join``, where some of the shards are wrong and nobody knows which: gives the bytes, and the indices of those.
+    """Does what ``join`` does though some of the shards are wrong: returns the bytes, and the indices of these shards.
 
-    Of n shards at most (n - min) / 2 may be wrong. Where no bytes are so near, it raises ``Inconsistent``.
+    Of n shards at most (n - min) / 2 may be wrong. If no bytes are so near, it raises ``Inconsistent``.
 
     >>> shards = split(b"0123456789", 2, 4)
     >>> join_corrected({0: shards[0], 1: shards[1], 2: shards[0], 3: shards[3]}, 2, 4)
@@ -289,7 +289,7 @@ def evaluate(cells: Words, cols: int = 1) -> None:
 
 
 def interpolate(cells: Words, cols: int = 1) -> None:
-    """The way back from ``evaluate``: puts the coefficients in place of the values, in each column.
+    """Goes the way back from ``evaluate``: puts the coefficients in place of the values, in each column.
 
     >>> cells = array("Q", [4, 6, 8, 0])
     >>> evaluate(cells)
@@ -319,10 +319,10 @@ def recover(cells: Words, filled: Any, cols: int = 1) -> None:
 
 
 def correct(cells: Words, filled: Any, count: int, cols: int = 1) -> list[int]:
-    """As ``recover``, where some of the filled rows are wrong: gives which, by rising number.
+    """Does what ``recover`` does though some of the filled rows are wrong, and returns which, by rising number.
 
-    The polynomials have at most ``count`` coefficients; of m filled rows at most (m - count) / 2 may be wrong. Where
-    no polynomials are so near, it raises ``Inconsistent``.
+    The polynomials have at most ``count`` coefficients; of m filled rows at most (m - count) / 2 may be wrong. If no
+    polynomials are so near, it raises ``Inconsistent``.
 
     >>> cells = array("Q", [4, 6, 0, 0])
     >>> evaluate(cells)
@@ -339,7 +339,7 @@ def correct(cells: Words, filled: Any, count: int, cols: int = 1) -> list[int]:
 
 
 def eval(coefficients: Words, x: int) -> int:
-    """The value at x of the polynomial with these coefficients, from the constant upwards.
+    """Returns the value at x of the polynomial with these coefficients, from the constant upwards.
 
     >>> eval([4, 6, 8], 5)
     234
@@ -351,8 +351,9 @@ def eval(coefficients: Words, x: int) -> int:
 
 
 def decode(points: Words, values: Words, count: int) -> tuple["array[int]", list[int]]:
-    """The ``count`` coefficients of the only polynomial that has all n values but at most (n - count) / 2, and the
-    places of those.
+    """Finds the only polynomial of ``count`` coefficients that has all n values but at most (n - count) / 2.
+
+    Returns its coefficients, and the places of the wrong values.
 
     >>> coefficients, wrong = decode([1, 2, 3, 4], [3, 5, 8, 9], 2)
     >>> list(coefficients), wrong
@@ -369,8 +370,8 @@ def decode(points: Words, values: Words, count: int) -> tuple["array[int]", list
 
 
 def weights(points: Words, x: int) -> "array[int]":
-    """For each of n points a weight: the values at the points, each times its weight, add up to the value at x, for
-    every polynomial of at most n coefficients.
+    """Returns a weight for each of n points: the values at the points, each times its weight, add up to the value at x,
+    for every polynomial of at most n coefficients.
 
     >>> list(weights([1, 2], 3)) == [MODULUS - 1, 2]
     True
@@ -382,8 +383,8 @@ def weights(points: Words, x: int) -> "array[int]":
 
 
 def weights_at_roots(total: int, indices: Iterable[int], x: int) -> "array[int]":
-    """The same weights for the points of a domain that have these indices, which rise and are below ``total``. The
-    domain has ``total`` points, rounded up to a power of two.
+    """Returns the same weights for the points of a domain that have these indices, which rise and are below ``total``.
+    The domain has ``total`` points, rounded up to a power of two.
 
     >>> list(weights_at_roots(2, [0, 1], 1))
     [1, 0]
@@ -395,7 +396,7 @@ def weights_at_roots(total: int, indices: Iterable[int], x: int) -> "array[int]"
 
 
 def encode_poly(coefficients: Words) -> bytes:
-    """The encoding of the polynomial: how many coefficients, then each as 8 bytes, highest first.
+    """Returns the encoding of the polynomial: how many coefficients, then each as 8 bytes, highest first.
 
     >>> encode_poly([4, 6]).hex()
     '0200000000000000040000000000000006'
@@ -407,7 +408,7 @@ def encode_poly(coefficients: Words) -> bytes:
 
 
 def decode_poly(encoded: Bytes) -> "array[int]":
-    """The coefficients of the polynomial that the bytes encode, and nothing more.
+    """Returns the coefficients of the polynomial that the bytes encode. Bytes behind it raise ``ExtraData``.
 
     >>> list(decode_poly(encode_poly([4, 6])))
     [4, 6]

@@ -12,8 +12,8 @@
 //! `cells[i * cols + k]`, and each column is a polynomial of its own. A domain has N points, N a power of two up to
 //! 2^32: point i is power i of the root of order N.
 //!
-//! What a call writes in place it does not change where it is refused. No call shares anything with another, so calls
-//! may run in threads at the same time.
+//! A refused call leaves what it writes in place as it was. No call shares anything with another, so calls may run in
+//! threads at the same time.
 #![deny(missing_docs, unsafe_op_in_unsafe_fn)]
 #![deny(unsafe_code)]
 
@@ -35,11 +35,11 @@ pub enum Error {
     OutOfRange,
     /// A number of words, rows or columns is none that the call takes.
     WrongSize,
-    /// Fewer than `min` distinct indices of shards are there, or fewer filled rows than coefficients.
+    /// There are fewer than `min` distinct indices of shards, or fewer filled rows than coefficients.
     TooFew,
     /// Not 1 <= `min` <= `total`, or shards of different lengths.
     Mismatch,
-    /// An index is not below the total, or of weights not above the one before it.
+    /// An index is not below the total, or, for weights, not above the one before it.
     WrongIndex,
     /// Two shards have one index and unequal words.
     Conflict,
@@ -82,7 +82,7 @@ impl Error {
         ERRORS.get(place).copied().unwrap_or(Error::Unknown(status))
     }
 
-    /// The number that the library has for it.
+    /// Returns the number that the library has for it.
     ///
     /// ```
     /// assert_eq!(commonware_math::Error::OutOfRange.status(), 2);
@@ -103,7 +103,7 @@ impl fmt::Display for Error {
 
 impl std::error::Error for Error {}
 
-/// The version of the library: major, minor and patch.
+/// Returns the version of the library: major, minor and patch.
 ///
 /// ```
 /// assert_eq!(commonware_math::version().0, 1);
@@ -121,7 +121,7 @@ fn zeros<T: Clone + Default>(count: usize) -> Result<Vec<T>, Error> {
     Ok(items)
 }
 
-/// The value at x of the polynomial with these coefficients, from the constant upwards.
+/// Returns the value at x of the polynomial with these coefficients, from the constant upwards.
 ///
 /// There are 1 to 2^32 - 1 of them, else [`Error::WrongSize`].
 ///
@@ -151,7 +151,7 @@ pub fn evaluate(cells: &mut [u64], cols: usize) -> Result<(), Error> {
     library::evaluate(cells, cols)
 }
 
-/// The way back from [`evaluate`]: puts the coefficients in place of the values, in each column.
+/// Goes the way back from [`evaluate`]: puts the coefficients in place of the values, in each column.
 ///
 /// ```
 /// let mut cells = [4, 6, 8, 0];
@@ -181,9 +181,9 @@ pub fn recover(cells: &mut [u64], cols: usize, filled: &[bool]) -> Result<(), Er
     library::recover(cells, cols, filled)
 }
 
-/// As [`recover`], where some of the filled rows are wrong: gives which, by rising number.
+/// Does what [`recover`] does though some of the filled rows are wrong, and returns which, by rising number.
 ///
-/// The polynomials have at most `count` coefficients; of m filled rows at most (m - count) / 2 may be wrong. Where no
+/// The polynomials have at most `count` coefficients; of m filled rows at most (m - count) / 2 may be wrong. If no
 /// polynomials are so near: [`Error::Inconsistent`].
 ///
 /// ```
@@ -211,9 +211,9 @@ pub struct Decoded {
     pub wrong: Vec<usize>,
 }
 
-/// The `count` coefficients of the only polynomial that has all n values at the points but at most (n - count) / 2.
+/// Finds the only polynomial of `count` coefficients that has all n values at the points but at most (n - count) / 2.
 ///
-/// Where there is none: [`Error::Inconsistent`]; where a point is there twice: [`Error::Repeated`].
+/// If there is none: [`Error::Inconsistent`]. If a point is there twice: [`Error::Repeated`].
 ///
 /// ```
 /// // 1 + 2 X, and one value that is not
@@ -234,11 +234,11 @@ pub fn decode(points: &[u64], values: &[u64], count: usize) -> Result<Decoded, E
     Ok(Decoded { coefficients, wrong })
 }
 
-/// For each of n points a weight: the values at the points, each times its weight, add up to the value at x, for every
-/// polynomial of at most n coefficients.
+/// Returns a weight for each of n points: the values at the points, each times its weight, add up to the value at x,
+/// for every polynomial of at most n coefficients.
 ///
-/// Where x is one of the points, the first such has weight 1 and the others 0; and else, where a point is there twice,
-/// all weights are 0.
+/// If x is one of the points, the first such has weight 1 and the others 0. Otherwise, if a point is there twice, all
+/// weights are 0.
 ///
 /// ```
 /// assert_eq!(commonware_math::weights(&[1, 2], 3)?, [commonware_math::MODULUS - 1, 2]);
@@ -250,8 +250,8 @@ pub fn weights(points: &[u64], x: u64) -> Result<Vec<u64>, Error> {
     Ok(found)
 }
 
-/// The same weights for the points of a domain that have these indices, which rise and are below `total`. The domain
-/// has `total` points, rounded up to a power of two.
+/// Returns the same weights for the points of a domain that have these indices, which rise and are below `total`. The
+/// domain has `total` points, rounded up to a power of two.
 ///
 /// ```
 /// assert_eq!(commonware_math::weights_at_roots(2, &[0, 1], 1)?, [1, 0]);
@@ -263,7 +263,7 @@ pub fn weights_at_roots(total: u32, indices: &[u32], x: u64) -> Result<Vec<u64>,
     Ok(found)
 }
 
-/// The encoding of the polynomial: how many coefficients, then each as 8 bytes, highest first.
+/// Returns the encoding of the polynomial: how many coefficients, then each as 8 bytes, highest first.
 ///
 /// ```
 /// let bytes = commonware_math::encode_poly(&[4, 6])?;
@@ -278,7 +278,7 @@ pub fn encode_poly(coefficients: &[u64]) -> Result<Vec<u8>, Error> {
     Ok(out)
 }
 
-/// The coefficients of the polynomial that the bytes encode, and nothing more.
+/// Returns the coefficients of the polynomial that the bytes encode. Bytes behind it are [`Error::ExtraData`].
 ///
 /// ```
 /// let bytes = commonware_math::encode_poly(&[4, 6])?;
@@ -294,7 +294,7 @@ pub fn decode_poly(bytes: &[u8]) -> Result<Vec<u64>, Error> {
     Ok(out)
 }
 
-/// How many words each of `total` shards of so many words has, of which any `min` give them back.
+/// Returns how many words each of `total` shards of so many words has, of which any `min` give them back.
 ///
 /// ```
 /// assert_eq!(commonware_math::shard_sizes(10, 4, 8)?, 3);
@@ -306,7 +306,7 @@ pub fn shard_sizes(words: usize, min: u32, total: u32) -> Result<usize, Error> {
     Ok(cells)
 }
 
-/// The shards of the words: `total` rows of as many words as [`shard_sizes`] says, of which any `min` give the data
+/// Cuts the words into shards: `total` rows of as many words as [`shard_sizes`] says, of which any `min` give the data
 /// back. Words of the data may be any; those of shards are below [`MODULUS`].
 ///
 /// ```
@@ -323,10 +323,10 @@ pub fn split(data: &[u64], min: u32, total: u32) -> Result<Vec<u64>, Error> {
     Ok(cells)
 }
 
-/// The words that the shards give back: row i of the cells is the shard with index i of the indices.
+/// Returns the words that the shards give back. Row i of the cells is the shard with index `indices[i]`.
 ///
-/// Where more than `min` distinct indices are there, damage to one shard is sure to be found, and where there are just
-/// `min` it may not be. Bound `total` before you join shards of strangers: the memory that is taken grows with it.
+/// If there are more than `min` distinct indices, it is sure to find damage to one shard. If there are just `min`, it
+/// may not. Limit `total` before you join shards from someone you do not trust: the memory grows with it.
 ///
 /// ```
 /// let shards = commonware_math::split(&[7, 8, 9], 1, 2)?;
@@ -352,10 +352,10 @@ pub struct Joined {
     pub left_out: Vec<usize>,
 }
 
-/// As [`join`], where some of the shards are wrong and nobody knows which: gives the data and the rows that are wrong.
+/// Does what [`join`] does though some of the shards are wrong: returns the data and the rows that are wrong.
 ///
-/// An index whose shards have unequal cells counts as missing. Of i distinct indices that are left at most
-/// (i - `min`) / 2 may have wrong shards; where there are no data so near: [`Error::Inconsistent`].
+/// An index whose shards have unequal cells counts as missing. Of i distinct indices that remain at most
+/// (i - `min`) / 2 may have wrong shards. If no data are so near: [`Error::Inconsistent`].
 ///
 /// ```
 /// let mut shards = commonware_math::split(&[7, 8, 9], 1, 3)?;
@@ -377,7 +377,7 @@ pub fn join_corrected(indices: &[u32], min: u32, total: u32, cells: &[u64]) -> R
     Ok(Joined { data, left_out })
 }
 
-/// How many bytes each of `total` shards of so many bytes has, of which any `min` give them back.
+/// Returns how many bytes each of `total` shards of so many bytes has, of which any `min` give them back.
 ///
 /// ```
 /// assert_eq!(commonware_math::shard_bytes_sizes(1000, 4, 6)?, 264);
@@ -389,9 +389,9 @@ pub fn shard_bytes_sizes(bytes: usize, min: u32, total: u32) -> Result<usize, Er
     Ok(size)
 }
 
-/// The shards of the bytes: `total` of one length each, of which any `min` give the bytes back.
+/// Cuts the bytes into shards: `total` of one length, of which any `min` give the bytes back.
 ///
-/// Keep the index of each beside it, and `min` and `total`; how many bytes there were need not be kept. The shards hide
+/// Keep the index of each beside it, and `min` and `total`. The number of bytes need not be kept. The shards hide
 /// nothing of the data. Cut large data into blocks of some 256 KiB and split each by itself: that is faster, and takes
 /// little memory.
 ///
@@ -407,11 +407,11 @@ pub fn split_bytes(data: &[u8], min: u32, total: u32) -> Result<Vec<Vec<u8>>, Er
     Ok(shards.chunks_exact(size).map(<[u8]>::to_vec).collect())
 }
 
-/// The bytes that the shards, each beside its index, give back: `min` of them or more, in any order.
+/// Returns the bytes that the shards, each beside its index, give back: `min` of them or more, in any order.
 ///
-/// Shards of different lengths are refused with [`Error::Mismatch`]. Where more than `min` distinct indices are there,
-/// damage to one shard is sure to be found, and where there are just `min` it may not be. Bound `total` before you join
-/// shards of strangers: the memory that is taken grows with it.
+/// It refuses shards of different lengths with [`Error::Mismatch`]. If there are more than `min` distinct indices, it
+/// is sure to find damage to one shard. If there are just `min`, it may not. Limit `total` before you join shards from
+/// someone you do not trust: the memory grows with it.
 ///
 /// ```
 /// use commonware_math::{join_bytes, split_bytes, Error};
@@ -440,10 +440,10 @@ pub struct JoinedBytes {
     pub left_out: Vec<usize>,
 }
 
-/// As [`join_bytes`], where some of the shards are wrong and nobody knows which: gives the bytes and which are wrong.
+/// Does what [`join_bytes`] does though some of the shards are wrong: returns the bytes and which are wrong.
 ///
-/// An index whose shards are unequal counts as missing. Of i distinct indices that are left at most (i - `min`) / 2 may
-/// have wrong shards; where there are no bytes so near: [`Error::Inconsistent`].
+/// An index whose shards are unequal counts as missing. Of i distinct indices that remain at most (i - `min`) / 2 may
+/// have wrong shards. If no bytes are so near: [`Error::Inconsistent`].
 ///
 /// ```
 /// use commonware_math::{join_bytes_corrected, split_bytes, Error};

@@ -1,6 +1,6 @@
 //! The polynomial, however some values are wrong.
 //!
-//! Values stand at m distinct points, and a polynomial of at most k coefficients is wanted that
+//! There are values at m distinct points. A polynomial of at most k coefficients is wanted that
 //! agrees with all but at most (m - k) / 2 of them. Two such agree with each other at k points or
 //! more, so there is one at most. Euclid's algorithm is run on the product of X - x over the points
 //! and the polynomial through the values, up to the first remainder r of degree below (m + k) / 2.
@@ -30,8 +30,8 @@ pub struct Decoded<F: Drop> {
 /// differs.
 ///
 /// There are m distinct points and as many values. The polynomial has `count` coefficients, at most
-/// m of them, and differs from at most (m - count) / 2 values. There is one at most; it answers
-/// `None` exactly if there is none.
+/// m, and differs from at most (m - count) / 2 values. There is at most one such polynomial. It
+/// answers `None` exactly if there is none.
 ///
 /// ```
 /// use math_decoding::decoding::decode;

@@ -12,8 +12,8 @@ use super::coefficients::{count_before_zeros, padded, subtract_multiple};
 use math_base::algebra::{Field, Mem, Multiplicative, Ring};
 use std::alloc::Global;
 
-/// Returns the degree, which is the greatest index of a coefficient that is not zero. It is `None`
-/// of zero.
+/// Returns the degree, which is the greatest index of a coefficient that is not zero. If all are
+/// zero, it answers `None`.
 pub fn degree<F: Ring>(alloc: Global, p: &[F]) -> Mem<Option<usize>>
     ensures some { IfOk result (λ answer. IfSome answer (λ n. HasExactDegree F.Ring p.now n)) }
     ensures not_zero { IfOk result (λ answer. IfSome answer (λ _. ¬ (IsZero F.Ring p.now))) }
@@ -28,8 +28,8 @@ pub fn degree<F: Ring>(alloc: Global, p: &[F]) -> Mem<Option<usize>>
 
 /// Divides p by d, which is not zero, and returns the quotient and the remainder.
 ///
-/// Let n be the degree of d, the greatest index of a coefficient that is not zero. The quotient has
-/// n coefficients less than p, or none if p has at most n; the remainder has n.
+/// Let n be the degree of d. The quotient has n coefficients less than p, or none if p has at most
+/// n. The remainder has n coefficients.
 pub fn divide<F: Field>(alloc: Global, p: &[F], d: &[F]) -> Mem<(Vec<F>, Vec<F>)>
     requires { ¬ (IsZero F.Ring d.now) }
     ensures { IfOk result

@@ -7,7 +7,7 @@ use math_base::algebra::{Mem, Object};
 use std::alloc::Global;
 
 /// Returns whether no two of the points are the same, as `decode` asks of its points. It compares
-/// each two.
+/// each pair.
 ///
 /// ```
 /// use math_decoding::points::are_distinct;

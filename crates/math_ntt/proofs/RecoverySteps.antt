@@ -64,7 +64,7 @@ module _ {A : Type 0} (R : RingOf A) (E : IsEquality R.same) (G : IsGroup R.same
       (E.transitive _ _ _ (hm t k b m)
       (P.respects _ _ _ _ (subst (λ x. R.same x (get_or cells (i * c + k) R.zero)) (sym cell) (E.reflexive (get_or cells (i * c + k) R.zero))) value))
 
-  -- the values are those of the divisor that is had from them
+  -- the polynomial made from the values of the divisor has the same values on the domain
   pub values-again : (v values again : List A) → length again ≡ n → ((t : ℕ) → t < n → R.same (get_or values t R.zero) (value_in_ring R v (at (bit_reversed lg t))))
       → AreReversedValues R w lg 1 again values → HaveSameValuesOnDomain R w n v again
   values-again v values again e hv ha i l =

@@ -130,8 +130,8 @@ impl<K: Read + Drop> Read for Poly<K> {
 
     ghost grows = { λ cfg. ListGrows (nonzero cfg.0) (K.scan cfg.1) (K.grows cfg.1) };
 
-    /// Reads the list of the coefficients. No coefficient is `InvalidLength(0)`, even where the
-    /// range admits it.
+    /// Reads the list of the coefficients. It refuses an empty list with `InvalidLength(0)`, even
+    /// if the range admits it.
     fn read_cfg(
         alloc: Global,
         input: &mut &[u8],

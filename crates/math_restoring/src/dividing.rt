@@ -9,16 +9,16 @@
 //! the root of order m, s being the shift. At these points x^m is s^m.
 //!
 //! Where m is below N, g is not needed as a whole. Let n be N / 2. The points of even index have
-//! x^n = 1, those of odd index x^n = -1, and at the points of the coset x^n is c, a power of s^m. Let
-//! u and v be the polynomials of n coefficients that have the values of g times (1 + c) / 2 at the
-//! points of even index, and times (1 - c) / 2 at those of odd index. Then
-//! g(x) = (1 + x^n) / (1 + c) u(x) + (1 - x^n) / (1 - c) v(x): both sides have at most N coefficients
-//! and the same values on the domain. So on the coset g is u + v. Of its n coefficients those whose
-//! places are m apart are added, times powers of s^m; a transform of m rows gives the values there,
-//! each is divided by that of V, and m rows are interpolated.
+//! x^n = 1, those of odd index x^n = -1, and at the points of the coset x^n is c, a power of s^m.
+//! Let u and v be the polynomials of n coefficients that have the values of g times (1 + c) / 2 at
+//! the points of even index, and times (1 - c) / 2 at those of odd index. Then g(x) = (1 + x^n) /
+//! (1 + c) u(x) + (1 - x^n) / (1 - c) v(x): both sides have at most N coefficients and the same
+//! values on the domain. So on the coset g is u + v. Of its n coefficients those whose places are m
+//! apart are added, times powers of s^m; a transform of m rows gives the values there, each is
+//! divided by that of V, and m rows are interpolated.
 //!
 //! The transforms take rows of coefficients in natural order and rows of values in that of a tree,
-//! so no row changes its place. All that is not of the columns is had once: the values of V and
+//! so no row changes its place. What is the same for all columns is made once: the values of V and
 //! their inverses, with all constant factors in them, and the trees.
 
 ghost use Rattle.std.specs.Prelude.{◌≡◌, ◌+◌, ◌-◌, ◌*◌, ◌<◌, ◌≤◌, ◌^◌, ℕ, IfOk, OnOk, length};
@@ -105,8 +105,8 @@ fn add_multiples(cells: &mut [F], others: &[F], factor: F)
     }
 }
 
-/// Adds those of 2^lg rows whose places are 2^part apart, times powers of the step; the sums stand in
-/// the first 2^part rows. At points whose power 2^part is the step, columns keep their values.
+/// Adds those of 2^lg rows whose places are 2^part apart, times powers of the step; the sums stand
+/// in the first 2^part rows. At points whose power 2^part is the step, columns keep their values.
 fn fold(cells: &mut [F], cols: usize, lg: u8, part: u8, step: F)
     requires part { part ≤ lg }
     requires domain { lg ≤ 32 }
@@ -167,8 +167,8 @@ fn both_factors(factor: F, power: F) -> (F, F)
 }
 
 /// The factors of the values: V at the points of the domain divided by 2^lg, in the order of the
-/// tree, and where 2^part is less than 2^lg, times 1 + c at those of even index and 1 - c at those of
-/// odd index, c being the power 2^(lg - 1) of the shift.
+/// tree, and where 2^part is less than 2^lg, times 1 + c at those of even index and 1 - c at those
+/// of odd index, c being the power 2^(lg - 1) of the shift.
 fn write_factors(alloc: Global, cells: &mut [F], lg: u8, part: u8, step: F, roots: &[F]) -> Mem<()>
     requires some { 1 ≤ lg }
     requires part { part ≤ lg }

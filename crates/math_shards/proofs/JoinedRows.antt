@@ -205,7 +205,7 @@ module _ {R : Type 0} (index : R → ℕ) (cells : R → List F) (words : List �
       go [] e = absurd (omega (arith, fit.some, fit.enough, distinct-most total (map index rows), length-map rows index, ap length e))
       go (r ∷ rest) e = let there : 0 < length rows = omega (arith, ap length e) in sym (count 0 r there) ∙ fit.count 0 r there
 
-  -- so where the coefficients that were had are the only ones, they are the elements of the data
+  -- so where the coefficients that were found are the only ones, they are the elements of the data
   pub data_of_fit : AreDataOf words min elements
   data_of_fit =
       let domain = domain_of total (omega (arith, fit.some, fit.within)) fit.short in

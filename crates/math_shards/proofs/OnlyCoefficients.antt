@@ -56,7 +56,7 @@ points_apart lg indices small distinct below i j d before l e =
       ]
     ]
 
--- polynomials, of no more coefficients than there are indices, that have the cells as their values are those of the coefficients that were had
+-- polynomials that have the cells as their values, and no more coefficients than there are indices, are those of the coefficients that were found
 pub coefficients_once : (lg width : ℕ) (indices : List ℕ) (old new : List F) (m : MatrixOf F) → lg ≤ 32 → AreDistinct indices → All (λ i. i < 2 ^ lg) indices
     → length new ≡ length indices * width → HaveCellsAsValues lg indices width old new → IsOfSize m (length indices) width
     → ((t k : ℕ) → t < length indices → k < width → same (get_or old (t * width + k) nought) (value_at_index lg (column_of nought m k) (get_or indices t 0))) → new ≡ m.cells

@@ -1,4 +1,4 @@
--- Rows of distinct indices whose coefficients are had: how many are distinct, and that the cells are the values of the polynomials.
+-- Rows of distinct indices whose coefficients are known: how many are distinct, and that the cells are the values of the polynomials.
 use Rattle.std.proofs.Common.{◌≡◌, ◌∙◌, ℕ, zero, suc, ◌+◌, ◌*◌, ◌<◌, ◌≤◌, ◌^◌, ◌==◌, ◌||◌, List, [], ◌∷◌, Bool, true, false, length, map, get_or, refl, sym, ap, arith}
 use Rattle.std.specs.List.{All, Contains, count_by, flat_map, range_with_len}
 use Rattle.std.proofs.lemmas.Bool.{eq-eqb, ne_eqb}
@@ -83,7 +83,7 @@ values_of_rows {R} index cells min width lg rows indices old new many wide chose
     sym (ap number cell) ∙ sym (have t k (omega (arith, b, all, many)) l) ∙ ap (λ i. number (value_at_index lg (column_in (length indices) width new k) i)) at
     ∙ ap (λ n. number (value_at_index lg (column_in n width new k) (index row))) many
 
--- polynomials of no more coefficients that have the cells of all rows as their values are those that were had
+-- polynomials of no more coefficients that have the cells of all rows as their values are those that were found
 pub only_of_rows : {R : Type 0} (index : R → ℕ) (cells : R → List F) (min width lg : ℕ) (rows : List R) (indices : List ℕ) (old new : List F) (m : MatrixOf F) → lg ≤ 32 → length indices ≡ min
     → All (λ row. length (cells row) ≡ width) rows → All (λ row. index row < 2 ^ lg) rows → AreChosen index cells rows indices old → length new ≡ min * width
     → HaveCellsAsValues lg indices width old new → IsOfSize m min width → All (λ row. HasValuesOf lg m (index row) (cells row)) rows → new ≡ m.cells

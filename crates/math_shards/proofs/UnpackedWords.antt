@@ -1,4 +1,4 @@
--- The words that elements unpack to, each had from two elements, and elements that the first of these words pack to again.
+-- The words that elements unpack to, each from two elements, and elements that the first of these words pack to again.
 use Rattle.std.proofs.Common.{◌≡◌, ◌∙◌, ℕ, suc, ◌+◌, ◌-◌, ◌*◌, ◌/◌, ◌%◌, ◌^◌, ◌<◌, ◌≤◌, bit_or, List, [], ◌∷◌, ◌++◌, length, map, take, drop, get_or, replicate, sym, ap, ap₂, subst, add_comm, arith, lit<, mod-eq_of_lt}
 use Rattle.std.specs.Int.{div_ceil}
 use Rattle.std.specs.List.{All}
@@ -81,7 +81,7 @@ word_from_elements elements i =
     ∙ ap (λ n. Bits.number (take 64 (drop n (joined 63 ns)))) (sym at)
     ∙ sym (cut_at 64 (joined 63 ns) i (lit< tt))
 
--- a word of a run of 63 is had from two of the elements that lie one after the other, from the one on in which the run begins
+-- two elements that lie one after the other, from the one on in which the run begins, give each word of a run of 63
 pub run_unpacked : (elements : List F) (first m k : ℕ) → first % 63 + k < 63 → k + 1 < m
     → word_between (get_or (take m (drop (first + first / 63) elements)) k nought) (get_or (take m (drop (first + first / 63) elements)) (k + 1) nought) (first % 63 + k)
     ≡ get_or (words_of elements) (first + k) 0

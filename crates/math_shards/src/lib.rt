@@ -1,5 +1,5 @@
-//! Shards to data, some of them wrong or none: the layer above `math_splitting`, which makes shards
-//! of data and is handed on.
+//! Gives data back from shards, even if some of them are wrong. `math_splitting` below makes the
+//! shards, and this crate hands it on.
 #![tactic(auto)]
 
 pub mod laws;

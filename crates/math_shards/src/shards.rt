@@ -1,10 +1,9 @@
 //! Data cut into shards, of which any `min` give them back.
 //!
-//! `math_splitting` says what each shard holds: the values of polynomials of `min` coefficients at
-//! a point of its own. A polynomial of `min` coefficients is the only one with its values at `min`
-//! points: so any `min` shards give the data back, and where more are there, one of which cells
-//! were damaged fits no data with the others. Where only `min` of them are there, damage may not be
-//! found.
+//! Each shard holds the values of polynomials of `min` coefficients at a point of its own:
+//! `math_splitting` says which. A polynomial of `min` coefficients is the only one with its values
+//! at `min` points, so any `min` shards give the data back. If there are more, one with damaged
+//! cells fits no data with the others. If there are only `min`, damage may go unnoticed.
 
 ghost use Rattle.std.specs.Prelude.{◌≡◌, alloc_error};
 ghost use Rattle.math_shards.specs.declared.shards.Error.TheVariants.{Memory};
@@ -36,12 +35,12 @@ pub enum Error {
     /// Memory ran out, or a size is past what a `usize` can say.
     #[error("out of memory")]
     Memory(AllocError),
-    /// Fewer than `min` distinct indices are there, or no shard at all. In `join_corrected` those
-    /// count of which all shards have equal cells.
+    /// There is no shard, or there are fewer than `min` distinct indices. `join_corrected` counts
+    /// an index only if all its shards have equal cells.
     #[error("too few shards")]
     TooFew,
-    /// The numbers `min` and `total` or the number of cells of a shard are not those of the first,
-    /// or not 1 <= `min` <= `total`.
+    /// The `min`, the `total` or the number of cells of a shard is not that of the first shard, or
+    /// not 1 <= `min` <= `total`.
     #[error("shards of different splits")]
     Mismatch,
     /// An index is `total` or more.
@@ -50,7 +49,7 @@ pub enum Error {
     /// Two shards have one index and unequal cells.
     #[error("unequal shards of one index")]
     Conflict,
-    /// There are no data that have each of the shards.
+    /// No data have all of these shards.
     #[error("shards of no data")]
     Inconsistent,
 }

@@ -1,11 +1,11 @@
 //! Data cut into shards, and what each shard holds.
 //!
-//! The words that are packed are the number of data words, and then the data. Packed by 63 bits
-//! into elements of the Goldilocks field they fill `min` rows of a matrix, row by row, and what is
-//! left over is zero. Column k is the polynomial of `min` coefficients whose coefficient r is the
-//! cell of row r. Shard i, for i below `total`, holds the value of each column at power i of the
-//! root of unity of order N, where N is the least power of two that is `total` or more. This is
-//! Reed and Solomon's code.
+//! The number of data words, and then the data words, are packed by 63 bits into elements of the
+//! Goldilocks field. These fill `min` rows of a matrix, row by row, and zeros fill what is left
+//! over. Column k is the polynomial of `min` coefficients whose coefficient r is the cell of row r.
+//! Shard i, for i below `total`, holds the value of each column at power i of the root of unity of
+//! order N, where N is the least power of two that is `total` or more. This is Reed and Solomon's
+//! code.
 //!
 //! The shards hide nothing of the data.
 

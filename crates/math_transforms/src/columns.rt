@@ -113,11 +113,7 @@ impl<F: FieldNTT> EvaluationColumn<F> {
     /// N is the number of points. Up to a factor that is not zero, the polynomial is the product of
     /// X - x over the points x at which it is zero.
     ///
-    /// The answer is its value at zero, and its values at the powers of the root of order N, where
-    /// N is the number of points. Up to a factor that is not zero, the polynomial is the product of
-    /// X - x over the points x at which it is zero.
-    ///
-    /// lg N is at most `F::MAX_LG_ROOT_ORDER`, and some point is `true`. Takes memory for two
+    /// lg N is at most `F::MAX_LG_ROOT_ORDER`, and some point is `true`. It takes memory for two
     /// tables of N elements, and for as many coefficients, most of them twice.
     ///
     /// ```

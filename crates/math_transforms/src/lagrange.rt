@@ -86,10 +86,9 @@ where
 /// Returns the weights that give the value at x from values at powers of a root of unity, each with
 /// the index of its power. They hold for polynomials of at most as many coefficients as indices.
 ///
-/// The root is of order N, which is `total` rounded up to a power of two. Repeated indices and
-/// those of `total` or more are ignored. The weights go by rising index, and there is none where no
-/// index is left. x may be any element, also a point of the domain, whether its index is given or
-/// not.
+/// The root is of order N, which is `total` rounded up to a power of two. It ignores repeated
+/// indices and those of `total` or more. The weights go by rising index; if no index is left, there
+/// are none. x may be any element, also a point of the domain, whether its index is given or not.
 ///
 /// lg N is at most `F::MAX_LG_ROOT_ORDER`.
 ///

@@ -1,9 +1,9 @@
-//! The number theoretic transform of rows of cells, and what is had by it for one polynomial: its
+//! The number theoretic transform of rows of cells, and what it gives for one polynomial: its
 //! values at a domain of roots of unity, the polynomial that vanishes at the missing points, and
 //! Lagrange weights.
 //!
-//! `math_ntt` builds matrices and vectors of polynomials on it, and names again all of it that they
-//! need.
+//! `math_ntt` builds matrices and vectors of polynomials on this crate, and hands on what callers
+//! of these need.
 #![tactic(auto)]
 
 pub mod below;

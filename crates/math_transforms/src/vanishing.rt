@@ -2,15 +2,15 @@
 //!
 //! The domain is that of the powers of the root w of order N = 2^lg, and a point is missing where
 //! the bitmap has `false`. The points of even index are the powers of w², the root of order N / 2,
-//! and those of odd index are w times these. So a polynomial for all missing points is had from two
-//! for half as many points: p for those of even index, and q for those of odd index, taken at
-//! X / w, so that its roots move from the powers of w² to w times these. The product p(X) q(X / w)
+//! and those of odd index are w times these. So two polynomials for half as many points give that
+//! for all missing points: p for those of even index, and q for those of odd index. q is taken at
+//! X / w, which moves its roots from the powers of w² to w times these. The product p(X) q(X / w)
 //! vanishes at exactly the missing points.
 //!
 //! Few points make a base chunk, whose polynomial is built factor by factor, one for each missing
 //! point.
 //!
-//! A piece has few coefficients more than missing points. So a product is had from its values on
+//! A piece has few coefficients more than missing points. So a product is computed by its values on
 //! the smallest domain that has a point for each of its coefficients: where a third of the points
 //! are missing, on half of the domain.
 
@@ -309,8 +309,8 @@ fn multiply_values<F: FieldNTT>(
 }
 
 /// The product of two polynomials that have together at most as many coefficients as the domain has
-/// points. It is had from its values on the smallest domain of which that holds, and has no zeros
-/// at its end, so that the products made with it are on the smallest domains too.
+/// points. It is computed by its values on the smallest such domain, and has no zeros at its end,
+/// so that the products made with it are on the smallest domains too.
 fn multiplied<F: FieldNTT>(
     alloc: Global,
     left: Vec<F>,

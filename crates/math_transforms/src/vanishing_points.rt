@@ -26,7 +26,7 @@ use std::marker::Model;
 
 /// The points of a domain of 2^lg_size roots of unity at which a polynomial has to vanish.
 ///
-/// Each point has a truth value, in natural order: point `i` is power `i` of the root, `false` says
+/// Each point has a truth value, in natural order. Point `i` is power `i` of the root: `false` says
 /// that the polynomial vanishes there, and `true` that it does not.
 ///
 /// Point `i` is bit `i % 64` of word `i / 64`. Fewer than 64 points leave bits of the one word

@@ -4,8 +4,8 @@ ghost use Rattle.std.specs.Prelude.{◌≡◌, ◌+◌, ◌-◌, ◌<◌, ◌≤
 
 use std::marker::Model;
 
-/// How much counted calls did: butterflies, each of which combines a pair of cells, and root
-/// products. A root product is one coefficient times one root, when small vanishing polynomials are
+/// How much counted calls did: butterflies, and root products. A butterfly combines a pair of
+/// cells. A root product is one coefficient times one root, when small vanishing polynomials are
 /// built.
 ///
 /// A counted call adds to it whatever its outcome.

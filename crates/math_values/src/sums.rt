@@ -13,7 +13,8 @@ use math_base::fields::goldilocks::F;
 /// Returns the sum of each element times its weight: the first element times the first weight, and
 /// so on.
 ///
-/// There are as many weights as elements, or more, which do not count. Of no elements it is zero.
+/// There are at least as many weights as elements; further weights do not count. If there are no
+/// elements, it is zero.
 ///
 /// ```
 /// use math_values::sums::sum_of_products;

@@ -23,8 +23,8 @@ use std::alloc::Global;
 /// The greatest number of powers in a table.
 const BLOCK: usize = 2048;
 
-/// The first powers of a point: a table with which values at the point are had by sums that are
-/// reduced once a block.
+/// A table of the first powers of a point. It gives values at the point by sums that are reduced
+/// once a block.
 #[derive(Drop)]
 pub struct PowerTable {
     point: F,
@@ -53,8 +53,7 @@ fn powers_of(alloc: Global, x: F, n: usize) -> Mem<(Vec<F>, F)>
 impl PowerTable {
     ghost use Rattle.math_values.specs.Tables.{point};
 
-    /// Makes the table of the first powers of x: of `count` ones, but of one at least and of 2,048
-    /// at most.
+    /// Makes the table of the first `count` powers of x, but of one at least and of 2,048 at most.
     ///
     /// ```
     /// use math_values::values::PowerTable;
@@ -72,8 +71,8 @@ impl PowerTable {
         })
     }
 
-    /// Makes the table for one list of so many coefficients: a shorter one for a short list, since
-    /// each power takes a product too. In a long list the two halves of a block are to lie pages
+    /// Makes the table for one list of so many coefficients. It is shorter for a short list, since
+    /// each power takes a product too. In a long list the two halves of a block have to lie pages
     /// apart, since both are read at once.
     pub fn for_list(alloc: Global, x: F, coefficients: usize) -> Mem<PowerTable>
         ensures { IfOk result (λ table. point table ≡ x) }

@@ -6,12 +6,12 @@ ghost use Rattle.secret_bytes.specs.KeyChecks.{check_at};
 
 use math_base::fields::goldilocks::F;
 
-/// The check of the elements s_1 to s_n under the key x: x^(n + 2), and the sum of s_i times x^i,
-/// by Horner's rule.
+/// Returns the check of the elements s_1 to s_n under the key x: the sum of x^(n + 2) and of each
+/// s_i times x^i, by Horner's rule.
 ///
-/// Who changes shares without knowing the key adds to the elements, to the key and to the check
-/// what does not depend on the key. Where that changes an element, the check fits for at most n + 1
-/// of all keys: see `laws::changes_are_seen`.
+/// Someone who changes shares without knowing the key adds to the elements, to the key and to the
+/// check what does not depend on the key. If that changes an element, the check fits for at most n
+/// + 1 of all keys: see `laws::changes_are_seen`.
 ///
 /// ```
 /// use secret_bytes::{fits, key_check};
@@ -30,7 +30,7 @@ pub fn key_check(elements: &[F], key: F) -> F
     key * value
 }
 
-/// Whether the check is that of the elements under the key.
+/// Returns whether the check is that of the elements under the key.
 pub fn fits(elements: &[F], key: F, check: F) -> bool
     ensures { IsTrue result ↔ same check (check_at elements.now key) }
 {

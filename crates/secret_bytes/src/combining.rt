@@ -50,13 +50,13 @@ enum Pass {
 
 /// Combines the shares, in any order, to the bytes, and says which shares are wrong.
 ///
-/// Of m distinct shares at most (m - t) / 2 may be wrong. A share is wrong where any of its values
-/// is. What comes out is answered only where it fits its check.
+/// Of m distinct shares at most (m - t) / 2 may be wrong. A share is wrong if any of its values is.
+/// It answers bytes only if they fit their check.
 ///
-/// The first share that is not of one deal with those before it is refused; then fewer shares than
+/// It refuses the first share that is not of one deal with those before it; then fewer shares than
 /// the threshold; and then shares of which too many are wrong, and a secret that does not fit its
-/// check. A share that stands twice counts once. That is found in the order of N log N steps for N
-/// shares, beside the time that distinct ones take.
+/// check. A share that stands twice counts once. For N shares it finds these in the order of N log
+/// N steps, beside the time that distinct shares take.
 ///
 /// ```
 /// use secret_bytes::{combine, deal};

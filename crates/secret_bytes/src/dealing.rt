@@ -26,11 +26,11 @@ pub const MOST_SHARES: u32 = 255;
 
 /// Deals shares of the bytes, with the indices 1 to n, of which any t give the bytes back.
 ///
-/// The deal and the key are the first two elements of the source, and then come t - 1 for each
-/// element that is dealt. t is at least 1, n at least t, and there are at most `MOST_BYTES` bytes.
+/// The first two elements of the source are the deal and the key. Then come t - 1 for each element
+/// that is dealt. t is at least 1, n at least t, and there are at most `MOST_BYTES` bytes.
 ///
-/// It refuses with `TooManyWords` where the source does not give all of these, or with `Memory`;
-/// the source then gave each element that was drawn.
+/// It refuses with `TooManyWords` if the source does not give all of these, or with `Memory`; the
+/// source then gave each element that was drawn.
 ///
 /// ```
 /// use secret_bytes::{combine, deal};

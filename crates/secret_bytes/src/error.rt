@@ -71,10 +71,11 @@ pub enum CombineError {
     /// This share has the index of one before it, and other values.
     #[error("its index stands before with other values")]
     Repeated(usize),
-    /// There are so many shares, and so many are needed.
+    /// Fewer shares are there than are needed: how many there are, and how many are needed.
     #[error("{0} shares are there, and {1} are needed")]
     TooFew(usize, u32),
-    /// Of more shares than the threshold, more are wrong than half of the surplus.
+    /// There are more shares than the threshold, and more of them are wrong than half of the
+    /// surplus.
     #[error("the shares do not fit each other")]
     TooManyWrong,
     /// What the shares give does not fit its check.

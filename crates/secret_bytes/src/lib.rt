@@ -1,12 +1,12 @@
 //! A secret of bytes in shares, any t of which give the bytes back, and a share as a line of text.
 //!
-//! The elements of the bytes, a key that is drawn for the deal, and a check of the elements under
-//! this key are dealt one by one. A share has one value of each, and bytes that come out changed do
-//! not fit the check.
+//! The bytes become elements. These, a key that is drawn for the deal, and a check of the elements
+//! under this key are dealt one by one. A share has one value of each, and bytes that come out
+//! changed do not fit the check.
 //!
-//! The line of a share can be printed, read aloud and typed: it is the mark `S1`, the bytes of the
+//! The line of a share can be printed, read aloud and typed. It is the mark `S1`, the bytes of the
 //! share as letters in groups of four, and a check of eight bytes as such groups. A line is read
-//! from exactly its spelling; one with a wrong character, or with two neighbours exchanged, is no
+//! from exactly its spelling. One with a wrong character, or with two neighbours exchanged, is no
 //! spelling of any share.
 #![tactic(auto)]
 

@@ -23,7 +23,7 @@ pub enum LineError {
     /// Memory ran out.
     #[error("out of memory")]
     Memory(AllocError),
-    /// It is too short, or has not the mark, or its letters are not those of a share.
+    /// It is too short, lacks the mark, or has letters that are not those of a share.
     #[error("not a share of this format")]
     NoShare,
     /// The check does not fit the text before it.
@@ -97,7 +97,7 @@ fn body_of(alloc: Global, share: &SecretShare) -> Mem<Vec<u8>>
     Ok(body)
 }
 
-/// Returns the line of the share. It has below 2^32 values.
+/// Returns the line of the share, which has fewer than 2^32 values.
 ///
 /// ```
 /// use secret_bytes::{deal, line_of, share_in};
@@ -160,9 +160,9 @@ fn share_of_body(alloc: Global, body: &[u8]) -> Result<SecretShare, LineError>
 
 /// Reads the share whose line the text is.
 ///
-/// A text that is the line of no share is refused: with `Mistyped` where it has the characters of a
-/// check, and these are not the check of what stands before them, else with `NoShare`; or with
-/// `Memory`.
+/// It refuses a text that is the line of no share: with `Mistyped` if it has the characters of a
+/// check, and these are not the check of what stands before them, and with `NoShare` otherwise. It
+/// refuses with `Memory` if memory runs out.
 ///
 /// ```
 /// use secret_bytes::share_in;

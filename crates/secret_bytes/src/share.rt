@@ -46,7 +46,7 @@ impl Read for SecretShare {
 
     ghost grows = { ShareGrows };
 
-    /// Reads the threshold, the index, the deal, and the list of the values, and refuses with the
+    /// Reads the threshold, the index, the deal, and the list of the values. It refuses with the
     /// first fault of these.
     #[tactic(auto, unfolding(crate::specs::SecretShares::scan_share))]
     fn read_cfg(alloc: Global, input: &mut &[u8], cfg: &u32) -> Result<SecretShare, Error> {

@@ -17,7 +17,8 @@ pub struct Lines {
     pub numbers: Vec<usize>,
 }
 
-/// Why a text has not only lines of shares: the number of the first line that is none, and why.
+/// Why a text was refused: the number of the first line that is neither blank nor that of a share,
+/// and why.
 #[derive(Debug, Drop)]
 pub struct LineFault {
     pub number: usize,
@@ -93,8 +94,8 @@ pub fn read_lines(alloc: Global, text: &[u8]) -> Result<Lines, LineFault>
 
 /// Returns the lines of the shares, each with its end.
 ///
-/// It refuses with `NoShare` exactly where a share has more than `MOST_VALUES` values, or with
-/// `Memory`. What it writes, `read_lines` reads as these shares: see `laws::lines_are_read_back`.
+/// It refuses with `NoShare` exactly if a share has more than `MOST_VALUES` values, or with
+/// `Memory`. `read_lines` reads what it writes as these shares: see `laws::lines_are_read_back`.
 ///
 /// ```
 /// use secret_bytes::{combine, deal, read_lines, text_of};

@@ -23,8 +23,8 @@ use std::alloc::Global;
 /// Cuts the bytes into shards, one for each index below `total`, in the order of the indices. Any
 /// `min` of them give the bytes back.
 ///
-/// `min` is at least 1, and at most `total`. Takes memory as `split` does: no list is made of the
-/// words of the bytes, which are read from these.
+/// `min` is at least 1, and at most `total`. It takes memory as `split` does: it reads the words
+/// from the bytes, and makes no list of them.
 ///
 /// ```
 /// use shard_blocks::{join_block, split_block};
@@ -42,12 +42,12 @@ pub fn split_block(alloc: Global, bytes: &[u8], min: u32, total: u32) -> Mem<Vec
     Ok(shards)
 }
 
-/// Gives the shards of these indices, in their order: those that `split_block` gives of all. An
-/// index may stand there twice.
+/// Cuts the bytes into the shards of these indices alone, in their order, as `split_block` cuts
+/// them. An index may stand there twice.
 ///
-/// The conditions are those of `split_block`, and each index is below `total`. Of a block that some
-/// of its shards gave back, these are the shards that it had: so lost ones come back. Takes memory
-/// as `split_block` does, for these shards.
+/// The conditions are those of `split_block`, and each index is below `total`. From a block that
+/// some of its shards gave back, this makes the lost ones again. It takes memory as `split_block`
+/// does, for these shards.
 ///
 /// ```
 /// use shard_blocks::{join_block, split_block_at};
@@ -72,12 +72,12 @@ pub fn split_block_at(
     Ok(shards)
 }
 
-/// Writes the shards of the bytes over those of `out`: shard i is row i of `total` rows, and each of
+/// Writes the shards of the bytes over those of `out`. Shard i is row i of `total` rows. Each of
 /// its cells is eight bytes, the number of an element, the highest first.
 ///
 /// The conditions are those of `split_block`. A row has eight times as many bytes as a shard of
-/// `split_block` has cells. Takes memory as `split_rows` does. Where that is refused nothing is
-/// written.
+/// `split_block` has cells. It takes memory as `split_rows` does. If that is refused, it writes
+/// nothing.
 ///
 /// ```
 /// use shard_blocks::split_block_rows;
@@ -103,12 +103,12 @@ pub fn split_block_rows(
     Ok(())
 }
 
-/// Writes the shards of these indices over those of `out`, those that `split_block_rows` writes of
-/// all: row t is the shard of index t of the list. An index may stand there twice.
+/// Writes the shards of these indices alone over the bytes of `out`, as `split_block_rows` writes
+/// them: row t is the shard of index t of the list. An index may stand there twice.
 ///
 /// The conditions are those of `split_block_rows`, with as many rows as there are indices, and each
-/// index is below `total`. Takes memory as `split_block_rows` does, or less. Where that is refused
-/// nothing is written.
+/// index is below `total`. It takes memory as `split_block_rows` does, or less. If that is refused,
+/// it writes nothing.
 ///
 /// ```
 /// use shard_blocks::split_block_rows_at;
@@ -154,11 +154,12 @@ pub fn cells_for(bytes: usize, min: u32) -> usize
 /// Gives the bytes of the shards back: the only bytes of which each shard is one. A shard that is
 /// handed in twice counts once.
 ///
-/// It refuses as `join` does, and words that are those of no block with `Inconsistent`. Where shards
-/// of more than `min` distinct indices are there, damage to cells of one is so found, and where just
-/// `min` are there it may not be.
+/// It refuses as `join` does, and words of no block with `Inconsistent`. So it finds damage to the
+/// cells of one shard if there are more than `min` distinct indices. If there are just `min`, it
+/// may not.
 ///
-/// Takes memory as `join` does: who takes shards from strangers bounds `total` first.
+/// It takes memory as `join` does. Limit `total` before you join shards from someone you do not
+/// trust.
 ///
 /// ```
 /// use shard_blocks::{join_block, split_block};
@@ -191,13 +192,13 @@ fn recovered_block(alloc: Global, shards: &[Shard]) -> Result<Vec<u8>, Error>
     }
 }
 
-/// Writes the bytes of the shards over the first ones of `out`, and gives their number; `None` where
-/// there is no room for them.
+/// Joins rows of bytes, and writes the bytes of the block over the first ones of `out`. It answers
+/// how many these are, or `None` if there is no room for them.
 ///
 /// Row i of the shards has the cells of the shard with index `indices[i]`: `cols` cells of eight
-/// bytes each, the number of an element, below P, the highest byte first. It refuses as `join_block`
-/// does, and then, and where there is no room, nothing is written. Takes memory as `join_rows` does:
-/// the cells are read where they lie, and the bytes written where they are wanted.
+/// bytes each, the number of an element, below P, the highest byte first. It refuses as
+/// `join_block` does. If it refuses, or there is no room, it writes nothing. It takes memory as
+/// `join_rows` does: it reads the cells where they lie, and writes the bytes where they are wanted.
 ///
 /// ```
 /// use shard_blocks::{join_block_rows, split_block_rows};

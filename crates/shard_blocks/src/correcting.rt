@@ -24,10 +24,10 @@ pub struct JoinedBlock {
 /// Gives the bytes of the block back, however some of its shards are wrong, and says which these
 /// are.
 ///
-/// As `join_corrected` does for data: an index with unequal cells counts as missing, and of the m
-/// distinct indices that are left at most (m - `min`) / 2 have wrong shards. Where `join_block`
-/// answers a block, so does this, and leaves out none. It refuses as `join_corrected` does, and
-/// words that are those of no block with `Inconsistent`.
+/// It does for a block what `join_corrected` does for data. An index with unequal cells counts as
+/// missing, and of the m distinct indices that remain at most (m - `min`) / 2 have wrong shards. If
+/// `join_block` answers a block, so does this, and leaves out none. It refuses as `join_corrected`
+/// does, and words of no block with `Inconsistent`.
 ///
 /// ```
 /// use shard_blocks::{join_block_corrected, split_block};

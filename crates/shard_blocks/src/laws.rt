@@ -5,19 +5,19 @@ ghost use Rattle.shard_blocks.specs.Blocks.{ChosenShardsGiveBlock, HaveOneBlock,
 ghost use Rattle.shard_blocks.specs.Correcting.{HaveOneCorrectedBlock, JoinedBlocksAreCorrect};
 ghost use Rattle.shard_blocks.specs.Correcting.{OneWrongIsCorrected};
 
-/// Shards give one block back at most, and any `min` shards of a `split_block` with distinct
-/// indices give back what was split. So do shards that are the same as these, as copies are, and
-/// what is read of them again. A shard that `split_block_at` makes of a block that came back so is
-/// the shard that was there.
+/// Any `min` shards of a `split_block` with distinct indices give back what was split, and shards
+/// give one block back at most. The same holds for shards that equal these: for copies, and for
+/// shards that were written and read again. A shard that `split_block_at` makes of a block that
+/// came back so is the shard that was there.
 pub fn joined_blocks()
     ensures once { HaveOneBlock }
     ensures chosen { ChosenShardsGiveBlock }
     ensures lost { LostShardsComeBack }
 {}
 
-/// However some shards are wrong, they have one block at most; it is what `join_block` gives back
-/// where it gives one, and where the numbers of all shards agree and two more distinct indices are
-/// there than give a block back, it is what all shards but one give.
+/// Shards have one block at most, however some of them are wrong. If `join_block` gives a block
+/// back, it is this one. If the numbers of all shards agree, and there are two more distinct
+/// indices than give a block back, it is what all shards but one give.
 pub fn corrected_blocks()
     ensures once { HaveOneCorrectedBlock }
     ensures joined { JoinedBlocksAreCorrect }

@@ -1,15 +1,15 @@
 //! Blocks of bytes in shards, any `min` of which give the bytes back.
 //!
 //! A block is any list of bytes: a file is cut into blocks, and each block into shards by itself.
-//! What is split are words of 64 bits. The first is the number of bytes, and then come the bytes,
+//! It is split as words of 64 bits. The first word is the number of bytes. Then come the bytes,
 //! eight a word, the lowest byte first, with zeros after the last. So a block has one list of
-//! words, and words that begin with a number that they do not fit, or that go on with anything but
-//! zeros, are those of no block.
+//! words. Words are those of no block if they do not fit the number that they begin with, or go on
+//! with anything but zeros.
 //!
-//! Where more than `min` distinct indices are there, damage to one shard is found: the others fix
-//! the block, and the damaged one is no shard of it. Damage to several may go unnoticed. Of m
-//! distinct indices (m - `min`) / 2 may be damaged, and `join_block_corrected` gives the block, and
-//! says which shards are not of it.
+//! If there are more than `min` distinct indices, damage to one shard is found: the others fix the
+//! block, and the damaged one is no shard of it. Damage to several may go unnoticed.
+//! `join_block_corrected` gives the block back though (m - `min`) / 2 of m distinct indices are
+//! damaged, and says which shards are not of it.
 #![tactic(auto)]
 
 mod blocks;

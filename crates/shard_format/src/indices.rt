@@ -9,8 +9,8 @@ use std::alloc::Global;
 /// How many of the numbers below `total` are among the indices, in any order and some of them more
 /// than once.
 ///
-/// Of the shards of a block with these indices so many count: where these are fewer than MIN, the
-/// block is not had.
+/// So many of the shards of a block with these indices count. If they are fewer than MIN, they do
+/// not give the block back.
 pub fn count_distinct(alloc: Global, total: u32, indices: &[u32]) -> Mem<usize>
     ensures { IfOk result (λ count. count ≡ distinct_among total indices.now) }
 {

@@ -17,14 +17,14 @@ use std::alloc::Global;
 /// Combines the shares, in any order, to the secret: the sum of their values, each times the weight
 /// of its point for the value at zero.
 ///
-/// Where they are values of one polynomial of at most as many coefficients as shares, it is the
+/// If they are values of one polynomial of at most as many coefficients as shares, it is the
 /// constant of that polynomial; so any t shares of a deal combine to its secret. A share with
 /// another value than it was dealt gives another secret, unnoticed; `verify` finds such a share.
 ///
-/// It refuses with `TooFewShares` exactly where there are fewer than t, else at the first share
-/// whose index it can't take: with `ZeroIndex` where the index has the point zero, and with
-/// `RepeatedIndex` where it has the point of an index before it; or with `Memory`. By
-/// `laws::refusals_exclude` no two of these are due.
+/// It refuses with `TooFewShares` exactly if there are fewer than t. Otherwise it refuses at the
+/// first share whose index it can't take: with `ZeroIndex` if the point of the index is zero, and
+/// with `RepeatedIndex` if an index before it has the same point. It refuses with `Memory` if
+/// memory runs out. By `laws::refusals_exclude` no two of the others are due.
 ///
 /// ```
 /// use shared_secret::{combine, deal};

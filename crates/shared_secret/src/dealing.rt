@@ -18,9 +18,9 @@ use std::alloc::Global;
 /// They are the values of the polynomial whose constant is the secret and whose t - 1 other
 /// coefficients are the next samples of the source. t is at least 1, and at most n.
 ///
-/// It refuses with `TooManyWords` where one of these samples is refused, with `TooManyShares` where
-/// the point of one of the indices is zero, which only a field of characteristic at most n has, or
-/// with `Memory`.
+/// It refuses with `TooManyWords` if one of these samples is refused, and with `TooManyShares` if
+/// the point of one of the indices is zero; only a field of characteristic at most n has such a
+/// point. It refuses with `Memory` if memory runs out.
 ///
 /// ```
 /// use shared_secret::{combine, deal};
@@ -108,7 +108,7 @@ fn sampled<F: Field + Random, G: Rng + CryptoRng>(
 
 /// Makes the shares of the indices 1 to n of a polynomial: its values at their points.
 ///
-/// It refuses with `TooManyShares` where the point of one of the indices is zero, or with `Memory`.
+/// It refuses with `TooManyShares` if the point of one of the indices is zero, or with `Memory`.
 ///
 /// ```
 /// use shared_secret::shares_of;

@@ -43,9 +43,9 @@ pub fn deals_are_explained<F: Field + Random>()
     ensures { DealsAreExplained F.Ring F.sample }
 {}
 
-/// What `combine` and `combine_corrected` say of the points, where they give a secret and where
-/// they refuse them, excludes each other: so each stands exactly where it is due, but for want of
-/// memory.
+/// `combine` and `combine_corrected` say what holds of the points if they give a secret, and what
+/// if they refuse. These exclude each other: so each answer comes exactly where it is due, but for
+/// want of memory.
 pub fn refusals_exclude<F: Field>()
     ensures { RefusalsExclude F.Ring }
 {}

@@ -8,8 +8,9 @@ use math_base::algebra::{CryptoGroup, Mem, Object, Space};
 use math_poly::poly::Poly;
 use std::alloc::Global;
 
-/// Whether the generator scaled by the share's value is same as the commitment's value at the point
-/// of its index, as it is for each share that `deal_committed` deals with this commitment.
+/// Returns whether the share fits the commitment: whether the generator scaled by its value is the
+/// same as the commitment's value at the point of its index. Each share fits that `deal_committed`
+/// deals with this commitment.
 ///
 /// It says nothing of the index: `combine` refuses the index zero.
 ///

@@ -71,11 +71,12 @@ fn weights_at_points<F: Field>(alloc: Global, t: usize, points: &[F]) -> Mem<Wei
     Ok(Weights { secret, further })
 }
 
-/// The secret of shares with these weights and the values given, where none of them is wrong: the
-/// values are those of one polynomial of t coefficients, and the secret is its constant. It answers
-/// `None` exactly where there is no such polynomial.
+/// Returns the secret of shares with these weights and values, if none of them is wrong. The values
+/// are then those of one polynomial of t coefficients, and the secret is its constant. It answers
+/// `None` exactly if there is no such polynomial.
 ///
-/// The sum of products is handed in: `msm` serves every field, and one with a cheaper way takes that.
+/// The caller hands in the sum of products: `msm` serves every field, and a field with a cheaper
+/// way takes that.
 ///
 /// ```
 /// use shared_secret::{deal, secret_of, weigh};

@@ -41,8 +41,8 @@ impl<I: Ord + Drop, F: Drop> Model for Interpolator<I, F> {
 }
 
 impl<I: Ord + Drop, F: Field> Interpolator<I, F> {
-    /// Makes the interpolator for the value at zero, which is the constant coefficient. It is that
-    /// of `at`.
+    /// Makes the interpolator for the value at zero, which is the constant coefficient. It is the
+    /// one that `at` makes with zero as x.
     ///
     /// ```
     /// let points = vec![in alloc; ('a', F::from(1)), ('b', F::from(2))]?;
@@ -98,9 +98,9 @@ impl<I: Ord + Drop, F: Field> Interpolator<I, F> {
 
     /// Returns the sum of the values, each scaled by the weight of its key. No values give zero.
     ///
-    /// It is `None` exactly if the keys of `evals` are not those of the weights. If the values are
-    /// those of a polynomial of at most as many coefficients as points, the sum is its value at the
-    /// point that the weights are for.
+    /// It answers `None` exactly if the keys of `evals` are not those of the weights. If the values
+    /// are those of a polynomial of at most as many coefficients as points, the sum is its value at
+    /// the point that the weights are for.
     ///
     /// ```
     /// let interpolator = Interpolator::new(alloc, vec![in alloc; ('a', F::from(1))]?)?;

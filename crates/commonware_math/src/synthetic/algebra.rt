@@ -288,8 +288,8 @@ impl<F: Ring, G: Space<F>> Additive for Synthetic<F, G> {
         Ok(())
     }
 
-    /// The n-fold sum, n being the number that the limbs write, the lowest limb first. It has no
-    /// term where they write 0; else it has the indices and points of this combination, with n-fold
+    /// The n-fold sum, n being the number that the limbs write, the lowest limb first. If n is 0,
+    /// it has no term. Otherwise it has the indices and points of this combination, with n-fold
     /// weights.
     fn scale(&self, alloc: Global, bits_le: &[u64]) -> Mem<Self>
         ensures ok { IfOk result (λ answer.

@@ -1,11 +1,11 @@
 //! Recovery of polynomials from rows of which some are wrong.
 //!
-//! Of m filled rows at most (m - k) / 2 are wrong, where a row is wrong if any of its cells is, and
-//! the polynomials have at most k coefficients. There are such polynomials at most once, since two
+//! A row is wrong if any of its cells is. Of m filled rows at most (m - k) / 2 are wrong, and the
+//! polynomials have at most k coefficients. There are such polynomials at most once, since two
 //! would agree at k rows or more. They are recovered as if no row were wrong. A column that then
-//! has a coefficient other than zero from k on is decoded by itself; the rows at which it differs
+//! has a coefficient other than zero from k on is decoded by itself. The rows at which it differs
 //! from what is decoded are wrong for every answer, so they are dropped, and what is left is
-//! recovered again. Where more rows than (m - k) / 2 are dropped in all, there is no answer.
+//! recovered again. If more rows than (m - k) / 2 are dropped in all, there is no answer.
 
 ghost use Rattle.std.specs.Prelude.{
   ◌≡◌,
@@ -71,23 +71,17 @@ impl<F: FieldNTT> EvaluationVector<F> {
     /// Recovers the polynomials from the filled rows, though some of these are wrong, and says
     /// which.
     ///
-    /// In each column it is the polynomial with N coefficients, N being the number of rows, whose
-    /// coefficients from `count` on are zero and which has the cells of all filled rows but some as
-    /// its values. These wrong rows are the same for all columns, and at most (m - count) / 2 of
-    /// the m filled ones: then these are the only such polynomials. It answers `None` exactly where
-    /// there are none. Where more rows are wrong, that may be so, or the rows may fit other
-    /// polynomials, which are then answered.
+    /// Let N be the number of rows, and m that of the filled ones. The polynomial of a column has
+    /// the cells of the filled rows as its values, but for the wrong rows. It has N coefficients,
+    /// and those from `count` on are zero. The wrong rows are the same for all columns, and at most
+    /// (m - count) / 2. There are such polynomials at most once.
     ///
-    /// In each column it is the polynomial with N coefficients, N being the number of rows, whose
-    /// coefficients from `count` on are zero and which has the cells of all filled rows but some as
-    /// its values. These wrong rows are the same for all columns, and at most (m - count) / 2 of
-    /// the m filled ones: then these are the only such polynomials. It answers `None` exactly where
-    /// there are none. Where more rows are wrong, that may be so, or the rows may fit other
-    /// polynomials, which are then answered.
+    /// It answers `None` exactly if there are none. If more rows are wrong, that may be so, or the
+    /// rows may fit other polynomials, which it then answers.
     ///
-    /// lg N is at most `F::MAX_LG_ROOT_ORDER`, and `count` is at most the number of filled rows.
-    /// Takes memory for a copy of the cells beside that of `recover`, and for a column that is
-    /// wrong for some lists of m elements.
+    /// lg N is at most `F::MAX_LG_ROOT_ORDER`, and `count` is at most m. Beside the memory of
+    /// `recover` it takes memory for a copy of the cells, and for a column that is wrong some lists
+    /// of m elements.
     ///
     /// ```
     /// let cells = vec![in alloc; F::from(4), F::from(4), F::from(6), F::from(4)]?;
@@ -112,9 +106,9 @@ impl<F: FieldNTT> EvaluationVector<F> {
         Ok(out)
     }
 
-    /// Does what `correct` does, and adds the work of the transforms. That is the work of at most
-    /// (m - count) / 2 + 1 recoveries of m filled rows, whatever the outcome, and exactly that of
-    /// one recovery where no row is wrong.
+    /// Does what `correct` does, and adds the work of the transforms. Whatever the outcome, that is
+    /// the work of at most (m - count) / 2 + 1 recoveries of m filled rows. If no row is wrong, it
+    /// is exactly the work of one recovery.
     ///
     /// A call that is not refused adds at least the work of one recovery. A refused one does so
     /// too, unless its first recovery was refused: then it adds what a refused recovery does.

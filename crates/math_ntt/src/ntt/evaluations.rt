@@ -31,9 +31,10 @@ use math_transforms::vanishing_points::VanishingPoints;
 use std::alloc::Global;
 use std::marker::Model;
 
-/// Values of polynomials at the points of a domain of a power of two of points, one polynomial a
-/// column: row i holds the value of each at point i, which is power i of the root. Some rows are
-/// filled, and the others are to be recovered.
+/// Values of polynomials at the points of a domain, one polynomial a column.
+///
+/// The number of points is a power of two. Row i holds the value of each polynomial at point i,
+/// which is power i of the root. Some rows are filled, and the others are missing.
 ///
 /// ```
 /// let mut values = EvaluationVector::empty(alloc, 2, 1)?;
@@ -85,8 +86,8 @@ impl<F: Additive> EvaluationVector<F> {
     }
 
     /// Puts copies of `data` in place of the first cells of a row, which counts as filled from then
-    /// on. The further cells are as they were. Where it is refused, all of them are, and so is what
-    /// counts as filled: each copy is made before the first cell is written.
+    /// on. The further cells stay as they were. If it is refused, nothing changes: it makes each
+    /// copy before it writes the first cell.
     ///
     /// `row` is below the number of rows, and `data` has no more items than there are columns.
     ///
@@ -113,7 +114,7 @@ impl<F: Additive> EvaluationVector<F> {
 }
 
 impl<F: Drop> EvaluationVector<F> {
-    /// Takes the rows of the matrix as values. Those are filled whose truth value is `true`. The
+    /// Takes the rows of the matrix as values. A row is filled if its truth value is `true`. The
     /// number of rows is a power of two, and there is a truth value for each.
     ///
     /// ```
@@ -165,8 +166,8 @@ impl<F: Drop> EvaluationVector<F> {
 }
 
 impl<F: Object> EvaluationVector<F> {
-    /// Returns whether both have as many rows, as many columns, in each place the same cell, and
-    /// the same rows are filled. Where calls on cells are never refused, neither is this one.
+    /// Returns whether both have as many rows, as many columns, the same cell in each place, and
+    /// the same filled rows. If calls on cells are never refused, neither is this one.
     ///
     /// ```
     /// let mut values = EvaluationVector::empty(alloc, 1, 1)?;

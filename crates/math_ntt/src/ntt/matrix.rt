@@ -71,9 +71,9 @@ impl<F: Drop> Model for Matrix<F> {
 }
 
 impl<F: Additive> Matrix<F> {
-    /// Makes the matrix whose cells are the items of `data`, row by row. Where there are fewer
-    /// items than cells, the further cells are zero. No more items than cells are asked for, so
-    /// `data` need not end. The number of cells is below 2^64.
+    /// Makes the matrix whose cells are the items of `data`, row by row. If there are fewer items
+    /// than cells, the further cells are zero. It asks for no more items than cells, so `data` need
+    /// not end. The number of cells is below 2^64.
     ///
     /// ```
     /// let m = Matrix::init(alloc, 2, 2, vec![in alloc; F::from(4), F::from(6), F::from(8)]?)?;
@@ -106,14 +106,11 @@ impl<F: Additive> Matrix<F> {
     /// Multiplies the matrices.
     ///
     /// The cell in row i and column k of the product is the sum over j of the cell in row i and
-    /// column j of this matrix times the cell in row j and column k of `other`.
-    ///
-    /// The cell in row i and column k of the product is the sum over j of the cell in row i and
-    /// column j of this matrix times the cell in row j and column k of `other`.
+    /// column j of this matrix times the cell in row j and column k of `other`. This matrix has as
+    /// many columns as `other` has rows, and the number of cells of the product is below 2^64.
     ///
     /// Row i of the product is the sum of the rows of `other`, row j scaled by cell j of row i
-    /// here. So both matrices are read along their rows. This matrix has as many columns as `other`
-    /// has rows, and the number of cells of the product is below 2^64.
+    /// here. So it reads both matrices along their rows.
     ///
     /// ```
     /// let cells = vec![in alloc; F::from(1), F::from(2), F::from(3), F::from(4)]?;
@@ -270,8 +267,8 @@ impl<F: Object> Matrix<F> {
         })
     }
 
-    /// Returns whether both have as many rows, as many columns, and in each place the same cell.
-    /// Where calls on cells are never refused, neither is this one.
+    /// Returns whether both have as many rows, as many columns, and in each place the same cell. If
+    /// calls on cells are never refused, neither is this one.
     ///
     /// ```
     /// let m = Matrix::from_cells(1, 2, vec![in alloc; F::from(4), F::from(6)]?);

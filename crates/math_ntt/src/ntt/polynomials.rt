@@ -40,7 +40,7 @@ use math_transforms::work::Work;
 use std::alloc::Global;
 use std::marker::Model;
 
-/// Polynomials with the same number of coefficients, a power of two, one polynomial a column: row i
+/// Polynomials with the same number of coefficients, a power of two, one polynomial a column. Row i
 /// holds coefficient i of each. The last coefficients may be zero.
 ///
 /// ```
@@ -69,15 +69,11 @@ impl<F: Additive> Matrix<F> {
     /// Makes the polynomials whose coefficients are the columns of this matrix, from the constant
     /// upwards.
     ///
-    /// They are filled up with zeros to N rows, where N is the least power of two that is
-    /// `min_coefficients` or more. Where `min_coefficients` is 0, or less than the number of rows,
-    /// it is `None`.
+    /// Zeros fill them up to N rows, where N is the least power of two that is `min_coefficients`
+    /// or more. N, and N times the number of columns, have to be below 2^64.
     ///
-    /// They are filled up with zeros to N rows, where N is the least power of two that is
-    /// `min_coefficients` or more. Where `min_coefficients` is 0, or less than the number of rows,
-    /// it is `None`.
-    ///
-    /// Where it is `Some`, N and N times the number of columns have to be below 2^64.
+    /// It answers `None` if `min_coefficients` is 0, or less than the number of rows; N may then be
+    /// any.
     ///
     /// ```
     /// let m = Matrix::from_cells(1, 2, vec![in alloc; F::from(4), F::from(6)]?);
@@ -134,7 +130,7 @@ impl<F: Drop> PolynomialVector<F> {
         self.coefficients
     }
 
-    /// Gives the rows of the coefficients from the constants upwards, n rows or all where they are
+    /// Gives the first n rows of the coefficients, from the constants upwards, or all if they are
     /// fewer. Each row has one coefficient a polynomial.
     ///
     /// ```
@@ -171,8 +167,7 @@ impl<F: Object> PolynomialVector<F> {
     }
 
     /// Returns whether both have as many polynomials, as many coefficients of each, and in each
-    /// place the same coefficient. Where calls on coefficients are never refused, neither is this
-    /// one.
+    /// place the same coefficient. If calls on coefficients are never refused, neither is this one.
     ///
     /// ```
     /// let m = Matrix::from_cells(2, 1, vec![in alloc; F::from(4), F::from(6)]?);
@@ -192,7 +187,7 @@ impl<F: FieldNTT> PolynomialVector<F> {
     /// rows. In each column cell j is the value of that column's polynomial at power j. All rows
     /// are filled.
     ///
-    /// lg N is at most `F::MAX_LG_ROOT_ORDER`. Takes memory for a table of N elements and for a
+    /// lg N is at most `F::MAX_LG_ROOT_ORDER`. It takes memory for a table of N elements and for a
     /// bitmap of N bits; the values stand where the coefficients stood.
     ///
     /// ```
@@ -213,11 +208,11 @@ impl<F: FieldNTT> PolynomialVector<F> {
     }
 
     /// Does what `evaluate` does, and adds the work that was done. That is c N lg N / 2 butterflies
-    /// for c columns, or at most so many where it is refused, and no root product.
+    /// for c columns, or at most so many if it is refused, and no root product.
     ///
-    /// At entry `work` has at most 2^127 butterflies. The memory for the table and the bitmap is
-    /// taken before the first butterfly: where calls on elements are never refused, a call that is
-    /// refused adds nothing.
+    /// At entry `work` has at most 2^127 butterflies. It takes the memory for the table and the
+    /// bitmap before the first butterfly: if calls on elements are never refused, a refused call
+    /// adds nothing.
     ///
     /// ```
     /// let m = Matrix::init(alloc, 4, 1, vec![in alloc; F::from(5), F::from(2)]?)?;

@@ -4,14 +4,14 @@
 //! the missing rows. Let f be the polynomial that fits the filled cells of a column: its
 //! coefficients from the number of filled rows on are zero, so that f V has at most N coefficients.
 //! On the domain the values of f V are the cells times the values of V, whatever the missing cells
-//! hold, since V is zero there. So f V is had by interpolation. On the domain it can't be divided
-//! by V, but on the coset of the domain by the shift V has no zero: there f V and V are evaluated,
-//! the quotients are values of f, and these are interpolated. The points of the coset are a tree
-//! with another start, so nothing but the tree changes from the one to the other. Rows are put in the
+//! hold, since V is zero there. So interpolation gives f V. On the domain V has zeros, so f V can't
+//! be divided by it. On the coset of the domain by the shift V has none: f V and V are evaluated
+//! there, the quotients are values of f, and these are interpolated. The points of the coset are a
+//! tree with another start, so only the tree changes from the one to the other. Rows are put in the
 //! order of the trees once, at the beginning.
 //!
-//! One inversion serves all divisions. With no row filled the answer is zero, and with all it is
-//! what has the cells as its values: then there is no polynomial that vanishes, and each is one
+//! One inversion serves all divisions. If no row is filled, the answer is zero. If all are, it is
+//! what has the cells as its values. Neither takes a polynomial that vanishes, and each is one
 //! interpolation.
 
 ghost use Rattle.std.specs.Prelude.{
@@ -69,15 +69,11 @@ use std::alloc::Global;
 impl<F: FieldNTT> EvaluationVector<F> {
     /// Recovers the polynomials from the filled rows.
     ///
-    /// In each column it is the polynomial with N coefficients, N being the number of rows, that
-    /// has the cells of the filled rows as its values, and whose coefficients from the number of
-    /// filled rows on are zero. It is the only one.
+    /// Let N be the number of rows, and m that of the filled ones. The polynomial of a column has
+    /// the cells of the filled rows as its values. It has N coefficients, and those from m on are
+    /// zero. It is the only such polynomial.
     ///
-    /// In each column it is the polynomial with N coefficients, N being the number of rows, that
-    /// has the cells of the filled rows as its values, and whose coefficients from the number of
-    /// filled rows on are zero. It is the only one.
-    ///
-    /// lg N is at most `F::MAX_LG_ROOT_ORDER`. Takes memory for about five columns of cells: the
+    /// lg N is at most `F::MAX_LG_ROOT_ORDER`. It takes memory for about five columns of cells: the
     /// coefficients stand where the cells stood.
     ///
     /// ```
@@ -100,15 +96,18 @@ impl<F: FieldNTT> EvaluationVector<F> {
     /// Does what `recover` does, and adds the work that was done.
     ///
     /// At entry `work` has at most 2^127 butterflies and at most 2^127 root products. Whatever the
-    /// outcome, at most N lg N (3 lg N + 3 c + 2) / 2 butterflies and 128 N root products are
-    /// added, c being the number of columns. Where no row or all rows are filled, c N lg N / 2
-    /// butterflies are, and no root product. Where v rows are missing, some and not all,
-    /// N lg N (3 c + 3) / 2 butterflies are at least; and where lg N is at most 8, just these, and
-    /// v (v + 1) / 2 root products.
+    /// outcome, the call adds at most N lg N (3 lg N + 3 c + 2) / 2 butterflies and 128 N root
+    /// products, c being the number of columns.
     ///
-    /// A refused call adds no more than one that succeeds, and with lg N at most 8 no butterfly
-    /// before all root products. Where no row or all rows are filled, and calls on elements are
-    /// never refused, it adds nothing: its own memory is taken before the first butterfly.
+    /// A call that succeeds adds:
+    ///
+    /// - c N lg N / 2 butterflies and no root product, if no row or all rows are filled;
+    /// - at least N lg N (3 c + 3) / 2 butterflies, if v rows are missing, some and not all. If lg
+    ///   N is at most 8, it adds just these, and v (v + 1) / 2 root products.
+    ///
+    /// A refused call adds no more than one that succeeds. If lg N is at most 8, it adds no
+    /// butterfly before all root products. If no row or all rows are filled, and calls on elements
+    /// are never refused, it adds nothing: it takes its own memory before the first butterfly.
     ///
     /// ```
     /// let mut values = EvaluationVector::empty(alloc, 1, 1)?;
@@ -272,9 +271,9 @@ fn moved_to_coset<F: FieldNTT>(
     Ok(())
 }
 
-/// The coefficients of the quotients in each column, from 2^lg times the values of the dividends and
-/// of the divisor on the coset, in bit-reversed order. The values of the quotients are also divided
-/// by 2^lg, since the way back multiplies by it.
+/// The coefficients of the quotients in each column, from 2^lg times the values of the dividends
+/// and of the divisor on the coset, in bit-reversed order. The values of the quotients are also
+/// divided by 2^lg, since the way back multiplies by it.
 fn quotients_from_coset<F: FieldNTT>(
     alloc: Global,
     cells: &mut [F],

@@ -268,8 +268,8 @@ impl<K: Additive> Additive for Poly<K> {
         Ok(())
     }
 
-    /// The n-fold sum, n being the number that the limbs write, the lowest limb first. It is zero,
-    /// with one stored coefficient, where they write 0; else it stores as many coefficients as this
+    /// The n-fold sum, n being the number that the limbs write, the lowest limb first. If n is 0,
+    /// it is zero, with one stored coefficient. Otherwise it stores as many coefficients as this
     /// one.
     ///
     /// ```

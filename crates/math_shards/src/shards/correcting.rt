@@ -1,10 +1,10 @@
 //! Shards to data, where some shards are wrong.
 //!
-//! The shards of one index have equal cells, where none of them is wrong. So an index with unequal
+//! The shards of one index have equal cells if none of them is wrong. So an index with unequal
 //! cells tells nothing of the data, and counts as missing until they are known. The rows of the m
-//! settled indices are corrected: of these at most (m - `min`) / 2 are wrong, and then there is one
-//! list of data at most, since two would agree at `min` indices or more. The shards that are left
-//! out are those that differ from the values of the data's polynomials at their index.
+//! settled indices are corrected: at most (m - `min`) / 2 of them are wrong. Then there is one list
+//! of data at most, since two would agree at `min` indices or more. The shards that are left out
+//! are those that differ from the values of the data's polynomials at their index.
 
 ghost use Rattle.std.specs.Prelude.{◌≡◌, ◌*◌, ◌<◌, ◌≤◌, ◌^◌, ℕ, List, All, length, take};
 ghost use Rattle.std.specs.Prelude.{IfOk, IfErr, IfSome, IsSome, MatchResult};
@@ -41,19 +41,20 @@ pub struct Joined {
 
 /// Gives the data of the shards back, however some of them are wrong, and says which these are.
 ///
-/// An index with unequal cells counts as missing, and of its shards those of the data are not left
-/// out in the end. Of the m distinct indices that are left at most (m - `min`) / 2 have wrong
-/// shards: then these are the only such data. Where more are wrong, there may be no such data, or
-/// others, which are then answered. All shards of `join` are right, and it answers the same data.
+/// An index with unequal cells counts as missing; those of its shards that are shards of the data
+/// are not left out in the end. Of the m distinct indices that remain at most (m - `min`) / 2 have
+/// wrong shards, so these are the only such data. If more are wrong, there may be no such data, or
+/// others, which it then answers. If `join` takes the shards, all are right, and it answers the
+/// same data.
 ///
-/// It refuses as `join` does, but that there is no `Conflict`: no shard at all with `TooFew`, the
-/// first shard that has other numbers with `Mismatch`, or an index out of range with `Index`; m
-/// below `min` with `TooFew`; and shards for which there are no such data with `Inconsistent`.
+/// It refuses as `join` does, but never with `Conflict`: no shard at all with `TooFew`; the first
+/// shard with other numbers with `Mismatch`, or with an index out of range with `Index`; m below
+/// `min` with `TooFew`; and shards of no such data with `Inconsistent`.
 ///
-/// Shards that `join` takes are joined, and none is left out. Where others are handed in, memory is
-/// taken for several times N rows of as many cells as a shard has, where N is `total` rounded up to
-/// a power of two. The cells of two shards are then compared where these have one index, for which
-/// each shard's index is read for each shard.
+/// It joins shards that `join` takes, and leaves none out. For others it takes memory for several
+/// times N rows of as many cells as a shard has, where N is `total` rounded up to a power of two.
+/// It then compares the cells of shards of one index; for each shard it reads the indices of all
+/// shards to find these.
 ///
 /// ```
 /// let mut shards = split(alloc, &[4, 6, 8], 2, 5)?;

@@ -30,23 +30,33 @@ use std::alloc::{AllocError, Global};
 /// Gives the data of the shards back: the only data of which each shard is one. A shard that is
 /// handed in twice counts once.
 ///
-/// It refuses, in this order: no shard at all with `TooFew`; the first shard, as they are handed
-/// in, whose `min`, `total` or number of cells is not that of the first one, or not 1 <= `min` <=
-/// `total`, with `Mismatch`, and the first whose index is `total` or more with `Index`; unequal
-/// cells of one index with `Conflict`; fewer distinct indices than `min` with `TooFew`; and shards
-/// that are those of no data with `Inconsistent`. Where shards of more than `min` distinct indices
-/// are there, damage to cells of one is so found, and where just `min` are there it may not be.
+/// It refuses, in this order:
 ///
-/// The first `min` shards of distinct indices are joined: beside the data that takes memory for as
-/// many elements as these shards have cells. Where `min` is small, and no more than a shard has
-/// cells, it is done by weights, in memory for a few times N rows of `min` cells, where N is
-/// `total` rounded up to a power of two; and else by transforms of strips of columns, in memory for
-/// a few times N elements and for one strip of N rows. All shards are then compared with the data
-/// where there are further ones, in memory for a table and a strip of a coset of as many points as
-/// `min`, or more. Where they fit no data, memory for `total` numbers and for the cells of a shard
-/// is taken to tell which refusal is due. Who takes shards from strangers bounds `total` first.
-/// Nothing is allocated by a number that a shard claims of its data before the cells are seen to be
-/// so many.
+/// - no shard at all, with `TooFew`;
+/// - the first shard, as they are handed in, with a wrong number: with `Mismatch` if its `min`, its
+///   `total` or its number of cells is not that of the first shard, or not 1 <= `min` <= `total`,
+///   and with `Index` if its index is `total` or more;
+/// - unequal cells of one index, with `Conflict`;
+/// - fewer distinct indices than `min`, with `TooFew`;
+/// - shards of no data, with `Inconsistent`.
+///
+/// So it finds damage to the cells of one shard if there are more than `min` distinct indices. If
+/// there are just `min`, it may not.
+///
+/// It joins the first `min` shards of distinct indices. Let N be `total` rounded up to a power of
+/// two. Beside the data, it takes memory for as many elements as these shards have cells, and:
+///
+/// - If `min` is small, and no more than a shard has cells, it joins by weights, in memory for a
+///   few times N rows of `min` cells.
+/// - Otherwise it joins by transforms of strips of columns, in memory for a few times N elements
+///   and for one strip of N rows.
+/// - If there are further shards, it then compares all shards with the data, in memory for a table
+///   and a strip of a coset of `min` points or more.
+/// - If the shards fit no data, it takes memory for `total` numbers and for the cells of a shard,
+///   to tell which refusal is due.
+///
+/// Limit `total` before you join shards from someone you do not trust. No memory is taken for the
+/// number of words that shards claim to hold before they are seen to have so many cells.
 ///
 /// ```
 /// let mut shards = split(alloc, &[4, 6, 8], 2, 5)?;

@@ -34,9 +34,9 @@ fn cell_row<'a, C: Cell>(index: u32, cells: &'a [C], i: usize, cols: usize) -> C
     }
 }
 
-/// Makes the shards whose cells these are: row i holds the cells of the shard with index
-/// `indices[i]`, each as the number of an element, below P, in a word or in eight bytes. All have
-/// these numbers, and `cols` cells.
+/// Makes shards of rows of cells. Row i holds the cells of the shard with index `indices[i]`, each
+/// as the number of an element, below P, in a word or in eight bytes. All shards have this `min`,
+/// this `total` and `cols` cells.
 ///
 /// ```
 /// let mut cells = [0; 8];
@@ -106,13 +106,13 @@ fn are_below(numbers: &[u32], bound: u32) -> bool
     numbers.iter().all(|n| *n < bound)
 }
 
-/// Writes the data of the shards whose cells the words are over the first words of `out`, and gives
-/// the number of these; `None` where there is no room for them.
+/// Joins rows of words, and writes the data over the first words of `out`. It answers how many
+/// these are, or `None` if there is no room for them.
 ///
 /// Row i holds the cells of the shard with index `indices[i]`, each as the number of an element,
-/// below P; a row has `cols` words. It refuses as `join` does, and then, and where there is no
-/// room, nothing is written. It takes memory for as many elements as `min` rows have words, for the
-/// weights or the transforms of a strip, and beside further rows for a strip of a coset.
+/// below P; a row has `cols` words. It refuses as `join` does. If it refuses, or there is no room,
+/// it writes nothing. It takes memory for as many elements as `min` rows have words, for the
+/// weights or the transforms of a strip, and, if there are further rows, for a strip of a coset.
 ///
 /// ```
 /// let mut cells = [0; 8];
@@ -150,9 +150,9 @@ pub fn join_rows(
     Ok(Some(count))
 }
 
-/// Gives the data of the shards whose cells these are back, packed, as `join_rows` does: row i holds
-/// the cells of the shard with index `indices[i]`, each as the number of an element, below P, in a
-/// word or in eight bytes.
+/// Joins rows of cells as `join_rows` does, and gives the data packed. Row i holds the cells of the
+/// shard with index `indices[i]`, each as the number of an element, below P, in a word or in eight
+/// bytes.
 ///
 /// ```
 /// let mut cells = [0_u64; 8];

@@ -2,9 +2,9 @@
 //!
 //! Let k rows of distinct indices be there, as many as give the data back. The cells of a column
 //! are the values of one polynomial of k coefficients at the points of these indices, and its
-//! coefficients are written over them. Two ways lead there. By weights each coefficient takes k
+//! coefficients are written over them. There are two ways. By weights each coefficient takes k
 //! products. By transforms (`math_restoring`) it takes some products for each row and level of the
-//! domain, so that is the faster way where k is large.
+//! domain, which is faster where k is large.
 
 ghost use Rattle.std.specs.Prelude.{◌≡◌, ◌*◌, ◌<◌, ◌≤◌, ◌^◌, ℕ, All, length, map};
 ghost use Rattle.std.specs.Prelude.{IfOk, IfSome, IfNone, OnOk};

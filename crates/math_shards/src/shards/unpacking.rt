@@ -3,9 +3,8 @@
 //! Word i that elements unpack to has 64 bits, of which the first is bit 64 i of the elements,
 //! which have 63 each. Write i as 63 a + b with b below 63, and let q be 64 a + b, which is i + a.
 //! Then 64 i is 63 q + b: the 63 - b highest bits of element q are the lowest of the word, and the
-//! others are the lowest of element q + 1. So any word is had from two elements, and no list of all
-//! words is made. Within a run of 63 words, b and the place of the element rise by one with each
-//! word.
+//! others are the lowest of element q + 1. So two elements give any word, and no list of all words
+//! is made. Within a run of 63 words, b and the place of the element rise by one with each word.
 
 ghost use Rattle.std.specs.Prelude.{◌≡◌, ◌↔◌, ◌+◌, ◌*◌, ◌%◌, ◌<◌};
 ghost use Rattle.std.specs.Prelude.{◌≤◌, ◌^◌, ℕ, List, All, length};
@@ -41,14 +40,14 @@ pub struct PackedData {
 }
 
 impl PackedData {
-    /// How many words the data are.
+    /// Returns how many words the data are.
     pub fn count(&self) -> usize
         ensures { (words : List ℕ) → HoldsWords words self.now → result ≡ length words }
     {
         self.count
     }
 
-    /// The word in this place, which is below the number of the words.
+    /// Returns the word in this place, which is below the number of words.
     pub fn word(&self, place: usize) -> u64
         requires { place < 2 ^ 62 }
         ensures { (words : List ℕ) → HoldsWords words self.now → place < length words
@@ -57,7 +56,8 @@ impl PackedData {
         word_at(&self.elements, place + 1)
     }
 
-    /// Writes the words from this place on over those of `out`. So many have to be there.
+    /// Writes the words from place `first` on over those of `out`. The data have to have as many
+    /// from there on.
     pub fn write(&self, first: usize, out: &mut [u64])
         requires { first + length out.old < 2 ^ 62 }
         ensures { (words : List ℕ) → HoldsWords words self.now
@@ -67,7 +67,7 @@ impl PackedData {
         write_unpacked(&self.elements, first + 1, out);
     }
 
-    /// A list of all words.
+    /// Returns a list of all words.
     pub fn words(&self, alloc: Global) -> Mem<Vec<u64>>
         ensures { (words : List ℕ) → HoldsWords words self.now
             → IfOk result (λ out. out.items ≡ words) }

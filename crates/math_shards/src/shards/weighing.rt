@@ -3,10 +3,10 @@
 //! Let there be k shards of distinct indices, where k of them give the data back. For each of them
 //! there is one polynomial of k coefficients that is one at its index, and zero at those of the
 //! others. The sum of these, each times cell j of its shard, has the cells j of all shards as its
-//! values, and so it is the polynomial of column j, since no other one of k coefficients has them.
-//! So coefficient r of column j is the sum of the cells j of all shards, each times coefficient r
-//! of its polynomial: these weights are the same for all columns. They are had by a recovery from k
-//! rows of k cells, in which the row of shard i has one in place i and zero in every other. Each
+//! values. So it is the polynomial of column j, since no other one of k coefficients has them.
+//! Coefficient r of column j is then the sum of the cells j of all shards, each times coefficient r
+//! of its polynomial: these weights are the same for all columns. A recovery from k rows of k cells
+//! gives the weights: the row of shard i has one in place i and zero in every other. Each
 //! coefficient then takes k products and one reduction, and the coefficients of a column are
 //! written over its cells.
 

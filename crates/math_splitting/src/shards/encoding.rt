@@ -36,8 +36,8 @@ impl Read for Shard {
 
     /// Reads the index, `min`, `total`, and the list of the cells.
     ///
-    /// It refuses with the faults of each in this order, `InvalidLength` where there are more cells
-    /// than the greatest number among them. Any three numbers are read.
+    /// It refuses with the first fault of these, in this order; more cells than the greatest number
+    /// are `InvalidLength`. It takes any index, `min` and `total`.
     #[tactic(auto, unfolding(crate::specs::ShardEncoding::scan_shard))]
     fn read_cfg(alloc: Global, input: &mut &[u8], cfg: &u32) -> Result<Shard, Error> {
         let mut rest = *input;

@@ -1,7 +1,7 @@
 //! Data that are split, as they lie in the caller's memory.
 //!
-//! Words are read as they are wanted, from a list of words or from the bytes of a block: so no list
-//! of words is made of bytes.
+//! Words are read one by one, from a list of words or from the bytes of a block, so no list of
+//! words is made of bytes.
 
 ghost use Rattle.std.specs.Prelude.{◌≡◌, ◌<◌, ◌^◌, ℕ, length, slice_index};
 ghost use Rattle.std.specs.Int.{from_le_bytes, w64};
@@ -11,7 +11,7 @@ ghost use Rattle.math_splitting.specs.DataWords.{front_count, words_in};
 pub trait Word: Copy {
     ghost word: { Self → ℕ };
 
-    /// The word.
+    /// Returns the word.
     fn word(self) -> u64
         ensures { result ≡ word self };
 }
@@ -32,15 +32,14 @@ impl Word for [u8; 8] {
     }
 }
 
-/// Words of data: a first one that stands apart, where there is one, then those of a slice, and
-/// then a last one that stands apart, where there is one.
+/// Words of data: those of a slice, with or without a word before them and a word after them.
 #[derive(Clone, Copy)]
 pub struct Source<'a, W> {
-    /// The first word.
+    /// The word before those of the slice.
     pub first: Option<u64>,
     /// The words of a slice.
     pub words: &'a [W],
-    /// The last word.
+    /// The word after those of the slice.
     pub last: Option<u64>,
 }
 

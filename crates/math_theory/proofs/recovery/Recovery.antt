@@ -1,5 +1,5 @@
--- Recovery: on the domain of the powers of w, the polynomial that agrees with the filled cells is had from the cells times the values of a polynomial
--- that vanishes at the missing points.
+-- Recovery: on the domain of the powers of w, the cells times the values of a polynomial that vanishes at the missing points give the polynomial that
+-- agrees with the filled cells.
 use Rattle.std.proofs.Common.{◌≡◌, ◌≢◌, ℕ, suc, ◌+◌, ◌-◌, ◌*◌, ◌<◌, ◌≤◌, List, ◌++◌, replicate, Bool, false, length, get_or, map, inl, inr, sym, ◌∙◌, ap, subst, arith}
 use Rattle.std.proofs.lemmas.Bool.{cases_Bool}
 use Rattle.std.proofs.lemmas.List.{length-append, length-map, length-replicate, get_or_past}

@@ -15,8 +15,8 @@ use std::alloc::Global;
 use std::num::NonZeroU32;
 
 impl<I: Ord + Drop, F: FieldNTT> Interpolator<I, F> {
-    /// Makes the interpolator for the value at zero over roots of unity. It is that of
-    /// `roots_of_unity_at`.
+    /// Makes the interpolator for the value at zero over roots of unity. It is the one that
+    /// `roots_of_unity_at` makes with zero as x.
     ///
     /// ```
     /// let indices = BiMap::try_from_iter(alloc, vec![in alloc; ('a', 1), ('b', 4)]?)?;

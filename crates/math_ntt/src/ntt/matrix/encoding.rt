@@ -64,12 +64,13 @@ impl<F: Read + Drop> Read for Matrix<F> {
 
     /// Reads the number of rows, the number of columns, and the list of the cells.
     ///
-    /// It refuses with the faults of each in this order, `InvalidLength` where a count is above the
-    /// greatest one among them, and then with `Invalid` where the list does not have rows times
-    /// columns cells.
+    /// It refuses with the first fault of these, in this order; a count above the greatest one is
+    /// `InvalidLength`. If the list does not have rows times columns cells, it then refuses with
+    /// `Invalid`.
     ///
     /// A matrix without columns may have as many rows as the greatest count, and no byte stands for
-    /// them: who goes over the rows of a matrix from outside bounds their number by that count.
+    /// them. If you go over the rows of a matrix from outside, that count has to limit their
+    /// number.
     #[tactic(auto, unfolding(crate::specs::MatrixEncoding::scan_matrix))]
     fn read_cfg(alloc: Global, input: &mut &[u8], cfg: &(u32, F::Cfg)) -> Result<Matrix<F>, Error> {
         let mut rest = *input;
