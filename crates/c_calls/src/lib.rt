@@ -1,8 +1,8 @@
 //! What the library for C does, over words and bytes in the caller's memory: polynomials over the
 //! Goldilocks field, and shards.
 //!
-//! The exports call it from `commonware_math_c`, a static library, of which nothing is kept that was
-//! proved. What stands here is proved once for all archives.
+//! The exports of `commonware_math_c` call it. They are a static library, of which the kit keeps
+//! nothing that was proved; what stands here is proved once for all archives.
 #![tactic(auto)]
 
 pub mod blocks;

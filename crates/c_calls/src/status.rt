@@ -19,17 +19,16 @@ pub enum Status {
     /// A number of words, rows or columns is none that the call takes, or there is no room for the
     /// answer.
     WrongSize = 3,
-    /// Fewer than `min` distinct indices of shards are there, or fewer filled rows than
+    /// There are fewer than `min` distinct indices of shards, or fewer filled rows than
     /// coefficients.
     TooFew = 4,
     /// Not 1 <= `min` <= `total`.
     Mismatch = 5,
-    /// An index is not below the total, or of weights not above the one before it.
+    /// An index is not below the total, or, for weights, not above the one before it.
     WrongIndex = 6,
     /// Two shards have one index and unequal cells.
     Conflict = 7,
-    /// There is no answer that fits: no data that have each of the shards, or no polynomial near
-    /// the values.
+    /// Nothing fits: no data have all of the shards, or no polynomial is near the values.
     Inconsistent = 8,
     /// The bytes end within a polynomial.
     EndOfBuffer = 9,

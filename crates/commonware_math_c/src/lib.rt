@@ -1,9 +1,9 @@
 //! The library for callers in C: polynomials over the Goldilocks field as words in the caller's
 //! memory.
 //!
-//! Each function is a few lines over safe ones of `c_calls`, which have the work and its contracts
-//! over elements. What it answers is a status; `include/commonware_math.h` says what a caller has to
-//! know. A slice crosses as a pointer and a length, and a `Global` takes no place among the
+//! Each function is a few lines over safe ones of `c_calls`, which do the work and have its
+//! contracts over elements. It answers a status; `include/commonware_math.h` says what a caller has
+//! to know. A slice crosses as a pointer and a length, and a `Global` takes no place among the
 //! arguments.
 #![tactic(auto)]
 
@@ -38,7 +38,7 @@ use commonware_math::shards::join_rows;
 use std::alloc::Global;
 use std::num::NonZeroU32;
 
-/// The value at x of the polynomial with these coefficients, from the constant upwards.
+/// Writes the value at x of the polynomial with these coefficients, from the constant upwards.
 #[unsafe(no_mangle)]
 pub extern "C" fn cwm_eval(alloc: Global, coefficients: &[u64], x: u64, out: &mut u64) -> u32
     ensures value { result ≡ done
@@ -424,8 +424,8 @@ pub extern "C" fn cwm_join(
     }
 }
 
-/// As `cwm_join`, however some of the shards are wrong: writes the positions of these, rising, over
-/// the first items of `left_out` too.
+/// Does what `cwm_join` does though some of the shards are wrong, and writes the positions of
+/// these, rising, over the first items of `left_out`.
 #[unsafe(no_mangle)]
 pub extern "C" fn cwm_join_corrected(
     alloc: Global,
@@ -569,8 +569,8 @@ pub extern "C" fn cwm_join_bytes(
     }
 }
 
-/// As `cwm_join_bytes`, however some of the shards are wrong: writes the positions of these, rising,
-/// over the first items of `left_out` too.
+/// Does what `cwm_join_bytes` does though some of the shards are wrong, and writes the positions of
+/// these, rising, over the first items of `left_out`.
 #[unsafe(no_mangle)]
 pub extern "C" fn cwm_join_bytes_corrected(
     alloc: Global,

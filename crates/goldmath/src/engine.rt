@@ -139,8 +139,9 @@ fn run_recover(alloc: Global, words: &[String], bytes: &[u8]) -> Result<Vec<u8>,
 /// a ROW for each row of the matrix, or 2^LG rows of its columns would be more than 2^24 cells, the
 /// matrix is refused with `Invalid`.
 ///
-/// Any other words are `Usage`; a fault of the words comes before any fault of the bytes. With good
-/// words and bytes that are no such encoding, the first fault of the bytes is refused by its name.
+/// Any other words are `Usage`; a fault of the words comes before any fault of the bytes. If the
+/// words are good, and the bytes are no such encoding, it refuses with the first fault of the
+/// bytes.
 pub fn run(alloc: Global, words: &[String], bytes: &[u8]) -> Result<Vec<u8>, ToolError>
     // The words.
     ensures usage { IfErr result

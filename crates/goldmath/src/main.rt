@@ -5,7 +5,7 @@
 //! coefficients that fit the rows of the matrix on standard input, each in the place that a word
 //! names.
 //!
-//! `goldmath --help` and `goldmath --version` say so much, and read no input.
+//! `goldmath --help` prints the usage and `goldmath --version` the version. They read no input.
 #![tactic(auto)]
 
 ghost use Rattle.std.specs.Prelude.{IfSome, map, string_bytes};

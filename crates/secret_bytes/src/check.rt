@@ -10,8 +10,8 @@ use math_base::fields::goldilocks::F;
 /// s_i times x^i, by Horner's rule.
 ///
 /// Someone who changes shares without knowing the key adds to the elements, to the key and to the
-/// check what does not depend on the key. If that changes an element, the check fits for at most n
-/// + 1 of all keys: see `laws::changes_are_seen`.
+/// check what does not depend on the key. If that changes an element, the check fits for at most
+/// n + 1 of all keys: see `laws::changes_are_seen`.
 ///
 /// ```
 /// use secret_bytes::{fits, key_check};

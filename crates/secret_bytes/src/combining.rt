@@ -55,8 +55,8 @@ enum Pass {
 ///
 /// It refuses the first share that is not of one deal with those before it; then fewer shares than
 /// the threshold; and then shares of which too many are wrong, and a secret that does not fit its
-/// check. A share that stands twice counts once. For N shares it finds these in the order of N log
-/// N steps, beside the time that distinct shares take.
+/// check. A share that stands twice counts once. Of N shares it finds these in the order of N log N
+/// steps, beside the time that distinct shares take.
 ///
 /// ```
 /// use secret_bytes::{combine, deal};

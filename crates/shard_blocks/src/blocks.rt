@@ -192,8 +192,8 @@ fn recovered_block(alloc: Global, shards: &[Shard]) -> Result<Vec<u8>, Error>
     }
 }
 
-/// Joins rows of bytes, and writes the bytes of the block over the first ones of `out`. It answers
-/// how many these are, or `None` if there is no room for them.
+/// Joins shards that are rows of bytes, and writes the bytes of the block over the first ones of
+/// `out`. It answers how many these are, or `None` if there is no room for them.
 ///
 /// Row i of the shards has the cells of the shard with index `indices[i]`: `cols` cells of eight
 /// bytes each, the number of an element, below P, the highest byte first. It refuses as

@@ -16,8 +16,8 @@ pub fn joined_blocks()
 {}
 
 /// Shards have one block at most, however some of them are wrong. If `join_block` gives a block
-/// back, it is this one. If the numbers of all shards agree, and there are two more distinct
-/// indices than give a block back, it is what all shards but one give.
+/// back, it is this one. If the numbers of all shards agree, and there are at least `min` + 2
+/// distinct indices, a block that all shards but one give back is this one.
 pub fn corrected_blocks()
     ensures once { HaveOneCorrectedBlock }
     ensures joined { JoinedBlocksAreCorrect }

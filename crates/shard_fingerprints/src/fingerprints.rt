@@ -66,8 +66,8 @@ fn by_fours(words: &[F], key: F) -> F
     value
 }
 
-/// The fingerprint of the words under the key: the sum of word i times the key to the power i. It
-/// takes no memory.
+/// Returns the fingerprint of the words under the key: the sum of word i times the key to the power
+/// i. It takes no memory.
 ///
 /// Two different lists of n words have one fingerprint under at most n - 1 keys, and two that
 /// differ in one word under none but zero: see `laws::changes_are_seen`.

@@ -14,13 +14,13 @@ pub fn changes_are_seen<R: Field>()
 {}
 
 /// Two lists of n words that differ have the same two fingerprints under at most (n - 1)^2 pairs of
-/// keys: where n is at most 2^18, under at most one of 2^90 of all pairs of keys other than zero.
+/// keys. If n is at most 2^18, that is at most one of 2^90 of all pairs of keys other than zero.
 /// Shards that differ in the block, the index or a cell have lists of words that differ.
 ///
-/// Where the fingerprints are damaged too, or alone, by what does not depend on the keys, it is the
-/// same as long as the first word is not damaged (`stored`, `stored_rare`): whoever reads a record
-/// knows the number of its block, and whoever reads a header the mark. A first word to which as
-/// much is added as to both fingerprints would not be seen.
+/// The same holds if the fingerprints are damaged too, or they alone, by what does not depend on
+/// the keys, as long as the first word is not damaged (`stored`, `stored_rare`). The reader of a
+/// record knows the number of its block, and the reader of a header the mark. A change that adds as
+/// much to the first word as to both fingerprints would not be seen.
 pub fn damage_is_missed_rarely()
     ensures pairs { FewPairsAgree }
     ensures rare { DamageIsMissedRarely }

@@ -26,7 +26,7 @@ pub struct Fingerprints {
 }
 
 impl Fingerprints {
-    /// Whether both are the same.
+    /// Returns whether both are the same.
     pub fn is_same(&self, other: &Fingerprints) -> bool
         ensures { IsTrue result ↔ AreSameFingerprints self.now other.now }
     {
@@ -34,7 +34,7 @@ impl Fingerprints {
     }
 }
 
-/// The fingerprints of a list of words.
+/// Returns the fingerprints of a list of words.
 pub fn words_fingerprints(keys: &Keys, words: &[F]) -> Fingerprints
     ensures first { number result.first ≡ number (fingerprint words.now keys.now.first) }
     ensures second { number result.second ≡ number (fingerprint words.now keys.now.second) }
@@ -45,8 +45,8 @@ pub fn words_fingerprints(keys: &Keys, words: &[F]) -> Fingerprints
     }
 }
 
-/// The fingerprints of a shard of a block: those of the block's number, the index, the number of
-/// cells, and the cells. It takes no memory.
+/// Returns the fingerprints of a shard of a block: those of the block's number, the index, the
+/// number of cells, and the cells. It takes no memory.
 pub fn cells_fingerprints(keys: &Keys, block: u64, index: u32, cells: &[F]) -> Fingerprints
     ensures first { number result.first
         ≡ number (fingerprint (cell_words block index cells.now) keys.now.first) }

@@ -353,9 +353,9 @@ impl Write for Header {
     }
 }
 
-/// The bytes of the header.
+/// Returns the bytes of the header.
 ///
-/// `header_in` reads them where the length is below P and neither key is zero.
+/// `header_in` reads them if the length is below P and neither key is zero.
 pub fn header_bytes(alloc: Global, header: &Header) -> Mem<Vec<u8>>
     ensures { IfOk result (λ bytes. bytes.items ≡ header_spelling header.now) }
 {
@@ -364,9 +364,9 @@ pub fn header_bytes(alloc: Global, header: &Header) -> Mem<Vec<u8>>
     Ok(bytes)
 }
 
-/// The header that the bytes are the encoding of. It refuses where they are that of none, or the
-/// length is P or more, or a key is zero: with the first fault from left to right, and never for
-/// want of memory.
+/// Returns the header that the bytes encode. It refuses with the first fault from left to right if
+/// they encode none, the length is P or more, or a key is zero. It never refuses for want of
+/// memory.
 pub fn header_in(alloc: Global, bytes: &[u8]) -> Result<Header, Error>
     ensures taken { IfOk result (λ h. bytes.now ≡ header_spelling h) }
     ensures admitted { IfOk result AdmitsHeader }
@@ -378,7 +378,7 @@ pub fn header_in(alloc: Global, bytes: &[u8]) -> Result<Header, Error>
     decode::<Header>(alloc, bytes, &())
 }
 
-/// What is to be thought of a header.
+/// What a header turns out to be.
 #[derive(Clone, Copy, Debug, PartialEq, Eq)]
 pub enum Verdict {
     /// It is that of a shard of the split.
@@ -392,9 +392,9 @@ pub enum Verdict {
 }
 
 impl Header {
-    /// The greatest number of bytes that a block may have: 1 MiB, and so many that `total` / `min`
-    /// blocks have 32 MiB at most. The shards of a block take as much, and some bytes for their
-    /// numbers.
+    /// Returns the greatest number of bytes that a block may have: 1 MiB, and so many that
+    /// `total` / `min` blocks have 32 MiB at most. The shards of a block take as much, and some
+    /// bytes for their numbers.
     pub fn largest_block(min: u32, total: u32) -> u32
         requires { 1 ≤ total }
         ensures { result ≡ largest_block min total }
@@ -403,7 +403,7 @@ impl Header {
         bytes.min(1 << 20) as u32
     }
 
-    /// Whether a split can have these numbers.
+    /// Returns whether a split can have these numbers.
     pub fn is_possible(&self) -> bool
         ensures { IsTrue result ↔ IsPossible self.now }
     {
@@ -415,7 +415,8 @@ impl Header {
             && self.block <= Header::largest_block(self.min, self.total)
     }
 
-    /// Whether both are headers of shards of one file, split in one way with one pair of keys.
+    /// Returns whether both are headers of shards of one file, split in one way with one pair of
+    /// keys.
     pub fn is_of_split(&self, other: &Header) -> bool
         ensures exact { IsTrue result ↔ AreOfOneSplit self.now other.now }
         ensures test { result ≡ is_of_split self.now other.now }
@@ -428,8 +429,8 @@ impl Header {
             && self.keys.second == other.keys.second
     }
 
-    /// Whether it is the header of the shard with this number of the split of which the other
-    /// header is one.
+    /// Returns the verdict on this header: whether it is that of the shard with this number, of the
+    /// split that the other header belongs to.
     pub fn judged(&self, number: u32, split: &Header) -> Verdict
         ensures fits { result ≡ Fits ↔ IsThatOf self.now number split.now }
         ensures impossible { result ≡ Impossible ↔ ¬ (IsPossible self.now) }

@@ -6,8 +6,8 @@ ghost use Rattle.shard_format.specs.Indices.{distinct_among};
 use math_base::algebra::Mem;
 use std::alloc::Global;
 
-/// How many of the numbers below `total` are among the indices, in any order and some of them more
-/// than once.
+/// Returns how many of the numbers below `total` are among the indices, in any order and some of
+/// them more than once.
 ///
 /// So many of the shards of a block with these indices count. If they are fewer than MIN, they do
 /// not give the block back.

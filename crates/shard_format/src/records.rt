@@ -1,8 +1,8 @@
 //! The blocks of a file and the records of a shard file: how many there are, how large each is and
 //! where it begins, and whether a record is the one that has to stand there.
 //!
-//! A record is the shard of a block and its two fingerprints. How many cells the shard of a block
-//! has is handed in, where it is asked for: `shard_blocks` says it.
+//! A record is the shard of a block and its two fingerprints. Callers hand in how many cells the
+//! shard of a block has; `shard_blocks` says it.
 
 ghost use Rattle.std.specs.Prelude.{◌≡◌, ◌≢◌, ◌↔◌, ◌<◌, ◌≤◌, ◌^◌, List, length, OnOk, IsTrue, IsFalse, IfOk, IfSome, IsNone};
 ghost use Rattle.math_base.specs.declared.fields.goldilocks.F.{F};
@@ -18,7 +18,7 @@ use std::alloc::Global;
 /// The number of bytes of the fingerprints of a record: two words.
 pub const FINGERPRINTS_SIZE: usize = 16;
 
-/// How many blocks the file has.
+/// Returns how many blocks the file has.
 pub fn block_count(header: &Header) -> u64
     requires { 1 ≤ header.now.block }
     ensures { result ≡ block_count header.now }
@@ -26,8 +26,8 @@ pub fn block_count(header: &Header) -> u64
     header.length.div_ceil(u64::from(header.block))
 }
 
-/// How many bytes the block with this number has: as many as the header says, but for the last one,
-/// which has what is left; none beyond it.
+/// Returns how many bytes the block with this number has: as many as the header says, but for the
+/// last one, which has what is left. A block beyond it has none.
 pub fn block_size(header: &Header, number: u64) -> u32
     ensures { result ≡ block_size header.now number }
 {
@@ -36,8 +36,8 @@ pub fn block_size(header: &Header, number: u64) -> u32
     left.min(u64::from(header.block)) as u32
 }
 
-/// How many bytes the record of a block has whose shard has so many cells; 2^64 - 1 where they are
-/// more.
+/// Returns how many bytes the record of a block has whose shard has so many cells, or 2^64 - 1 if
+/// they are more.
 pub fn record_size(header: &Header, cells: usize) -> u64
     ensures { result ≡ capped (record_size header.now cells) }
 {
@@ -50,8 +50,8 @@ pub fn record_size(header: &Header, cells: usize) -> u64
         .saturating_add((numbers + FINGERPRINTS_SIZE) as u64)
 }
 
-/// Where the record of the block with this number begins in the shard file, where the shard of a
-/// whole block has so many cells; 2^64 - 1 where it were beyond.
+/// Returns where the record of the block with this number begins in the shard file, or 2^64 - 1 if
+/// that is beyond it. The shard of a whole block has `cells` cells.
 pub fn record_place(header: &Header, cells: usize, number: u64) -> u64
     ensures { result ≡ capped (record_place header.now cells number) }
 {
@@ -60,8 +60,8 @@ pub fn record_place(header: &Header, cells: usize, number: u64) -> u64
         .saturating_add(HEADER_SIZE as u64)
 }
 
-/// How many bytes the shard file has, where the shard of a whole block has so many cells, and that
-/// of the last block so many as are given last; 2^64 - 1 where they are more.
+/// Returns how many bytes the shard file has, or 2^64 - 1 if they are more. The shard of a whole
+/// block has `cells` cells, and that of the last block `last_cells`.
 pub fn file_size(header: &Header, cells: usize, last_cells: usize) -> u64
     requires { 1 ≤ header.now.block }
     ensures { result ≡ capped (file_size header.now cells last_cells) }
@@ -73,8 +73,8 @@ pub fn file_size(header: &Header, cells: usize, last_cells: usize) -> u64
     record_place(header, cells, count - 1).saturating_add(record_size(header, last_cells))
 }
 
-/// Whether a shard with this index, `min` and `total` and so many cells is one of the file with
-/// this header, where so many cells are wanted.
+/// Returns whether a shard with this index, `min` and `total` and so many cells is one of the file
+/// with this header, where so many cells are wanted.
 pub fn is_shard_of(
     header: &Header,
     index: u32,
@@ -88,8 +88,8 @@ pub fn is_shard_of(
     index == header.index && min == header.min && total == header.total && cells == wanted
 }
 
-/// Whether the fingerprints are those of the cells of the shard of this block in the file with this
-/// header.
+/// Returns whether the fingerprints are those of the cells of the shard of this block in the file
+/// with this header.
 pub fn fits(header: &Header, block: u64, cells: &[F], stored: &Fingerprints) -> bool
     ensures { IsTrue result ↔ HaveFingerprints header.now block cells.now stored.now }
 {
@@ -160,10 +160,10 @@ fn are_cells_that_fit(header: &Header, block: u64, count: usize, elements: &[F])
     fits(header, block, cells, &stored)
 }
 
-/// Whether the bytes are a record of this block in the file with this header, with so many cells,
-/// and fingerprints that are theirs.
+/// Returns whether the bytes are a record of this block in the file with this header, with so many
+/// cells, and fingerprints that are theirs.
 ///
-/// `room` is for its elements: who looks at one record after the other hands in the same.
+/// `room` is for its elements: hand in the same for one record after the other.
 pub fn is_record_of(
     alloc: Global,
     header: &Header,
@@ -188,8 +188,8 @@ pub fn is_record_of(
 /// bytes of the cells, a word each, and before and behind them what `is_record_of` asks for. So the
 /// bytes are the same whenever the header, the block and the cells are.
 ///
-/// There are fewer than 2^32 cells. `room` is for them: who writes one record after the other hands
-/// in the same.
+/// There are fewer than 2^32 cells. `room` is for them: hand in the same for one record after the
+/// other.
 pub fn write_record(
     alloc: Global,
     header: &Header,

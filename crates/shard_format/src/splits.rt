@@ -166,15 +166,15 @@ fn rival(best: &Counted, headers: &[Header]) -> Option<Header>
     None
 }
 
-/// Which split the headers give.
+/// Returns which split the headers give.
 ///
-/// Of the splits whose numbers are possible and of which `min` headers or more are there it is the
-/// one of which more are there than of each other. Where two of them are there most often, equally
-/// often, both are named. Where no split has so many, there is none.
+/// It is the split with the most headers, of those with possible numbers and `min` headers or more.
+/// If two splits have the most, equally many, it names both. If no split has so many, there is
+/// none.
 ///
-/// A header's split is counted, by a pass over all headers, where it is neither the largest so far
-/// nor the one counted last. So headers of one split take two passes; where those of several are
-/// mixed, the time may grow with the square of their number.
+/// It counts a header's split, by a pass over all headers, unless that is the largest so far or the
+/// one counted last. So headers of one split take two passes. If those of several are mixed, the
+/// time may grow with the square of their number.
 pub fn chosen_split(headers: &[Header]) -> Choice
     ensures taken { IfTaken result (IsMost headers.now) }
     ensures tied { IfTied result (AreTied headers.now) }

@@ -23,10 +23,10 @@ pub struct Corrected<F: Drop> {
 /// Combines n shares, in any order, to the secret, though at most (n - t) / 2 of them are wrong,
 /// and says which are.
 ///
-/// The secret is the constant of the polynomial of t coefficients that has all but at most (n - t)
-/// / 2 of the shares. There is one at most, and it answers `None` exactly if there is none. If more
-/// shares are wrong, that may be so, or they may fit another polynomial, whose constant it then
-/// answers.
+/// The secret is the constant of the polynomial of t coefficients that has all but at most
+/// (n - t) / 2 of the shares. There is one at most, and it answers `None` exactly if there is none.
+/// If more shares are wrong, that may be so, or they may fit another polynomial, whose constant it
+/// then answers.
 ///
 /// It refuses as `combine` does.
 ///

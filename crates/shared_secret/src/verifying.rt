@@ -9,8 +9,8 @@ use math_poly::poly::Poly;
 use std::alloc::Global;
 
 /// Returns whether the share fits the commitment: whether the generator scaled by its value is the
-/// same as the commitment's value at the point of its index. Each share fits that `deal_committed`
-/// deals with this commitment.
+/// same as the commitment's value at the point of its index. Each share that `deal_committed` deals
+/// with this commitment fits.
 ///
 /// It says nothing of the index: `combine` refuses the index zero.
 ///

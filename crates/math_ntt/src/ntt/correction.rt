@@ -1,11 +1,11 @@
 //! Recovery of polynomials from rows of which some are wrong.
 //!
 //! A row is wrong if any of its cells is. Of m filled rows at most (m - k) / 2 are wrong, and the
-//! polynomials have at most k coefficients. There are such polynomials at most once, since two
-//! would agree at k rows or more. They are recovered as if no row were wrong. A column that then
-//! has a coefficient other than zero from k on is decoded by itself. The rows at which it differs
-//! from what is decoded are wrong for every answer, so they are dropped, and what is left is
-//! recovered again. If more rows than (m - k) / 2 are dropped in all, there is no answer.
+//! polynomials have at most k coefficients. There is at most one such polynomial a column, since
+//! two would agree at k rows or more. They are recovered as if no row were wrong. A column that
+//! then has a coefficient other than zero from k on is decoded by itself. The rows at which it
+//! differs from what is decoded are wrong for every answer, so they are dropped, and what is left
+//! is recovered again. If more rows than (m - k) / 2 are dropped in all, there is no answer.
 
 ghost use Rattle.std.specs.Prelude.{
   ◌≡◌,
@@ -74,7 +74,7 @@ impl<F: FieldNTT> EvaluationVector<F> {
     /// Let N be the number of rows, and m that of the filled ones. The polynomial of a column has
     /// the cells of the filled rows as its values, but for the wrong rows. It has N coefficients,
     /// and those from `count` on are zero. The wrong rows are the same for all columns, and at most
-    /// (m - count) / 2. There are such polynomials at most once.
+    /// (m - count) / 2. These are then the only such polynomials.
     ///
     /// It answers `None` exactly if there are none. If more rows are wrong, that may be so, or the
     /// rows may fit other polynomials, which it then answers.

@@ -69,11 +69,10 @@ impl<F: Additive> Matrix<F> {
     /// Makes the polynomials whose coefficients are the columns of this matrix, from the constant
     /// upwards.
     ///
-    /// Zeros fill them up to N rows, where N is the least power of two that is `min_coefficients`
-    /// or more. N, and N times the number of columns, have to be below 2^64.
-    ///
-    /// It answers `None` if `min_coefficients` is 0, or less than the number of rows; N may then be
-    /// any.
+    /// It answers `None` if `min_coefficients` is 0, or less than the number of rows. Otherwise
+    /// zeros fill the polynomials up to N rows, where N is the least power of two that is
+    /// `min_coefficients` or more. N, and N times the number of columns, then have to be below
+    /// 2^64.
     ///
     /// ```
     /// let m = Matrix::from_cells(1, 2, vec![in alloc; F::from(4), F::from(6)]?);

@@ -102,8 +102,8 @@ impl<F: FieldNTT> EvaluationVector<F> {
     /// A call that succeeds adds:
     ///
     /// - c N lg N / 2 butterflies and no root product, if no row or all rows are filled;
-    /// - at least N lg N (3 c + 3) / 2 butterflies, if v rows are missing, some and not all. If lg
-    ///   N is at most 8, it adds just these, and v (v + 1) / 2 root products.
+    /// - at least N lg N (3 c + 3) / 2 butterflies, if v rows are missing, some and not all. If
+    ///   lg N is at most 8, it adds just these, and v (v + 1) / 2 root products.
     ///
     /// A refused call adds no more than one that succeeds. If lg N is at most 8, it adds no
     /// butterfly before all root products. If no row or all rows are filled, and calls on elements

@@ -106,8 +106,8 @@ fn are_below(numbers: &[u32], bound: u32) -> bool
     numbers.iter().all(|n| *n < bound)
 }
 
-/// Joins rows of words, and writes the data over the first words of `out`. It answers how many
-/// these are, or `None` if there is no room for them.
+/// Joins shards that are rows of words, and writes the data over the first words of `out`. It
+/// answers how many these are, or `None` if there is no room for them.
 ///
 /// Row i holds the cells of the shard with index `indices[i]`, each as the number of an element,
 /// below P; a row has `cols` words. It refuses as `join` does. If it refuses, or there is no room,
@@ -150,9 +150,9 @@ pub fn join_rows(
     Ok(Some(count))
 }
 
-/// Joins rows of cells as `join_rows` does, and gives the data packed. Row i holds the cells of the
-/// shard with index `indices[i]`, each as the number of an element, below P, in a word or in eight
-/// bytes.
+/// Joins shards that are rows of cells, as `join_rows` does, and gives the data packed. Row i holds
+/// the cells of the shard with index `indices[i]`, each as the number of an element, below P, in a
+/// word or in eight bytes.
 ///
 /// ```
 /// let mut cells = [0_u64; 8];

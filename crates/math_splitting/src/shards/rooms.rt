@@ -9,7 +9,7 @@ ghost use Rattle.math_splitting.specs.ShardRows.{AreNumbers};
 
 use math_base::fields::goldilocks::F;
 
-/// Room for words: words, or bytes, of which each word takes eight, the highest first.
+/// Room for words. Each takes a word, or eight bytes, the highest first.
 pub trait Room: Copy {
     ghost words: { List Self → List ℕ };
 

@@ -69,7 +69,7 @@ impl<F: Read + Drop> Read for Matrix<F> {
     /// `Invalid`.
     ///
     /// A matrix without columns may have as many rows as the greatest count, and no byte stands for
-    /// them. If you go over the rows of a matrix from outside, that count has to limit their
+    /// them. If you go over the rows of a matrix from outside, choose a count that limits their
     /// number.
     #[tactic(auto, unfolding(crate::specs::MatrixEncoding::scan_matrix))]
     fn read_cfg(alloc: Global, input: &mut &[u8], cfg: &(u32, F::Cfg)) -> Result<Matrix<F>, Error> {
