@@ -11,11 +11,11 @@
 //! Where m is below N, g is not needed as a whole. Let n be N / 2. The points of even index have
 //! x^n = 1, those of odd index x^n = -1, and at the points of the coset x^n is c, a power of s^m.
 //! Let u and v be the polynomials of n coefficients that have the values of g times (1 + c) / 2 at
-//! the points of even index, and times (1 - c) / 2 at those of odd index. Then g(x) = (1 + x^n) /
-//! (1 + c) u(x) + (1 - x^n) / (1 - c) v(x): both sides have at most N coefficients and the same
-//! values on the domain. So on the coset g is u + v. Of its n coefficients those whose places are m
-//! apart are added, times powers of s^m; a transform of m rows gives the values there, each is
-//! divided by that of V, and m rows are interpolated.
+//! the points of even index, and times (1 - c) / 2 at those of odd index. Then g(x) is
+//! (1 + x^n) / (1 + c) u(x) + (1 - x^n) / (1 - c) v(x): both sides have at most N coefficients and
+//! the same values on the domain. So on the coset g is u + v. Of its n coefficients those whose
+//! places are m apart are added, times powers of s^m; a transform of m rows gives the values there,
+//! each is divided by that of V, and m rows are interpolated.
 //!
 //! The transforms take rows of coefficients in natural order and rows of values in that of a tree,
 //! so no row changes its place. What is the same for all columns is made once: the values of V and

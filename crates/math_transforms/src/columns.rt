@@ -15,8 +15,8 @@ use math_base::algebra::{FieldNTT, Mem};
 use std::alloc::Global;
 use std::marker::Model;
 
-/// The coefficients of one polynomial from the constant upwards, a power of two of them. The last
-/// ones may be zero.
+/// The coefficients of one polynomial, from the constant upwards. Their number is a power of two,
+/// and the last ones may be zero.
 #[derive(Debug, Drop)]
 pub struct PolynomialColumn<F: Drop> {
     pub(super) coefficients: Vec<F>,
@@ -34,8 +34,8 @@ impl<F: Drop> Model for PolynomialColumn<F> {
     ghost invariant = { λ p. IsPowerOfTwo (length p.coefficients.items) };
 }
 
-/// The values of one polynomial at the points of a domain of a power of two of points: value i is
-/// at power i of the root.
+/// The values of one polynomial at the points of a domain. Their number is a power of two, and
+/// value i is at power i of the root.
 #[derive(Debug, Drop)]
 pub struct EvaluationColumn<F: Drop> {
     pub(super) values: Vec<F>,

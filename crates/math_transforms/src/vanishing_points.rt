@@ -105,7 +105,7 @@ impl VanishingPoints {
         1 << self.lg_size()
     }
 
-    /// Makes point `index` one that does not vanish. `index` is below 2^lg_size.
+    /// Makes point `index` one at which the polynomial does not vanish. `index` is below 2^lg_size.
     pub fn set_non_vanishing(&mut self, index: u64)
         requires { index < length self.old }
         ensures { self.new ≡ slice_set self.old index true }
@@ -113,7 +113,8 @@ impl VanishingPoints {
         self.words[(index / 64) as usize] |= 1 << (index % 64);
     }
 
-    /// Returns whether point `index` is one that does not vanish. `index` is below 2^lg_size.
+    /// Returns whether point `index` is one at which the polynomial does not vanish. `index` is
+    /// below 2^lg_size.
     pub fn get(&self, index: u64) -> bool
         requires { index < length self.now }
         ensures { slice_get self.now index ≡ Some result }
@@ -121,7 +122,7 @@ impl VanishingPoints {
         (self.words[(index / 64) as usize] >> (index % 64)) & 1 == 1
     }
 
-    /// Returns how many points do not vanish. It counts a word at a time.
+    /// Returns at how many points the polynomial does not vanish. It counts a word at a time.
     pub fn count_non_vanishing(&self) -> u64
         ensures { result ≡ count_true self.now }
     {
@@ -132,7 +133,7 @@ impl VanishingPoints {
         count
     }
 
-    /// Returns the indices of the non-vanishing points, by rising number.
+    /// Returns the indices of the points at which the polynomial does not vanish, by rising number.
     pub fn non_vanishing_indices(&self, alloc: Global) -> Mem<Vec<usize>>
         ensures { IfOk result (λ indices. indices.items ≡ filled_places self.now) }
     {

@@ -60,7 +60,7 @@ use math_transforms::vanishing_points::VanishingPoints;
 use math_transforms::work::Work;
 use std::alloc::Global;
 
-/// Polynomials, and by rising number the filled rows that differ from their values.
+/// Polynomials, and the filled rows that differ from their values, by rising number.
 #[derive(Debug, Drop)]
 pub struct Corrected<F: Drop> {
     pub polynomials: PolynomialVector<F>,

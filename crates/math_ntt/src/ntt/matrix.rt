@@ -41,7 +41,7 @@ use std::fmt;
 use std::marker::Model;
 use std::ops::{Index, IndexMut};
 
-/// A matrix of any numbers of rows and of columns, zero among them. Its cells lie row by row.
+/// A matrix with any number of rows and of columns, which may be zero. Its cells lie row by row.
 ///
 /// ```
 /// let m = Matrix::from_cells(1, 3, vec![in alloc; F::from(4), F::from(6), F::from(8)]?);
