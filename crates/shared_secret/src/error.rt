@@ -15,7 +15,7 @@ pub enum DealError {
     /// Memory ran out.
     #[error("out of memory")]
     Memory(AllocError),
-    /// The source gave only words that are no element, as often as they were looked at.
+    /// The source gave only words that are no element, as many as a sample looks at.
     #[error("too many words")]
     TooManyWords,
     /// The field has no n points other than zero for n shares.
