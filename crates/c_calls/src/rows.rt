@@ -7,6 +7,7 @@ ghost use Rattle.c_calls.specs.WordRows.{
   AreElementsWhereFilled,
   AreFilledElements,
   AreRecoveredWords,
+  AreReversedRows,
   AreWordValues,
   HasRows,
   HasRowsFor,
@@ -17,8 +18,15 @@ ghost use Rattle.c_calls.specs.WordRows.{
 use crate::elements::{are_elements, write_numbers};
 use commonware_math::algebra::Mem;
 use commonware_math::fields::goldilocks::F;
-use commonware_math::ntt::{EvaluationVector, Matrix, PolynomialVector, VanishingPoints};
+use commonware_math::ntt::{EvaluationVector, Matrix, VanishingPoints};
+use math_transforms::transform::order::{reverse_rows, reversed};
+use math_transforms::transform::{evaluate_rows_reversed, evaluation_table};
+use math_transforms::work::Work;
 use std::alloc::Global;
+
+/// How many cells a line of a cache has. Rows of fewer are put in order in place, many at a time,
+/// before they are written.
+const LINE_CELLS: usize = 8;
 
 /// 2^lg.
 fn power_of_two(lg: u8) -> usize
@@ -138,11 +146,41 @@ pub fn evaluate(alloc: Global, cells: &mut [u64], items: Vec<F>, lg: u8, cols: u
     ensures ok { OnOk result (AreWordValues cols cells.old cells.new) }
     ensures err { OnErr result (cells.new ≡ cells.old) }
 {
-    let matrix = matrix_of(items, power_of_two(lg), cols);
-    let polynomials = PolynomialVector::from_matrix(matrix);
-    let values = polynomials.evaluate(alloc)?.data().into_cells();
-    write_numbers(cells, &values);
+    let mut items = items;
+    let table = evaluation_table::<F>(alloc, lg)?;
+    evaluate_rows_reversed(alloc, &mut items, cols, lg, &table, &mut Work::new())?;
+    write_in_order(cells, &mut items, lg, cols);
     Ok(())
+}
+
+/// Writes rows of elements over rows of words: over row i the numbers of the row whose number has
+/// the lg bits of i in the opposite order. What the elements are afterwards does not matter.
+fn write_in_order(words: &mut [u64], items: &mut [F], lg: u8, cols: usize)
+    requires small { lg ≤ 32 }
+    requires words { length words.old ≡ 2 ^ lg * cols }
+    requires items { length items.old ≡ 2 ^ lg * cols }
+    ensures { AreReversedRows lg cols items.old words.new }
+{
+    if cols < LINE_CELLS {
+        reverse_rows(items, cols, lg);
+        write_numbers(words, items);
+    } else {
+        write_rows(words, items, lg, cols);
+    }
+}
+
+/// Does what `write_in_order` does row by row, and leaves the elements as they are.
+fn write_rows(words: &mut [u64], items: &[F], lg: u8, cols: usize)
+    requires small { lg ≤ 32 }
+    requires words { length words.old ≡ 2 ^ lg * cols }
+    requires items { length items.now ≡ 2 ^ lg * cols }
+    ensures { AreReversedRows lg cols items.now words.new }
+{
+    for row in 0..power_of_two(lg) {
+        let at = row * cols;
+        let from = reversed(row, lg) * cols;
+        write_numbers(&mut words[at..at + cols], &items[from..from + cols]);
+    }
 }
 
 /// Puts the coefficients of the polynomials whose values the columns are in place of these, which

@@ -5,6 +5,8 @@ use Rattle.std.proofs.lemmas.Bool.{cases_eq, cases_lt}
 use Rattle.std.proofs.lemmas.List.{get_or_append_left, get_or-append-add, get_or_default, get_or_push, get_or-set_other, get_or-set_same}
 use Rattle.std.specs.Int.{IsNextPowerOfTwo}
 use Rattle.std.specs.List.{All}
+use Rattle.math_theory.specs.BitReversal.{bit_reversed}
+use Rattle.math_theory.proofs.transforms.BitOrder.{bit_reversed-below}
 use Rattle.math_base.specs.declared.fields.goldilocks.F.{F}
 use Rattle.math_base.specs.Elements.{number, same}
 use Rattle.math_transforms.specs.DomainValues.{matrix_of}
@@ -82,7 +84,7 @@ begun_further words min total lg from c i row s t wide values h begun = record {
 
 -- all of them, where each has a row
 pub begun_more : (words : List ℕ) (min total lg from c : ℕ) (strip : List F) (indices : List ℕ) (old new : List Shard) → HasStripValues words min lg from c strip
-    → All (λ (s : Shard). s.index < 2 ^ lg) old → length new ≡ length old → AreExtended c strip old new → AreBegun words min total lg from indices old
+    → All (λ (s : Shard). s.index < 2 ^ lg) old → length new ≡ length old → AreExtended lg c strip old new → AreBegun words min total lg from indices old
     → AreBegun words min total lg (from + c) indices new
 begun_more words min total lg from c strip indices old new strip_of below count extended begun i d l =
     let within : i < length old = omega (arith, l, count) in
@@ -90,10 +92,11 @@ begun_more words min total lg from c strip indices old new strip_of below count 
     let k = get_or indices i 0 in
     let m = matrix_of (2 ^ lg) c strip in
     let inside : k < 2 ^ lg = subst (λ n. n < 2 ^ lg) before.index (below i d within) in
-    let row : IsExtendedBy (take c (drop (k * c) strip)) (get_or old i d) (get_or new i d) =
-    subst (λ n. IsExtendedBy (take c (drop (n * c) strip)) (get_or old i d) (get_or new i d)) before.index (extended i d within) in
-    begun_further words min total lg from c k (take c (drop (k * c) strip)) (get_or old i d) (get_or new i d) (rows_are_full m k strip_of.count inside)
-    (λ j b. ap number (rows_hold_cells m k j nought b) ∙ strip_of.values k j inside b) row before
+    let r = bit_reversed lg k in
+    let row : IsExtendedBy (take c (drop (r * c) strip)) (get_or old i d) (get_or new i d) =
+    subst (λ n. IsExtendedBy (take c (drop (bit_reversed lg n * c) strip)) (get_or old i d) (get_or new i d)) before.index (extended i d within) in
+    begun_further words min total lg from c k (take c (drop (r * c) strip)) (get_or old i d) (get_or new i d) (rows_are_full m r strip_of.count (bit_reversed-below lg k))
+    (λ j b. ap number (rows_hold_cells m r j nought b) ∙ strip_of.values k j inside b) row before
 
 -- and where each has the values of a strip of coefficients at its index
 pub begun_valued : (words : List ℕ) (min total lg from c : ℕ) (strip : List F) (indices : List ℕ) (old new : List Shard) → IsStripOf words min min from c strip → length new ≡ length old
@@ -109,9 +112,9 @@ begun_valued words min total lg from c strip indices old new strip_of count valu
     ∙ same_values _ (column_of nought m j) (column_of nought (rows_for min words) (from + j)) (strip_of.columns j b)) extended before
 
 -- extended shards keep their indices
-pub below_more : (c n : ℕ) (strip : List F) (old new : List Shard) → length new ≡ length old → AreExtended c strip old new → All (λ (s : Shard). s.index < n) old
+pub below_more : (lg c n : ℕ) (strip : List F) (old new : List Shard) → length new ≡ length old → AreExtended lg c strip old new → All (λ (s : Shard). s.index < n) old
     → All (λ (s : Shard). s.index < n) new
-below_more c n strip old new count extended below i d l =
+below_more lg c n strip old new count extended below i d l =
     let within : i < length old = omega (arith, l, count) in
     subst (λ k. k < n) (sym (extended i d within).index) (below i d within)
 

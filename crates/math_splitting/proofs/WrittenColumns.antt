@@ -10,6 +10,7 @@ use Rattle.std.proofs.lemmas.List.Elements.{All-map}
 use Rattle.std.proofs.lemmas.List.Folds.{flat_map-map}
 use Rattle.std.proofs.lemmas.List.FromFn.{get_or-map-range_with_len, length-range_with_len}
 use Rattle.std.proofs.lemmas.Nat.{mul-le}
+use Rattle.math_theory.specs.BitReversal.{bit_reversed}
 use Rattle.math_base.specs.declared.fields.goldilocks.F.{F}
 use Rattle.math_base.specs.Elements.{number, same}
 use Rattle.math_transforms.specs.DomainValues.{matrix_of}
@@ -83,9 +84,9 @@ module _ (width from c i : ℕ) (items : List F) (element : ℕ → ℕ → F) (
       put-after 0 cells row (i * width + from) (length items) fits count p (omega (arith, next, long, within, l)) ∙ left p (omega (arith, next, l))
 
 -- a row of a strip is the elements that are written
-pub strip_row : (indices : List ℕ) (c t m : ℕ) (strip : List F) → m ≡ c → (k : ℕ) → k < c
-    → get_or (take m (drop (get_or indices t 0 * c) strip)) k nought ≡ strip_element indices c strip t k
-strip_row indices c t m strip q k l = part-read nought strip (get_or indices t 0 * c) m k (omega (arith, q, l))
+pub strip_row : (lg : ℕ) (indices : List ℕ) (c t m : ℕ) (strip : List F) → m ≡ c → (k : ℕ) → k < c
+    → get_or (take m (drop (bit_reversed lg (get_or indices t 0) * c) strip)) k nought ≡ strip_element lg indices c strip t k
+strip_row lg indices c t m strip q k l = part-read nought strip (bit_reversed lg (get_or indices t 0) * c) m k (omega (arith, q, l))
 
 -- the elements are the values, at the power of the root that is the index of their row, of the polynomials of c columns from column `from` on
 abbrev pub HaveValuesFrom : List ℕ → ℕ → ℕ → ℕ → ℕ → List ℕ → (ℕ → ℕ → F) → Type 0
@@ -94,7 +95,7 @@ HaveValuesFrom words min lg from c indices element =
 
 -- the elements of a strip of values are so
 pub strip_values : (words : List ℕ) (min lg from c : ℕ) (indices : List ℕ) (strip : List F) → HasStripValues words min lg from c strip → All (λ i. i < 2 ^ lg) indices
-    → HaveValuesFrom words min lg from c indices (strip_element indices c strip)
+    → HaveValuesFrom words min lg from c indices (strip_element lg indices c strip)
 strip_values words min lg from c indices strip values below t k a b = values.values (get_or indices t 0) k (below t 0 a) b
 
 -- and the values of the columns of a strip of coefficients

@@ -17,7 +17,7 @@ use Rattle.math_base.specs.Members.{RingOf}
 use Rattle.math_base.specs.Polynomials.{value_in_ring}
 use Rattle.math_transforms.specs.CombinedCells.{AreRowsReversed}
 use Rattle.math_transforms.specs.CosetValues.{AreMultiplesAtPowers}
-use Rattle.math_transforms.specs.DomainValues.{matrix_of, AreValuesAtPowers, AreValuesOfFewAtPowers}
+use Rattle.math_transforms.specs.DomainValues.{matrix_of, AreReversedValuesAtPowers}
 use Rattle.math_transforms.specs.Matrices.{column_of}
 use Rattle.math_transforms.specs.RootTrees.{IsTreeOf, AreValuesBelow, AreValuesOfFewBelow, AreMultiplesBelow, class_at, column_value, entry, twos}
 use Rattle.math_transforms.proofs.DomainSteps.{column-cell}
@@ -111,17 +111,16 @@ module _ {A : Type 0} (R : RingOf A) (E : IsEquality R.same) (G : IsGroup R.same
     point-natural : (j : ℕ) → j < n → R.same (tree_point (root lg) R.one lg (bit_reversed lg j)) (at j)
     point-natural j l = subst (λ i. R.same (R.product R.one (at i)) (at j)) (sym (bit_reversed-twice lg j l)) (L.identity (at j))
 
-    -- in natural order they are the values at the powers of the root
-    pub few-natural : (part : ℕ) (tree cells mid new : List A) → part ≤ lg → IsTreeOf R root R.one lg tree → AreValuesOfFewBelow R tree lg part 1 c cells mid
-        → AreRowsReversed R.zero lg (matrix_of n c mid) (matrix_of n c new) → AreValuesOfFewAtPowers R (root lg) (matrix_of (2 ^ part) c cells) (matrix_of n c new)
-    few-natural part tree cells mid new within T h reversed j k l m =
-        rw (reversed j k l m)
-        (E.transitive _ _ _ (few-points root R.one lg part c tree cells mid within order T h (bit_reversed lg j) k (bit_reversed-below lg j) m)
-        (value-at E G P L _ _ (column_of R.zero (matrix_of (2 ^ part) c cells) k) (point-natural j l)))
+    -- the row of a point is that whose number has the bits of the point's power in the opposite order
+    pub few-reversed : (part : ℕ) (tree cells new : List A) → part ≤ lg → IsTreeOf R root R.one lg tree → AreValuesOfFewBelow R tree lg part 1 c cells new
+        → AreReversedValuesAtPowers R (root lg) lg (matrix_of (2 ^ part) c cells) (matrix_of n c new)
+    few-reversed part tree cells new within T h j k l m =
+        E.transitive _ _ _ (few-points root R.one lg part c tree cells new within order T h (bit_reversed lg j) k (bit_reversed-below lg j) m)
+        (value-at E G P L _ _ (column_of R.zero (matrix_of (2 ^ part) c cells) k) (point-natural j l))
 
-    pub values-natural : (tree cells mid new : List A) → IsTreeOf R root R.one lg tree → AreValuesBelow R tree lg 1 c cells mid
-        → AreRowsReversed R.zero lg (matrix_of n c mid) (matrix_of n c new) → AreValuesAtPowers R (root lg) (matrix_of n c cells) (matrix_of n c new)
-    values-natural tree cells mid new T h reversed = few-natural lg tree cells mid new (omega arith) T h reversed
+    pub values-reversed : (tree cells new : List A) → IsTreeOf R root R.one lg tree → AreValuesBelow R tree lg 1 c cells new
+        → AreReversedValuesAtPowers R (root lg) lg (matrix_of n c cells) (matrix_of n c new)
+    values-reversed tree cells new T h = few-reversed lg tree cells new (omega arith) T h
 
     -- and the rows of values, put in the order of the tree, give multiples of the coefficients
     pub multiples-natural : (back : ℕ → A) (inverses cells mid new : List A) → 0 < lg → R.same (R.product (root lg) (back lg)) R.one → IsTreeOf R back R.one lg inverses

@@ -1,5 +1,6 @@
 -- Values of polynomials at the powers of a root, in the columns of a matrix.
 use Rattle.std.specs.Prelude.{◌≡◌, ℕ, ◌<◌, ◌≤◌, ◌^◌, List, length, slice_index_or}
+use Rattle.math_theory.specs.BitReversal.{bit_reversed}
 use Rattle.math_theory.specs.Coefficients.{HaveSameCoefficients}
 use Rattle.math_theory.specs.Powers.{power}
 use Rattle.math_base.specs.Members.{RingOf}
@@ -15,10 +16,11 @@ abbrev pub AreValuesAtPowers : {A : Type 0} → RingOf A → A → MatrixOf A �
 AreValuesAtPowers R w m v =
     (j k : ℕ) → j < m.rows → k < m.cols → R.same (cell_of R.zero v j k) (value_in_ring R (column_of R.zero m k) (power R.one R.product w j))
 
--- as AreValuesAtPowers, at as many powers as v has rows: m may have fewer
-abbrev pub AreValuesOfFewAtPowers : {A : Type 0} → RingOf A → A → MatrixOf A → MatrixOf A → Type 0
-AreValuesOfFewAtPowers R w m v =
-    (j k : ℕ) → j < v.rows → k < m.cols → R.same (cell_of R.zero v j k) (value_in_ring R (column_of R.zero m k) (power R.one R.product w j))
+-- the cell of v in column k, and in the row whose number has the lg bits of j in the opposite order, is same as the value, at power j of w, of the polynomial
+-- whose coefficients are column k of m: v has 2^lg rows, and m may have fewer
+abbrev pub AreReversedValuesAtPowers : {A : Type 0} → RingOf A → A → ℕ → MatrixOf A → MatrixOf A → Type 0
+AreReversedValuesAtPowers R w lg m v =
+    (j k : ℕ) → j < 2 ^ lg → k < m.cols → R.same (cell_of R.zero v (bit_reversed lg j) k) (value_in_ring R (column_of R.zero m k) (power R.one R.product w j))
 
 -- the matrix of one column that has these cells
 abbrev pub one_column : {A : Type 0} → List A → MatrixOf A

@@ -3,8 +3,9 @@
 //! The tree of the powers of a root of order 2^lg has them below its first place: there the rows of
 //! values stand in bit-reversed order, in which row i stands at the place whose bits are those of i
 //! in the opposite order. `evaluate_below` and `interpolate_below` lead from coefficients in natural
-//! order to values in that of the tree, and back. Outside of this module both are in natural order,
-//! so the rows of values are put in the other order after the one, and before the other.
+//! order to values in that of the tree, and back. `evaluate_rows` and `interpolate_rows` have both
+//! in natural order: they put the rows of values in the other order after the one, and before the
+//! other. `evaluate_rows_reversed` and `evaluate_few` leave them in that of the tree.
 //!
 //! The way back gives 2^lg times the coefficients, so that in the end each cell is multiplied once
 //! by 1 / 2^lg.
@@ -32,8 +33,8 @@ ghost use Rattle.math_transforms.specs.CosetValues.{AreMultiplesAtPowers};
 ghost use Rattle.math_transforms.specs.CountedWork.{AddsAtMost};
 ghost use Rattle.math_transforms.specs.DomainValues.{
   matrix_of,
+  AreReversedValuesAtPowers,
   AreValuesAtPowers,
-  AreValuesOfFewAtPowers,
 };
 ghost use Rattle.math_transforms.specs.RootTrees.{IsTreeOf};
 
@@ -114,13 +115,41 @@ pub fn evaluate_rows<F: FieldNTT>(
     ensures refused { OnErr result (work.old.butterflies < work.new.butterflies) }
     ensures never { IsTrue F.NEVER_REFUSES → IsOk result }
 {
-    evaluate_below(alloc, cells, cols, lg, 1, true, table, work)?;
+    evaluate_rows_reversed(alloc, cells, cols, lg, table, work)?;
     reverse_rows(cells, cols, lg);
     Ok(())
 }
 
-/// As `evaluate_rows`, for polynomials of few coefficients: the first 2^part rows hold these, and
-/// what the further rows hold does not matter. All 2^lg rows become values.
+/// As `evaluate_rows`, but the rows of values are left in the order of the tree: that of power j
+/// is row `reversed(j, lg)`. A caller that reads each row once does without putting them in order.
+pub fn evaluate_rows_reversed<F: FieldNTT>(
+    alloc: Global,
+    cells: &mut [F],
+    cols: usize,
+    lg: u8,
+    table: &[F],
+    work: &mut Work,
+) -> Mem<()>
+    requires domain { lg ≤ F.MAX_LG_ROOT_ORDER }
+    requires small { lg < 64 }
+    requires size { length cells.old ≡ 2 ^ lg * cols }
+    requires table { IsTreeOf F.Ring F.root F.one lg table.now }
+    requires room { 2 * work.old.butterflies + cols * 2 ^ lg * lg < 2 ^ 129 }
+    ensures size { length cells.new ≡ length cells.old }
+    ensures values { OnOk result (AreReversedValuesAtPowers F.Ring (F.root lg) lg
+        (matrix_of (2 ^ lg) cols cells.old) (matrix_of (2 ^ lg) cols cells.new)) }
+    ensures counted { OnOk result
+        (2 * work.new.butterflies ≡ 2 * work.old.butterflies + cols * 2 ^ lg * lg) }
+    ensures bounded { AddsAtMost (cols * 2 ^ lg * lg) work.old work.new }
+    ensures refused { OnErr result (work.old.butterflies < work.new.butterflies) }
+    ensures never { IsTrue F.NEVER_REFUSES → IsOk result }
+{
+    evaluate_below(alloc, cells, cols, lg, 1, true, table, work)?;
+    Ok(())
+}
+
+/// As `evaluate_rows_reversed`, for polynomials of few coefficients: the first 2^part rows hold
+/// these, and what the further rows hold does not matter. All 2^lg rows become values.
 ///
 /// x^(2^part) is one of 2^(lg - part) numbers at the points, and 2^part points have each of them:
 /// those below one place of the tree. So each block of 2^part rows is given the coefficients, and
@@ -144,7 +173,7 @@ pub fn evaluate_few<F: FieldNTT>(
     requires table { IsTreeOf F.Ring F.root F.one lg table.now }
     requires room { 2 * work.old.butterflies + cols * 2 ^ lg * part < 2 ^ 129 }
     ensures size { length cells.new ≡ length cells.old }
-    ensures values { OnOk result (AreValuesOfFewAtPowers F.Ring (F.root lg)
+    ensures values { OnOk result (AreReversedValuesAtPowers F.Ring (F.root lg) lg
         (matrix_of (2 ^ part) cols cells.old) (matrix_of (2 ^ lg) cols cells.new)) }
     ensures counted { OnOk result
         (2 * work.new.butterflies ≡ 2 * work.old.butterflies + cols * 2 ^ lg * part) }
@@ -152,7 +181,6 @@ pub fn evaluate_few<F: FieldNTT>(
     ensures never { IsTrue F.NEVER_REFUSES → IsOk result }
 {
     evaluate_few_below(alloc, cells, cols, lg, part, 1, true, table, work)?;
-    reverse_rows(cells, cols, lg);
     Ok(())
 }
 

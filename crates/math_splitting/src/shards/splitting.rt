@@ -1,7 +1,9 @@
 //! Data to shards.
 //!
-//! Row i of the values of a strip is the next part of shard i. So the shards are filled strip by
-//! strip, each in the same room, and beside them there is but one strip.
+//! A row of the values of a strip is the next part of a shard: of shard i that whose number has the
+//! bits of i in the opposite order, since a transform leaves the rows so. It is read there, and no
+//! row of the strip is moved. The shards are filled strip by strip, each in the same room, and
+//! beside them there is but one strip.
 
 ghost use Rattle.std.specs.Prelude.{
   ◌≡◌,
@@ -30,7 +32,7 @@ ghost use Rattle.math_splitting.specs.Strips.{IsTableOf};
 use super::Shard;
 use super::rooms::Room;
 use super::sources::{Source, Word, source_of};
-use super::strips::{Layout, layout_of, most_cols, strip_room, write_values};
+use super::strips::{Layout, layout_of, most_cols, row_of_index, strip_room, write_values};
 use super::wanting::{
     Wanted, append_values, are_products_cheaper, wanted_count, wanted_index, write_products,
 };
@@ -287,33 +289,36 @@ fn write_rows<W: Word, R: Room>(
         let cols = most.min(layout.width - from);
         let strip = &mut room[..size_of(layout.lg) * cols];
         write_values(alloc, source, layout, from, cols, table, strip);
-        write_columns(strip, cols, wanted, layout.width, from, cells);
+        write_columns(strip, cols, layout.lg, wanted, layout.width, from, cells);
         from += cols;
     }
 }
 
-/// Writes the row of the strip that has the number of an index into the row of the cells that is
-/// that index's, from column `from` on, for each of the indices.
+/// Writes the row of the strip that has the values of an index into the row of the cells that is
+/// that index's, from column `from` on, for each of the indices. The strip has 2^lg rows.
 fn write_columns<R: Room>(
     strip: &[F],
     cols: usize,
+    lg: u8,
     wanted: Wanted<'_>,
     width: usize,
     from: usize,
     cells: &mut [R],
 )
-    requires strip { All (λ i. i * cols + cols ≤ length strip.now) (indices_in wanted) }
+    requires small { lg < 64 }
+    requires points { All (λ i. i < 2 ^ lg) (indices_in wanted) }
+    requires strip { length strip.now ≡ 2 ^ lg * cols }
     requires within { from + cols ≤ width }
     requires size { length (R.words cells.old) ≡ length (indices_in wanted) * width }
     requires fits { length (R.words cells.old) < 2 ^ 64 }
     ensures columns { AreColumnsWritten width from cols (length (indices_in wanted.entry))
-        (strip_element (indices_in wanted.entry) cols strip.now)
+        (strip_element lg (indices_in wanted.entry) cols strip.now)
         (R.words cells.old) (R.words cells.new) }
     ensures size { length (R.words cells.new) ≡ length (R.words cells.old) }
 {
     for t in 0..wanted_count(wanted) {
-        let at = wanted_index(wanted, t) * cols;
-        R::write(cells, t * width + from, &strip[at..at + cols]);
+        let row = row_of_index(strip, cols, lg, wanted_index(wanted, t));
+        R::write(cells, t * width + from, row);
     }
 }
 
@@ -422,21 +427,23 @@ fn append_strips<W: Word>(
         let cols = most.min(layout.width - from);
         let strip = &mut room[..size_of(layout.lg) * cols];
         write_values(alloc, source, layout, from, cols, table, strip);
-        append_rows(strip, cols, size_of(layout.lg), shards)?;
+        append_rows(strip, cols, layout.lg, shards)?;
         from += cols;
     }
     Ok(())
 }
 
-/// Adds to each shard the row of its index, of so many rows of `cols` cells.
-fn append_rows(cells: &[F], cols: usize, rows: usize, shards: &mut [Shard]) -> Mem<()>
-    requires size { length cells.now ≡ rows * cols }
-    requires below { All (λ s. s.index < rows) shards.old }
-    ensures { OnOk result (AreExtended cols cells.now shards.old shards.new) }
+/// Adds to each shard the row of the strip that has the values of its index. The strip has 2^lg
+/// rows of `cols` cells.
+fn append_rows(strip: &[F], cols: usize, lg: u8, shards: &mut [Shard]) -> Mem<()>
+    requires small { lg < 64 }
+    requires points { All (λ s. s.index < 2 ^ lg) shards.old }
+    requires strip { length strip.now ≡ 2 ^ lg * cols }
+    ensures { OnOk result (AreExtended lg cols strip.now shards.old shards.new) }
 {
     for i in 0..shards.len() {
-        let row = shards[i].index as usize;
-        append_row(&mut shards[i], &cells[row * cols..(row + 1) * cols])?;
+        let row = row_of_index(strip, cols, lg, shards[i].index as usize);
+        append_row(&mut shards[i], row)?;
     }
     Ok(())
 }

@@ -32,6 +32,15 @@ fn next_reversed(j: usize, lg: u8) -> usize
     }
 }
 
+/// The number whose lg bits are those of i in the opposite order.
+pub fn reversed(i: usize, lg: u8) -> usize
+    requires small { lg < 64 }
+    requires below { i < 2 ^ lg }
+    ensures { result ≡ bit_reversed lg i }
+{
+    (i.reverse_bits() >> 1) >> (63 - lg)
+}
+
 /// Exchanges two rows of `cols` cells.
 fn swap_rows<F: Additive>(cells: &mut [F], rows: usize, cols: usize, i: usize, j: usize)
     requires size { length cells.old ≡ rows * cols }

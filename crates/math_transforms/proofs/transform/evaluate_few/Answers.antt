@@ -2,7 +2,7 @@ use Rattle.std.proofs.Common.{arith}
 use Rattle.math_base.proofs.Members.{ring_members}
 use Rattle.math_transforms.proofs.PowersOfTwo.{power_of_two-word}
 use Rattle.math_transforms.proofs.TreeEntries.{root-tree, tree-ones}
-use Rattle.math_transforms.proofs.TreeValues.{few-natural}
+use Rattle.math_transforms.proofs.TreeValues.{few-reversed}
 use Rattle.math_transforms.proofs.transform.evaluate_few.Goals as goal
 
 pub evaluate_few_below-requires-clause-tree : goal.evaluate_few_below-requires-clause-tree
@@ -28,6 +28,6 @@ pub returns-clause-values : goal.returns-clause-values
 returns-clause-values g c =
     let R = ring_members g.F.Multiplicative.product g.F.Debug.debug_output g.F.Object.same g.F.Object.NEVER_REFUSES g.F.Additive.zero g.F.Additive.sum g.F.Additive.negative g.F.Ring.one in
     let F = g.met.F in
-    few-natural R F.Object.equality F.Additive.group F.Multiplicative.commutes F.Ring.ring F.Field.field g.F.FieldNTT.root c.args.lg c.args.cols
-    (F.FieldNTT.roots.order c.args.lg c.requires.domain) c.args.part c.args.table.now c.args.cells.now c.evaluate_few_below.new.cells c.reverse_rows.new.cells
-    c.requires.part c.requires.table c.in_ok-evaluate_few_below.ensures.values c.reverse_rows.ensures
+    few-reversed R F.Object.equality F.Additive.group F.Multiplicative.commutes F.Ring.ring F.Field.field g.F.FieldNTT.root c.args.lg c.args.cols
+    (F.FieldNTT.roots.order c.args.lg c.requires.domain) c.args.part c.args.table.now c.args.cells.now c.evaluate_few_below.new.cells c.requires.part c.requires.table
+    c.in_ok-evaluate_few_below.ensures.values

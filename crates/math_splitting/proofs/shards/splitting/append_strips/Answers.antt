@@ -13,7 +13,7 @@ loop-from-preserved g c =
     let new = c.append_rows.new.shards in
     record {
       within = omega (arith, c.loop-from.invariant.within, c.min-cols.ensures);
-      below = below_more cols _ strip old new c.append_rows.auto.shards c.in_ok-append_rows.ensures c.loop-from.invariant.below;
+      below = below_more layout.lg cols _ strip old new c.append_rows.auto.shards c.in_ok-append_rows.ensures c.loop-from.invariant.below;
       begun = λ total indices begun. begun_more (words_in g.W.Word.word c.args.source.now) layout.min total layout.lg c.loop-from.from cols strip indices old new
           c.write_values.ensures c.loop-from.invariant.below c.append_rows.auto.shards c.in_ok-append_rows.ensures (c.loop-from.invariant.begun total indices begun);
     }

@@ -1,6 +1,6 @@
-use Rattle.std.proofs.Common.{◌≡◌, ◌∙◌, ℕ, ◌+◌, ◌-◌, ◌*◌, ◌<◌, ◌≤◌, List, drop, get_or, length, take, sym, ap, subst, arith}
-use Rattle.std.proofs.lemmas.List.{length-drop, length-take-le}
+use Rattle.std.proofs.Common.{◌≡◌, ◌∙◌, ℕ, ◌+◌, ◌*◌, ◌<◌, ◌≤◌, List, drop, get_or, length, take, refl, ap, arith}
 use Rattle.std.proofs.lemmas.Nat.{mul-le}
+use Rattle.math_theory.specs.BitReversal.{bit_reversed}
 use Rattle.math_base.specs.declared.fields.goldilocks.F.{F}
 use Rattle.math_splitting.specs.ShardRows.{indices_in, strip_element}
 use Rattle.math_splitting.proofs.SameCells.{nought}
@@ -17,16 +17,14 @@ loop-t-preserved g c =
     let indices = indices_in c.args.wanted in
     let old = g.R.Room.words c.loop-t.cells in
     let first = g.R.Room.words c.args.cells.now in
-    let i = c.wanted_index.result in
-    let m = i * cols + cols - i * cols in
-    let items : List F = take m (drop (i * cols) strip) in
-    let element : ℕ → ℕ → F = strip_element indices cols strip in
+    let lg = c.args.lg in
+    let items : List F = c.row_of_index-row.result.now in
+    let element : ℕ → ℕ → F = strip_element lg indices cols strip in
     let below : t < length indices = omega (arith, c.wanted_count-t-end.ensures) in
-    let q : m ≡ cols = omega arith in
-    let there : i * cols + cols ≤ length strip = subst (λ j. j * cols + cols ≤ length strip) (sym c.wanted_index.ensures) (c.requires.strip t 0 below) in
-    let long : length items ≡ cols = length-take-le m (drop (i * cols) strip) (omega (arith, q, there, length-drop (i * cols) strip)) ∙ q in
+    let long : length items ≡ cols = c.row_of_index-row.ensures.count in
     let is : (k : ℕ) → k < cols → get_or items k nought ≡ element t k = λ k l.
-    ap (λ j. get_or (take m (drop (j * cols) strip)) k nought) c.wanted_index.ensures ∙ strip_row indices cols t m strip q k l in
+    ap (λ xs. get_or xs k nought) c.row_of_index-row.ensures.row ∙ ap (λ j. get_or (take cols (drop (bit_reversed lg j * cols) strip)) k nought) c.wanted_index.ensures
+    ∙ strip_row lg indices cols t cols strip refl k l in
     let up : (t + 1) * width ≤ length indices * width = mul-le (t + 1) width (length indices) width (omega (arith, below)) (omega arith) in
     let next : (t + 1) * width ≡ t * width + width = omega arith in
     let inside : t * width + width ≤ length old = omega (arith, up, next, c.requires.size, c.loop-t.invariant.size) in

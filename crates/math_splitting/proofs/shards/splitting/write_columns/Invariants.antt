@@ -6,6 +6,6 @@ use Rattle.math_splitting.proofs.shards.splitting.write_columns.Given as goal
 abbrev pub invariant-loop-t : goal.invariant-loop-t
 invariant-loop-t g l = record {
   size : length (g.R.Room.words l.cells) ≡ length (g.R.Room.words l.initial.cells);
-  columns : AreColumnsWritten l.width l.from l.cols l.t (strip_element (indices_in l.wanted) l.cols l.strip) (g.R.Room.words l.initial.cells) (g.R.Room.words l.cells);
+  columns : AreColumnsWritten l.width l.from l.cols l.t (strip_element l.lg (indices_in l.wanted) l.cols l.strip) (g.R.Room.words l.initial.cells) (g.R.Room.words l.cells);
   left : (p : ℕ) → l.t * l.width ≤ p → get_or (g.R.Room.words l.cells) p 0 ≡ get_or (g.R.Room.words l.initial.cells) p 0;
 }

@@ -1,0 +1,5 @@
+use Rattle.c_calls.proofs.WordMatrices.{rows_of_reversed}
+use Rattle.c_calls.proofs.rows.write_in_order.Goals as goal
+
+pub returns : goal.returns
+returns c = rows_of_reversed c.args.lg c.args.cols c.args.items.now c.reverse_rows.new.cells c.write_numbers.new.words c.reverse_rows.ensures c.write_numbers.ensures
