@@ -1,22 +1,18 @@
 -- Shards that give a block of bytes back, and what is wrong with those that give none.
 use Rattle.std.specs.Prelude.{◌≡◌, ℕ, ◌<◌, ◌≤◌, ◌^◌, List, All, Result}
 use Rattle.std.specs.Int.{to_be_bytes, w64}
-use Rattle.std.specs.List.{flat_map, range_with_len}
+use Rattle.std.specs.List.{flat_map}
 use Rattle.math_splitting.specs.declared.shards.Shard.{Shard}
 use Rattle.math_shards.specs.declared.shards.Error.{Error}
 use Rattle.math_splitting.specs.Shards.{AreShardsOf, IsSameAsOne, IsShardOf, JoinTo, distinct_indices}
-use Rattle.math_splitting.specs.ShardRows.{AreRowsOfShardsAt}
+use Rattle.math_splitting.specs.ShardRows.{AreRowsOfShards}
 use Rattle.math_shards.specs.WordShards.{AreWordShards}
 use Rattle.math_shards.specs.Joining.{HaveConflict, IsDueFor, RefusesWhereDue}
 use Rattle.shard_blocks.specs.BlockWords.{AreBytes, words_of_bytes}
 
--- the bytes are, row by row, the shards of these indices for the block: each cell is eight of them, the highest first
-abbrev pub AreByteRowsAt : List ℕ → ℕ → ℕ → List ℕ → List ℕ → Type 0
-AreByteRowsAt block min total indices bytes = (cells : List ℕ) × AreRowsOfShardsAt (words_of_bytes block) min total indices cells × (bytes ≡ flat_map (to_be_bytes w64) cells)
-
--- the bytes are, row by row, the shards of the block
+-- the bytes are, row by row, the shards of the block: each cell is eight of them, the highest first
 abbrev pub AreByteRows : List ℕ → ℕ → ℕ → List ℕ → Type 0
-AreByteRows block min total bytes = AreByteRowsAt block min total (range_with_len 0 total) bytes
+AreByteRows block min total bytes = (cells : List ℕ) × AreRowsOfShards (words_of_bytes block) min total cells × (bytes ≡ flat_map (to_be_bytes w64) cells)
 
 -- the shards give this block back
 abbrev pub JoinToBlock : List ℕ → List Shard → Type 0

@@ -1,21 +1,22 @@
 //! Blocks to shards, and these to blocks.
 
-ghost use Rattle.std.specs.Prelude.{◌≡◌, ◌*◌, ◌<◌, ◌≤◌, ◌⊎◌, ℕ, All, List, length, IfOk, IfErr, IfNone, IfSome, MatchResult, OnErr, OnOk};
+ghost use Rattle.std.specs.Prelude.{◌≡◌, ◌*◌, ◌<◌, ◌≤◌, ◌^◌, ◌⊎◌, ℕ, All, List, length, IfOk, IfErr, IfNone, IfSome, MatchResult, OnErr, OnOk};
 ghost use Rattle.math_splitting.specs.DataWords.{spelled_words};
 ghost use Rattle.math_shards.specs.Joining.{IsMemory};
+ghost use Rattle.math_splitting.specs.ShardRows.{AreRowsOfShardsAt};
 ghost use Rattle.math_splitting.specs.Shards.{AreShardsAt, AreShardsOf, width_for};
 ghost use Rattle.math_shards.specs.WordShards.{StandInFront};
 ghost use Rattle.math_values.specs.Values.{AreElements};
 ghost use Rattle.math_shards.specs.declared.shards.Error.TheVariants.{TooFew, Mismatch, Index};
 ghost use Rattle.math_shards.specs.declared.shards.Error.TheVariants.{Conflict, Inconsistent};
 ghost use Rattle.shard_blocks.specs.BlockWords.{words_of_bytes};
-ghost use Rattle.shard_blocks.specs.Blocks.{AreByteRows, AreByteRowsAt, AreRowsRefused, DoRowsJoinTo};
+ghost use Rattle.shard_blocks.specs.Blocks.{AreByteRows, AreRowsRefused, DoRowsJoinTo};
 ghost use Rattle.shard_blocks.specs.Blocks.{IsBlockDue, JoinToBlock, RefusesBlockExactly};
 
 use crate::words::{block_in, block_size, source_of, write_block};
 use math_base::algebra::Mem;
 use math_shards::shards::{
-    Error, Shard, join_cells, join_packed, shard_width, split_source, split_source_at,
+    Error, Room, Shard, join_cells, join_packed, shard_width, split_source, split_source_at,
     split_source_rows, split_source_rows_at,
 };
 use std::alloc::Global;
@@ -103,8 +104,9 @@ pub fn split_block_rows(
     Ok(())
 }
 
-/// Writes the shards of these indices alone over the bytes of `out`, as `split_block_rows` writes
-/// them: row t is the shard of index t of the list. An index may stand there twice.
+/// Writes the shards of these indices alone over `out`: over words, over elements, or over bytes, of
+/// which each cell takes eight, the highest first. Row t is the shard of index t of the list. An
+/// index may stand there twice.
 ///
 /// The conditions are those of `split_block_rows`, with as many rows as there are indices, and each
 /// index is below `total`. It takes memory as `split_block_rows` does, or less. If that is refused,
@@ -112,24 +114,26 @@ pub fn split_block_rows(
 ///
 /// ```
 /// use shard_blocks::split_block_rows_at;
-/// let mut out = [0; 32];
+/// let mut out = [0_u8; 32];
 /// split_block_rows_at(alloc, b"data", 1, 2, &[1], &mut out)?;
 /// out[7]; // 2
 /// ```
-pub fn split_block_rows_at(
+pub fn split_block_rows_at<R: Room>(
     alloc: Global,
     bytes: &[u8],
     min: u32,
     total: u32,
     indices: &[u32],
-    out: &mut [u8],
+    out: &mut [R],
 ) -> Mem<()>
     requires some { 1 ≤ min }
     requires within { min ≤ total }
     requires below { All (λ i. i < total) indices.now }
-    requires size { length out.old
-        ≡ length indices.now * (8 * width_for min (words_of_bytes bytes.now)) }
-    ensures ok { OnOk result (AreByteRowsAt bytes.now min total indices.now out.new) }
+    requires size { length (R.words out.old)
+        ≡ length indices.now * width_for min (words_of_bytes bytes.now) }
+    requires fits { length (R.words out.old) < 2 ^ 64 }
+    ensures ok { OnOk result (AreRowsOfShardsAt (words_of_bytes bytes.now) min total indices.now
+        (R.words out.new)) }
     ensures err { OnErr result (out.new ≡ out.old) }
 {
     split_source_rows_at(alloc, &source_of(bytes), min, total, indices, out)?;

@@ -60,10 +60,6 @@ element_spelling a = to_be_bytes w64 (number a)
 abbrev pub elements_spelling : List F → List ℕ
 elements_spelling elements = flat_map element_spelling elements
 
--- the bytes are those of some elements, a word each
-abbrev pub AreElementBytes : List ℕ → Type 0
-AreElementBytes bytes = (elements : List F) × (bytes ≡ elements_spelling elements)
-
 -- what a record begins with: the index, `min`, `total` and the number of cells, each as a length
 abbrev pub numbers_spelling : Header → ℕ → List ℕ
 numbers_spelling h cells = length_spelling h.index ++ (length_spelling h.min ++ (length_spelling h.total ++ length_spelling cells))

@@ -4,16 +4,17 @@
 //! A record is the shard of a block and its two fingerprints. Callers hand in how many cells the
 //! shard of a block has; `shard_blocks` says it.
 
-ghost use Rattle.std.specs.Prelude.{◌≡◌, ◌≢◌, ◌↔◌, ◌<◌, ◌≤◌, ◌^◌, List, length, OnOk, IsTrue, IsFalse, IfOk, IfSome, IsNone};
+ghost use Rattle.std.specs.Prelude.{◌≡◌, ◌≢◌, ◌↔◌, ◌<◌, ◌≤◌, ◌^◌, ◌+◌, ◌*◌, ◌++◌, List, length, take, OnOk, IsTrue, IsFalse, IfOk, IfSome, IsNone};
 ghost use Rattle.math_base.specs.declared.fields.goldilocks.F.{F};
-ghost use Rattle.shard_format.specs.Records.{AreCellsThatFit, AreElementBytes, HaveFingerprints, IsRecordOf, IsShardOfHeader, block_count, block_size, capped, element_spelling, elements_spelling, file_size, numbers_spelling, record_place, record_size, record_spelling};
+ghost use Rattle.shard_format.specs.Records.{AreCellsThatFit, HaveFingerprints, IsRecordOf, IsShardOfHeader, block_count, block_size, capped, element_spelling, elements_spelling, file_size, numbers_spelling, record_place, record_size, record_spelling};
 
 use crate::header::{HEADER_SIZE, Header, write_pair};
 use math_base::algebra::Mem;
 use math_base::fields::goldilocks::{F, MODULUS};
 use math_codec::codec::{len_size, write_len};
+use math_splitting::shards::Room;
 use shard_fingerprints::{Fingerprints, cells_fingerprints};
-use std::alloc::Global;
+use std::alloc::{AllocError, Global};
 
 /// The number of bytes of the fingerprints of a record: two words.
 pub const FINGERPRINTS_SIZE: usize = 16;
@@ -184,36 +185,49 @@ pub fn is_record_of(
     Ok(are_cells_that_fit(header, block, count as usize, room))
 }
 
-/// Writes the record of this block in the file with this header, in place of what `out` had: the
-/// bytes of the cells, a word each, and before and behind them what `is_record_of` asks for. So the
-/// bytes are the same whenever the header, the block and the cells are.
-///
-/// There are fewer than 2^32 cells. `room` is for them: hand in the same for one record after the
-/// other.
+/// Writes the bytes of the cells over those from place `from` on, which are as many: a word each, the
+/// highest byte first.
+fn write_cells(bytes: &mut [u8], from: usize, cells: &[F])
+    requires { length bytes.old ≡ from + 8 * length cells.now }
+    ensures { bytes.new ≡ take from bytes.old ++ elements_spelling cells.now }
+{
+    u8::write(&mut bytes[from..], 0, cells);
+}
+
+/// Adds the bytes of the cells.
+fn append_cells(cells: &[F], out: &mut Vec<u8>) -> Mem<()>
+    requires few { length cells.now < 2 ^ 32 }
+    ensures { OnOk result (out.new.items ≡ out.old.items ++ elements_spelling cells.now) }
+{
+    let from = out.len();
+    let Some(size) = from.checked_add(8 * cells.len()) else {
+        return Err(AllocError);
+    };
+    out.resize(size, 0)?;
+    write_cells(out, from, cells);
+    Ok(())
+}
+
+/// Writes the record of this block in the file with this header that has these cells, in place of
+/// what `out` had: the bytes of the cells, a word each, and before and behind them what
+/// `is_record_of` asks for. There are fewer than 2^32 cells.
 pub fn write_record(
     alloc: Global,
     header: &Header,
     block: u64,
-    row: &[u8],
-    room: &mut Vec<F>,
+    cells: &[F],
     out: &mut Vec<u8>,
 ) -> Mem<()>
-    requires cells { AreElementBytes row.now }
-    requires few { length row.now < 2 ^ 35 }
-    ensures exact { OnOk result ((cells : List F) → row.now ≡ elements_spelling cells
-        → out.new.items ≡ record_spelling header.now block cells) }
-    ensures read { OnOk result ((cells : List F) → row.now ≡ elements_spelling cells
-        → IsRecordOf header.now block (length cells) out.new.items) }
+    requires few { length cells.now < 2 ^ 32 }
+    ensures exact { OnOk result (out.new.items ≡ record_spelling header.now block cells.now) }
+    ensures read { OnOk result
+        (IsRecordOf header.now block (length cells.now) out.new.items) }
 {
-    if !read_elements(row, room)? {
-        unreachable!()
-    }
-    let stored = cells_fingerprints(&header.keys, block, header.index, room);
-    let numbers = record_numbers(alloc, header, room.len() as u32)?;
+    let stored = cells_fingerprints(&header.keys, block, header.index, cells);
+    let numbers = record_numbers(alloc, header, cells.len() as u32)?;
     out.clear();
-    out.reserve(numbers.len() + row.len() + FINGERPRINTS_SIZE)?;
     out.extend_from_slice(&numbers)?;
-    out.extend_from_slice(row)?;
+    append_cells(cells, out)?;
     write_pair(alloc, stored.first, stored.second, out)?;
     Ok(())
 }

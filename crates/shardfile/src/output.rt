@@ -3,7 +3,6 @@
 ghost use Rattle.std.specs.Prelude.{◌≡◌, ◌+◌, ◌*◌, ◌<◌, ◌≤◌, ◌^◌, ℕ, All, List, length, IfOk, OnOk};
 ghost use Rattle.math_splitting.specs.Shards.{width_for};
 ghost use Rattle.shard_blocks.specs.BlockWords.{words_of_bytes};
-ghost use Rattle.shardfile.specs.Rows.{AreElementRows};
 
 use crate::fault::Fault;
 use crate::names::folder_and_name;
@@ -432,9 +431,8 @@ pub struct ShardFiles {
     pub split: Header,
     /// The number of the next block.
     block: u64,
-    /// Room for the shards of a block, for the cells of one of them and for one record.
-    rows: Vec<u8>,
-    cells: Vec<F>,
+    /// Room for the shards of a block, and for one record.
+    rows: Vec<F>,
     record: Vec<u8>,
 }
 
@@ -452,7 +450,6 @@ impl ShardFiles {
             split: *split,
             block: 0,
             rows: Vec::new(alloc),
-            cells: Vec::new(alloc),
             record: Vec::new(alloc),
         }
     }
@@ -528,18 +525,17 @@ impl ShardFiles {
             split,
             block,
             rows,
-            cells,
             record,
             ..
         } = self;
         if !indices.is_empty() {
-            let width = row_size(bytes.len(), split.min)?;
+            let width = width_of(bytes.len(), split.min)?;
             let Some(size) = indices.len().checked_mul(width) else {
                 return Err(Fault::Cells);
             };
-            rows.resize(size, 0)?;
+            rows.resize(size, F::from(0))?;
             append_all(
-                rt, partials, indices, bytes, split, *block, width, rows, cells, record,
+                rt, partials, indices, bytes, split, *block, width, rows, record,
             )?;
         }
         self.block = self.block.saturating_add(1);
@@ -567,23 +563,23 @@ impl ShardFiles {
     }
 }
 
-/// How many bytes the cells of a shard are of a block of so many bytes, of which `min` give it back.
-/// It refuses where these are 2^32 cells or more.
-fn row_size(bytes: usize, min: u32) -> Result<usize, Fault>
+/// How many cells a shard has of a block of so many bytes, of which `min` give it back. It refuses
+/// where these are 2^32 or more.
+fn width_of(bytes: usize, min: u32) -> Result<usize, Fault>
     requires { 1 ≤ min }
     ensures size { IfOk result (λ width. (block : List ℕ) → length block ≡ bytes
-        → width ≡ 8 * width_for min (words_of_bytes block)) }
-    ensures few { IfOk result (λ width. width < 2 ^ 35) }
+        → width ≡ width_for min (words_of_bytes block)) }
+    ensures few { IfOk result (λ width. width < 2 ^ 32) }
 {
     let cells = cells_for(bytes, min);
     if cells > u32::MAX as usize {
         return Err(Fault::Cells);
     }
-    Ok(8 * cells)
+    Ok(cells)
 }
 
 /// Writes a record at the end of each file: the shard of its index for the block with this number,
-/// and its fingerprints. The shards are written over `rows`, of which each has so many bytes.
+/// and its fingerprints. The shards are written over `rows`, of which each has so many cells.
 fn append_all(
     rt: &HostRuntime,
     partials: &mut [Partial],
@@ -592,21 +588,18 @@ fn append_all(
     split: &Header,
     block: u64,
     width: usize,
-    rows: &mut [u8],
-    cells: &mut Vec<F>,
+    rows: &mut [F],
     record: &mut Vec<u8>,
 ) -> Result<(), Fault>
     requires some { 1 ≤ split.now.min }
     requires within { split.now.min ≤ split.now.total }
     requires below { All (λ i. i < split.now.total) indices.now }
-    requires width { width ≡ 8 * width_for split.now.min (words_of_bytes bytes.now) }
-    requires few { width < 2 ^ 35 }
+    requires width { width ≡ width_for split.now.min (words_of_bytes bytes.now) }
+    requires few { width < 2 ^ 32 }
     requires size { length rows.old ≡ length indices.now * width }
 {
     split_block_rows_at(rt.alloc(), bytes, split.min, split.total, indices, rows)?;
-    append_rows(
-        rt, partials, indices, rows, width, split, block, cells, record,
-    )
+    append_rows(rt, partials, indices, rows, width, split, block, record)
 }
 
 /// Writes a record at the end of each file: the row of its index, and its fingerprints.
@@ -614,15 +607,13 @@ fn append_rows(
     rt: &HostRuntime,
     partials: &mut [Partial],
     indices: &[u32],
-    rows: &[u8],
+    rows: &[F],
     width: usize,
     split: &Header,
     block: u64,
-    cells: &mut Vec<F>,
     record: &mut Vec<u8>,
 ) -> Result<(), Fault>
-    requires rows { AreElementRows width (length indices.now) rows.now }
-    requires few { width < 2 ^ 35 }
+    requires few { width < 2 ^ 32 }
     requires size { length rows.now ≡ length indices.now * width }
 {
     for t in 0..indices.len().min(partials.len()) {
@@ -631,7 +622,7 @@ fn append_rows(
             ..*split
         };
         let row = &rows[t * width..(t + 1) * width];
-        write_record(rt.alloc(), &header, block, row, cells, record)?;
+        write_record(rt.alloc(), &header, block, row, record)?;
         partials[t].append(rt, record)?;
     }
     Ok(())

@@ -1,4 +1,4 @@
-//! Where rows of shards are written: over words, or over bytes.
+//! Where rows of shards are written: over words, over bytes, or over elements.
 
 ghost use Rattle.std.specs.Prelude.{◌≡◌, ◌+◌, ◌*◌, ◌≤◌, ◌++◌, ℕ, List, length, take, drop, map};
 ghost use Rattle.std.specs.Int.{to_be_bytes, w64};
@@ -9,7 +9,7 @@ ghost use Rattle.math_splitting.specs.ShardRows.{AreNumbers};
 
 use math_base::fields::goldilocks::F;
 
-/// Room for words. Each takes a word, or eight bytes, the highest first.
+/// Room for words. Each takes a word, an element, or eight bytes, the highest first.
 pub trait Room: Copy {
     ghost words: { List Self → List ℕ };
 
@@ -33,6 +33,14 @@ impl Room for u8 {
 
     fn write(room: &mut [u8], from: usize, items: &[F]) {
         write_bytes(room, from, items);
+    }
+}
+
+impl Room for F {
+    ghost words = { map number };
+
+    fn write(room: &mut [F], from: usize, items: &[F]) {
+        room[from..from + items.len()].copy_from_slice(items);
     }
 }
 
