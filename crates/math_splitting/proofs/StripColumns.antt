@@ -4,8 +4,6 @@ use Rattle.std.proofs.Math.Seq.{take-append_seam}
 use Rattle.std.proofs.lemmas.Bool.{cases_lt}
 use Rattle.std.proofs.lemmas.List.{drop-drop, drop_all, get_or_past, get_or-take, length-replicate, length-take-le}
 use Rattle.std.proofs.lemmas.Nat.{mul-add-lt, mul-le}
-use Rattle.math_theory.specs.BitReversal.{bit_reversed}
-use Rattle.math_theory.proofs.transforms.BitOrder.{bit_reversed-below}
 use Rattle.math_base.specs.declared.fields.goldilocks.F.{F}
 use Rattle.math_base.specs.Elements.{number, root_of, same, goldilocks}
 use Rattle.math_base.proofs.ElementNumbers.{same_number}
@@ -105,13 +103,6 @@ first_columns n c k rows rest whole =
     let front : take (n * c) (rows ++ rest) ≡ rows = ap (λ i. take i (rows ++ rest)) (sym whole) ∙ take-append_seam rows rest in
     ap (λ i. column_of nought (matrix_of i c (rows ++ rest)) k) (sym all) ∙ column-halves nought n 0 c k (rows ++ rest)
     ∙ append-nil (column_of nought (matrix_of n c (take (n * c) (rows ++ rest))) k) ∙ ap (λ xs. column_of nought (matrix_of n c xs) k) front
-
--- each row of a strip of values is within it
-pub row_within : (lg i c row : ℕ) (strip : List F) → length strip ≡ 2 ^ lg * c → row ≡ bit_reversed lg i → row * c + c ≤ length strip
-row_within lg i c row strip count e =
-    let up : (row + 1) * c ≤ 2 ^ lg * c = mul-le (row + 1) c (2 ^ lg) c (omega (arith, e, bit_reversed-below lg i)) (omega arith) in
-    let next : (row + 1) * c ≡ row * c + c = omega arith in
-    omega (arith, up, next, count)
 
 -- the values of the columns of a strip, in whose first rows the coefficients stood, are those of the columns of the rows of data
 pub strip_valued : (words : List ℕ) (min lg part from c : ℕ) (strip rest new : List F) → IsStripOf words min (2 ^ part) from c strip → length new ≡ 2 ^ lg * c

@@ -1,7 +1,7 @@
 -- The opposite order of the bits of a number.
-use Rattle.std.proofs.Common.{◌≡◌, ◌∙◌, ℕ, zero, suc, ◌+◌, ◌-◌, ◌*◌, ◌/◌, ◌%◌, ◌<◌, ◌^◌, refl, sym, ap, ap₂, arith}
+use Rattle.std.proofs.Common.{◌≡◌, ◌∙◌, ℕ, zero, suc, ◌+◌, ◌-◌, ◌*◌, ◌/◌, ◌%◌, ◌<◌, ◌≤◌, ◌^◌, refl, sym, ap, ap₂, arith}
 use Rattle.std.specs.Int.{reverse_bits_onto}
-use Rattle.std.proofs.lemmas.Nat.{pow-add, shl-shr, shr-shr}
+use Rattle.std.proofs.lemmas.Nat.{mul-le, pow-add, shl-shr, shr-shr}
 use Rattle.math_theory.specs.BitReversal.{bit_reversed}
 use Rattle.math_theory.proofs.domains.RootOrders.{power_of_two-suc}
 use Rattle.math_theory.proofs.transforms.BitOrder.{bit_reversed-below, bit_reversed-suc, bit_reversed-twice}
@@ -68,3 +68,10 @@ reversed-word lg i small below =
     let word : reverse_bits_onto 64 i 0 ≡ bit_reversed lg i * 2 ^ m =
     reversed-onto 64 i 0 ∙ omega arith ∙ ap (λ n. bit_reversed n i) (sym all) ∙ reversed-longer m lg i below in
     shr-shr (reverse_bits_onto 64 i 0) 1 (63 - lg) ∙ ap₂ (λ x n. x / 2 ^ n) word rest ∙ shl-shr (bit_reversed lg i) m
+
+-- the row of that number is within 2^lg rows of c cells
+pub reversed-row_within : (lg i c n row : ℕ) → n ≡ 2 ^ lg * c → row ≡ bit_reversed lg i → row * c + c ≤ n
+reversed-row_within lg i c n row count e =
+    let up : (row + 1) * c ≤ 2 ^ lg * c = mul-le (row + 1) c (2 ^ lg) c (omega (arith, e, bit_reversed-below lg i)) (omega arith) in
+    let next : (row + 1) * c ≡ row * c + c = omega arith in
+    omega (arith, up, next, count)

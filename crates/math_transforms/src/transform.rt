@@ -121,7 +121,8 @@ pub fn evaluate_rows<F: FieldNTT>(
 }
 
 /// As `evaluate_rows`, but the rows of values are left in the order of the tree: that of power j
-/// is row `reversed(j, lg)`. A caller that reads each row once does without putting them in order.
+/// is row `reversed(j, lg)`. A caller that reads each row once, by `reversed_row`, does without the
+/// pass that puts them in order.
 pub fn evaluate_rows_reversed<F: FieldNTT>(
     alloc: Global,
     cells: &mut [F],

@@ -20,14 +20,11 @@ ghost use Rattle.std.specs.Prelude.{
   ℕ,
   IfOk,
   List,
-  drop,
   length,
   map,
   slice_index,
-  take,
 };
 ghost use Rattle.std.specs.Int.{IsNextPowerOfTwo};
-ghost use Rattle.math_theory.specs.BitReversal.{bit_reversed};
 ghost use Rattle.math_base.specs.Elements.{same};
 ghost use Rattle.math_splitting.specs.DataWords.{words_in};
 ghost use Rattle.math_splitting.specs.Shards.{counted, width_for};
@@ -38,7 +35,6 @@ ghost use Rattle.math_splitting.specs.Strips.{IsTableOf, packed_at, piece_of};
 use super::sources::{Source, Word, before_slice, count_of, word_in};
 use math_base::algebra::Mem;
 use math_base::fields::goldilocks::F;
-use math_transforms::transform::order::reversed;
 use math_transforms::transform::{evaluate_few, lg_of, size_of};
 use math_transforms::work::Work;
 use std::alloc::Global;
@@ -215,8 +211,8 @@ pub(super) fn write_strip<W: Word>(
 }
 
 /// Writes over the cells the values of `cols` columns from column `from` on, at all points: those
-/// at power i of the root in the row whose number has the bits of i in the opposite order. The table
-/// is that of `evaluation_table`. Takes no memory.
+/// at power i of the root in the row whose number has the bits of i in the opposite order. The
+/// table is that of `evaluation_table`. Takes no memory.
 pub(super) fn write_values<W: Word>(
     alloc: Global,
     source: &Source<'_, W>,
@@ -239,19 +235,6 @@ pub(super) fn write_values<W: Word>(
     let Ok(()) = evaluate_few(alloc, cells, cols, layout.lg, part, table, &mut Work::new()) else {
         unreachable!()
     };
-}
-
-/// The row of a strip of values that has those at power `index` of the root. The strip has 2^lg
-/// rows.
-pub(super) fn row_of_index(strip: &[F], cols: usize, lg: u8, index: usize) -> &[F]
-    requires small { lg < 64 }
-    requires below { index < 2 ^ lg }
-    requires size { length strip.now ≡ 2 ^ lg * cols }
-    ensures row { result.now ≡ take cols (drop (bit_reversed lg index * cols) strip.now) }
-    ensures count { length result.now ≡ cols }
-{
-    let at = reversed(index, lg) * cols;
-    &strip[at..at + cols]
 }
 
 /// Room for so many rows of a strip of so many columns: zeros.

@@ -4,7 +4,7 @@ ghost use Rattle.std.specs.Prelude.{◌≡◌, ◌≢◌, ◌+◌, ◌*◌, ◌/
 ghost use Rattle.math_theory.specs.BitReversal.{bit_reversed};
 ghost use Rattle.math_transforms.specs.CombinedCells.{AreRowsReversed};
 ghost use Rattle.math_transforms.specs.DomainValues.{matrix_of};
-ghost use Rattle.math_transforms.specs.Matrices.{cell_of};
+ghost use Rattle.math_transforms.specs.Matrices.{cell_of, row_of};
 
 use super::size_of;
 use math_base::algebra::Additive;
@@ -39,6 +39,19 @@ pub fn reversed(i: usize, lg: u8) -> usize
     ensures { result ≡ bit_reversed lg i }
 {
     (i.reverse_bits() >> 1) >> (63 - lg)
+}
+
+/// The row whose number has the lg bits of i in the opposite order, of 2^lg rows of `cols` cells:
+/// that of power i, where rows of values are in the order of the tree.
+pub fn reversed_row<F>(cells: &[F], cols: usize, lg: u8, i: usize) -> &[F]
+    requires small { lg < 64 }
+    requires below { i < 2 ^ lg }
+    requires size { length cells.now ≡ 2 ^ lg * cols }
+    ensures row { result.now ≡ row_of (matrix_of (2 ^ lg) cols cells.now) (bit_reversed lg i) }
+    ensures count { length result.now ≡ cols }
+{
+    let at = reversed(i, lg) * cols;
+    &cells[at..at + cols]
 }
 
 /// Exchanges two rows of `cols` cells.

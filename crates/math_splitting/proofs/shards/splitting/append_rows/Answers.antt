@@ -25,7 +25,7 @@ loop-i-preserved c =
     ap (λ (s : Shard). bit_reversed c.args.lg s.index) (get_or_default shards i first second (omega arith)) in
     let here : R (get_or shards i second) new =
     subst (λ (k : ℕ). IsExtendedBy (take cols (drop (k * cols) strip)) (get_or shards i second) new) own
-    (subst (λ (row : List F). IsExtendedBy row (get_or shards i second) new) c.row_of_index-row.ensures.row c.in_ok-append_row.ensures) in
+    (subst (λ (row : List F). IsExtendedBy row (get_or shards i second) new) c.reversed_row-row.ensures.row c.in_ok-append_row.ensures) in
     record {
       have = done-more R i start shards second new (omega arith) c.loop-i.invariant.have c.loop-i.invariant.left here;
       left = left-more R i start shards new c.loop-i.invariant.left;
