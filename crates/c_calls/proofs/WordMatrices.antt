@@ -1,5 +1,5 @@
 -- Matrices of words: their domains, what is evaluated and interpolated, and what is recovered.
-use Rattle.std.proofs.Common.{◌≡◌, ◌∙◌, ◌×◌, ℕ, zero, suc, ◌+◌, ◌*◌, ◌/◌, ◌%◌, ◌<◌, ◌≤◌, ◌^◌, List, true, false, length, get_or, replicate, All, refl, sym, ap, subst, lit<, inl, inr, arith}
+use Rattle.std.proofs.Common.{◌≡◌, ◌∙◌, ℕ, zero, suc, ◌+◌, ◌*◌, ◌/◌, ◌%◌, ◌<◌, ◌≤◌, ◌^◌, List, true, false, length, get_or, replicate, All, refl, sym, ap, subst, lit<, inl, inr, arith}
 use Rattle.std.proofs.Math.ListN.{get_or-map}
 use Rattle.std.proofs.Math.Nat.{div-add-mod, mod-lt, mul-div_cancel, pow-le-pow_right}
 use Rattle.std.proofs.lemmas.Bool.{cases_lt}

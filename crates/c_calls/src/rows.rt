@@ -19,14 +19,16 @@ use crate::elements::{are_elements, write_numbers};
 use commonware_math::algebra::Mem;
 use commonware_math::fields::goldilocks::F;
 use commonware_math::ntt::{EvaluationVector, Matrix, VanishingPoints};
-use math_transforms::transform::order::{reverse_rows, reversed};
+use math_transforms::transform::order::{reverse_rows, reversed_row};
 use math_transforms::transform::{evaluate_rows_reversed, evaluation_table};
 use math_transforms::work::Work;
 use std::alloc::Global;
 
-/// How many cells a line of a cache has. Rows of fewer are put in order in place, many at a time,
-/// before they are written.
+/// How many cells a line of a cache has: rows of fewer share their lines with others.
 const LINE_CELLS: usize = 8;
+
+/// How many cells a cache holds: 2 MiB.
+const CACHE_CELLS: usize = 262144;
 
 /// 2^lg.
 fn power_of_two(lg: u8) -> usize
@@ -147,21 +149,25 @@ pub fn evaluate(alloc: Global, cells: &mut [u64], items: Vec<F>, lg: u8, cols: u
     ensures err { OnErr result (cells.new ≡ cells.old) }
 {
     let mut items = items;
+    let values: &mut [F] = &mut items;
     let table = evaluation_table::<F>(alloc, lg)?;
-    evaluate_rows_reversed(alloc, &mut items, cols, lg, &table, &mut Work::new())?;
-    write_in_order(cells, &mut items, lg, cols);
+    evaluate_rows_reversed(alloc, values, cols, lg, &table, &mut Work::new())?;
+    write_in_order(cells, values, lg, cols);
     Ok(())
 }
 
 /// Writes rows of elements over rows of words: over row i the numbers of the row whose number has
 /// the lg bits of i in the opposite order. What the elements are afterwards does not matter.
+///
+/// Short rows, and rows that no cache holds, are put in order in place, since that is done many
+/// rows at a time. Others are read where they stand.
 fn write_in_order(words: &mut [u64], items: &mut [F], lg: u8, cols: usize)
     requires small { lg ≤ 32 }
     requires words { length words.old ≡ 2 ^ lg * cols }
     requires items { length items.old ≡ 2 ^ lg * cols }
     ensures { AreReversedRows lg cols items.old words.new }
 {
-    if cols < LINE_CELLS {
+    if cols < LINE_CELLS || words.len() > CACHE_CELLS {
         reverse_rows(items, cols, lg);
         write_numbers(words, items);
     } else {
@@ -178,8 +184,8 @@ fn write_rows(words: &mut [u64], items: &[F], lg: u8, cols: usize)
 {
     for row in 0..power_of_two(lg) {
         let at = row * cols;
-        let from = reversed(row, lg) * cols;
-        write_numbers(&mut words[at..at + cols], &items[from..from + cols]);
+        let source = reversed_row(items, cols, lg, row);
+        write_numbers(&mut words[at..at + cols], source);
     }
 }
 
