@@ -1,5 +1,5 @@
 -- Bytes as the words of shards, and the shards that they are.
-use Rattle.std.proofs.Common.{◌≡◌, ◌↔◌, ◌∙◌, ℕ, ◌*◌, ◌/◌, ◌<◌, ◌^◌, ◌⊎◌, inl, inr, Option, None, Some, Result, Err, List, [], ◌∷◌, length, map, get_or, replicate, refl, sym, ap, ap₂, subst, arith}
+use Rattle.std.proofs.Common.{◌≡◌, ◌↔◌, ◌∙◌, ℕ, ◌*◌, ◌/◌, ◌<◌, ◌^◌, ◌⊎◌, inl, inr, Option, None, Some, Err, List, [], ◌∷◌, length, map, get_or, replicate, refl, sym, ap, ap₂, subst, arith}
 use Rattle.std.specs.Int.{from_be_bytes, to_be_bytes, w64}
 use Rattle.std.specs.List.{All}
 use Rattle.std.specs.Option.{IfNone, IsSome}

@@ -1,7 +1,7 @@
 -- The bytes that are unpacked from words are those of the block, where the words are those of one.
 use Rattle.std.proofs.Common.{◌≡◌, ℕ, ◌+◌, ◌-◌, ◌*◌, ◌^◌, ◌<◌, ◌≤◌, List, [], ◌∷◌, ◌++◌, length, take, drop, replicate, get_or, refl, sym, ◌∙◌, ap, ap₂, subst, lit<, arith}
 use Rattle.std.proofs.Math.Seq.{take-add, take-append_seam}
-use Rattle.std.proofs.lemmas.List.{append-nil, drop_at, drop-drop, get_or_default, length-drop, length-take-le, take_all, take_at, take-append-drop, take_more}
+use Rattle.std.proofs.lemmas.List.{append-nil, drop_at, drop-drop, length-drop, length-take-le, take_all, take_at, take-append-drop, take_more}
 use Rattle.std.proofs.lemmas.List.Concat.{flat_map-append}
 use Rattle.std.proofs.lemmas.List.Elements.{All-append, All-head, All-replicate, All-tail, All-take}
 use Rattle.std.specs.Int.{div_ceil, to_le_bytes, w64}

@@ -1,4 +1,4 @@
-use Rattle.std.proofs.Common.{◌∙◌, [], refl, sym, ap, length, arith}
+use Rattle.std.proofs.Common.{◌∙◌, [], refl, ap, length, arith}
 use Rattle.math_shards.specs.Correcting.{CorrectTo, settled_indices}
 use Rattle.math_shards.proofs.CorrectedShards.{corrected_beside, corrected_of_some, one_correction}
 use Rattle.math_shards.proofs.JoinedCorrection.{joined_corrected}

@@ -1,4 +1,4 @@
-use Rattle.std.proofs.Common.{◌∙◌, [], refl, sym, arith}
+use Rattle.std.proofs.Common.{[], refl, arith}
 use Rattle.math_shards.proofs.JoinedCorrection.{joined_corrected}
 use Rattle.c_calls.proofs.shards.write_corrected.Goals as goal
 

@@ -1,4 +1,4 @@
-use Rattle.std.proofs.Common.{List, ℕ, sym, subst}
+use Rattle.std.proofs.Common.{List, ℕ, subst}
 use Rattle.std.proofs.lemmas.Result.{err_from_is_err_and}
 use Rattle.math_shards.specs.Joining.{HaveConflict}
 use Rattle.math_splitting.specs.Shards.{JoinTo, distinct_indices}

@@ -1,4 +1,4 @@
-use Rattle.std.proofs.Common.{◌≡◌, ◌∙◌, ◌*◌, ◌<◌, ◌^◌, List, ℕ, length, sym, ap, subst, arith}
+use Rattle.std.proofs.Common.{◌∙◌, ◌*◌, ◌<◌, ◌^◌, List, ℕ, length, sym, ap, subst, arith}
 use Rattle.math_splitting.specs.ShardRows.{AreRowsOfShardsAt}
 use Rattle.math_splitting.specs.Shards.{width_for}
 use Rattle.shard_blocks.proofs.CellCounts.{few_block_words}

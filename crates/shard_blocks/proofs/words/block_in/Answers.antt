@@ -1,4 +1,4 @@
-use Rattle.std.proofs.Common.{◌≡◌, ◌∙◌, ℕ, List, length, ap, subst, sym}
+use Rattle.std.proofs.Common.{◌≡◌, ◌∙◌, length, ap, subst, sym}
 use Rattle.math_base.proofs.WholeWrites.{take-written}
 use Rattle.shard_blocks.specs.BlockWords.{IsBlockOf}
 use Rattle.shard_blocks.proofs.words.block_in.Goals as goal

@@ -1,5 +1,5 @@
-use Rattle.std.proofs.Common.{◌≡◌, ◌∙◌, ◌++◌, ℕ, List, length, ap, ap₂, refl}
-use Rattle.shard_format.specs.Records.{HaveFingerprints, element_spelling, elements_spelling, numbers_spelling}
+use Rattle.std.proofs.Common.{◌≡◌, ◌∙◌, ◌++◌, ℕ, List, ap, ap₂, refl}
+use Rattle.shard_format.specs.Records.{HaveFingerprints, element_spelling, elements_spelling}
 use Rattle.shard_format.proofs.SpelledRecords.{record_exact, record_written}
 use Rattle.shard_format.proofs.records.write_record.Goals as goal
 

@@ -1,10 +1,8 @@
-use Rattle.std.proofs.Common.{◌≡◌, ◌∙◌, ◌*◌, ◌<◌, ◌≤◌, ◌^◌, ℕ, List, length, take, sym, ap, subst, arith}
+use Rattle.std.proofs.Common.{◌≡◌, ◌∙◌, ◌*◌, ◌≤◌, List, length, take, sym, ap, subst, arith}
 use Rattle.std.proofs.lemmas.List.{length-take-le}
 use Rattle.std.proofs.lemmas.Nat.{mul-le}
 use Rattle.math_base.specs.declared.fields.goldilocks.F.{F}
-use Rattle.std.specs.List.{All}
 use Rattle.math_shards.specs.Fitting.{AreDataOf}
-use Rattle.math_shards.specs.Joining.{ArePolynomialsOf}
 use Rattle.math_shards.proofs.JoinedRows.{width_of_data}
 use Rattle.math_shards.proofs.ShardRows.{cells_of_recovered, polynomials_of_rows}
 use Rattle.math_shards.proofs.shards.correcting.data_of.Goals as goal

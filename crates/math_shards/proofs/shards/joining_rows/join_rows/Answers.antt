@@ -1,4 +1,4 @@
-use Rattle.std.proofs.Common.{◌≡◌, ◌∙◌, ◌⊎◌, ◌≤◌, ◌++◌, ℕ, List, inl, inr, length, drop, map, refl, sym, ap, ap₂, subst, take, arith}
+use Rattle.std.proofs.Common.{◌≡◌, ◌∙◌, ◌⊎◌, ◌≤◌, ◌++◌, ℕ, List, length, drop, sym, ap, ap₂, subst, take, arith}
 use Rattle.std.proofs.lemmas.List.{length-take-le, map-id, take_all}
 use Rattle.std.proofs.lemmas.Result.{err_from_is_err_and}
 use Rattle.math_values.specs.Values.{AreElements}

@@ -1,9 +1,8 @@
-use Rattle.std.proofs.Common.{◌+◌, ◌-◌, ◌*◌, length, not, eqb, arith}
+use Rattle.std.proofs.Common.{◌+◌, ◌-◌, ◌*◌, length, arith}
 use Rattle.std.proofs.lemmas.List.{length-set}
 use Rattle.math_transforms.proofs.Levels.{adds-part, adds-then}
 use Rattle.math_base.proofs.Members.{ring_members}
-use Rattle.math_transforms.proofs.TurnedCells.{turned-by}
-use Rattle.math_transforms.proofs.TurnedQuarters.{turned-one, turned-then, turned-weights}
+use Rattle.math_transforms.proofs.TurnedQuarters.{turned-one, turned-then}
 use Rattle.math_transforms.proofs.below.quarters.turn_cells.Goals as goal
 
 pub returns-in_err-turn_further_cells-clause-bounded : goal.returns-in_err-turn_further_cells-clause-bounded

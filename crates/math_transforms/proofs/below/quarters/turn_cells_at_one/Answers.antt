@@ -1,6 +1,5 @@
-use Rattle.std.proofs.Common.{◌+◌, ◌-◌, ◌*◌, length, arith}
+use Rattle.std.proofs.Common.{arith}
 use Rattle.std.proofs.lemmas.List.{length-set}
-use Rattle.math_transforms.proofs.Levels.{adds-part, adds-then}
 use Rattle.math_base.proofs.Members.{ring_members}
 use Rattle.math_transforms.proofs.TurnedQuarters.{turned-one, turned-then}
 use Rattle.math_transforms.proofs.below.quarters.turn_cells_at_one.Goals as goal

@@ -1,4 +1,4 @@
-use Rattle.std.proofs.Common.{◌≡◌, ◌∙◌, ◌%◌, ◌++◌, ℕ, map, sym, ap, arith}
+use Rattle.std.proofs.Common.{◌∙◌, ◌%◌, ◌++◌, map, ap, arith}
 use Rattle.std.proofs.lemmas.List.{length-map, take_all}
 use Rattle.math_numbers.specs.Goldilocks.{P}
 use Rattle.math_base.specs.Elements.{residue}

@@ -1,4 +1,4 @@
-use Rattle.std.proofs.Common.{◌≡◌, ◌∙◌, ◌≤◌, length, sym, ap, take, arith}
+use Rattle.std.proofs.Common.{◌≡◌, ◌∙◌, length, sym, ap, take, arith}
 use Rattle.std.proofs.lemmas.List.{take_all}
 use Rattle.math_base.proofs.WholeWrites.{take-written}
 use Rattle.math_shards.proofs.shards.unpacking.PackedData.words.Goals as goal
