@@ -1,22 +1,17 @@
 -- Matrices of words: their domains, what is evaluated and interpolated, and what is recovered.
-use Rattle.std.proofs.Common.{◌≡◌, ◌∙◌, ℕ, zero, suc, ◌+◌, ◌*◌, ◌/◌, ◌%◌, ◌<◌, ◌≤◌, ◌^◌, List, true, false, length, get_or, replicate, All, refl, sym, ap, subst, lit<, inl, inr, arith}
-use Rattle.std.proofs.Math.ListN.{get_or-map}
-use Rattle.std.proofs.Math.Nat.{div-add-mod, mod-lt, mul-div_cancel, pow-le-pow_right}
+use Rattle.std.proofs.Common.{◌≡◌, ◌∙◌, ℕ, ◌*◌, ◌/◌, ◌<◌, ◌≤◌, ◌^◌, List, true, false, length, get_or, replicate, All, refl, sym, ap, subst, lit<, inl, inr, arith}
+use Rattle.std.proofs.Math.Nat.{mul-div_cancel, pow-le-pow_right}
 use Rattle.std.proofs.lemmas.Bool.{cases_lt}
-use Rattle.std.proofs.lemmas.List.{get_or_default, get_or-replicate, length-map}
-use Rattle.std.proofs.lemmas.Nat.{mul-le}
-use Rattle.math_theory.specs.BitReversal.{bit_reversed}
+use Rattle.std.proofs.lemmas.List.{get_or-replicate, length-map}
 use Rattle.math_base.specs.declared.fields.goldilocks.F.{F}
 use Rattle.math_base.specs.Elements.{number, residue, root_of}
-use Rattle.math_base.proofs.ElementNumbers.{residue-number}
-use Rattle.math_transforms.specs.CombinedCells.{AreRowsReversed}
 use Rattle.math_transforms.specs.Matrices.{MatrixOf, IsOfSize}
-use Rattle.math_transforms.specs.DomainValues.{matrix_of, AreReversedValuesAtPowers, AreValuesOnDomain}
+use Rattle.math_transforms.specs.DomainValues.{matrix_of, AreValuesOnDomain}
 use Rattle.math_ntt.specs.Evaluations.{EvaluationsOf}
 use Rattle.math_ntt.specs.RecoveredRows.{AreRecovered, AreOnlyRecovered}
 use Rattle.math_ntt.proofs.MatrixPlaces.{columns_are_full, columns_hold_cells}
 use Rattle.c_calls.specs.WordElements.{AreElements, elements, numbers, goldilocks}
-use Rattle.c_calls.specs.WordRows.{AreWordValues, AreRecoveredWords, AreReversedRows, AreFilledElements, HasRowsFor, word_matrix, word_evaluations}
+use Rattle.c_calls.specs.WordRows.{AreWordValues, AreRecoveredWords, AreFilledElements, HasRowsFor, word_matrix, word_evaluations}
 use Rattle.c_calls.proofs.WordElements.{elements_of_numbers, numbers_below}
 
 -- a domain of at most 2^32 points is there
@@ -45,45 +40,25 @@ below_by m words h = subst AreElements (sym h) (numbers_below m.cells)
 count_by : (m : MatrixOf F) (n : ℕ) (words : List ℕ) → length m.cells ≡ n → words ≡ numbers m.cells → length words ≡ n
 count_by m n words e h = ap length h ∙ length-map m.cells number ∙ e
 
--- a place among n rows of c cells is in one of the rows
-place-in_row : (n c t : ℕ) → t < n * c → (t / c < n) × (t % c < c) × (t / c * c + t % c ≡ t)
-place-in_row n zero t l = absurd (omega (arith, l))
-place-in_row n (suc c) t l =
-    let m = suc c in
-    let q = t / m in
-    let some : 0 < m = omega arith in
-    let parts : q * m + t % m ≡ t = ap (λ p. p + t % m) (let e : q * m ≡ m * q = omega arith in e) ∙ div-add-mod t m in
-    let row : q < n = elim (cases_lt q n) [
-      | inl b ↦ b
-      | inr o ↦ let up : n * m ≤ q * m = mul-le n m q m (omega (arith, o)) (omega arith) in absurd (omega (arith, up, parts, l))
-    ] in
-    (row, mod-lt t some, parts)
-
--- rows that are exchanged, and whose numbers are written
-pub rows_of_reversed : (lg c : ℕ) (old new : List F) (words : List ℕ) → AreRowsReversed (residue 0) lg (matrix_of (2 ^ lg) c old) (matrix_of (2 ^ lg) c new) → words ≡ numbers new
-    → AreReversedRows lg c old words
-rows_of_reversed lg c old new words reversed h i k l m = rw h (get_or-map number new (i * c + k) (residue 0) ∙ ap number (reversed i k l m))
-
--- the numbers of rows of values that stood in bit-reversed order are the values of a matrix of words
-pub values_in_order : (lg cols : ℕ) (old new : List ℕ) (values : List F) → lg ≤ 32 → length old ≡ 2 ^ lg * cols → length new ≡ 2 ^ lg * cols → AreElements old
-    → AreReversedValuesAtPowers goldilocks (root_of lg) lg (word_matrix (2 ^ lg) cols old) (matrix_of (2 ^ lg) cols values) → AreReversedRows lg cols values new
-    → AreWordValues cols old new
-values_in_order lg cols old new values small count long below h rows = record {
-  lg = lg;
-  small = small;
-  count = count;
-  value_count = long;
-  coefficients_below = below;
-  values_below = λ t d l.
-      let (row, column, parts) = place-in_row (2 ^ lg) cols t (omega (arith, l, long)) in
-      let word : get_or new t d ≡ number (get_or values (bit_reversed lg (t / cols) * cols + t % cols) (residue 0)) =
-      get_or_default new t d 0 l ∙ ap (λ p. get_or new p 0) (sym parts) ∙ rows (t / cols) (t % cols) row column in
-      omega (arith, word, (get_or values (bit_reversed lg (t / cols) * cols + t % cols) (residue 0)).below);
-  at_powers = λ j k l m.
-      let cell : get_or (elements new) (j * cols + k) (residue 0) ≡ get_or values (bit_reversed lg j * cols + k) (residue 0) =
-      get_or-map residue new (j * cols + k) 0 ∙ ap residue (rows j k l m) ∙ residue-number (get_or values (bit_reversed lg j * cols + k) (residue 0)) in
-      ap number cell ∙ h j k l m;
-}
+-- the numbers of the values of a matrix of words
+pub values_of_words : (lg cols : ℕ) (old new : List ℕ) (p v : MatrixOf F) → lg ≤ 32 → length old ≡ 2 ^ lg * cols → AreElements old → p ≡ word_matrix (2 ^ lg) cols old
+    → IsOfSize v p.rows p.cols → AreValuesOnDomain goldilocks root_of p v → new ≡ numbers v.cells → AreWordValues cols old new
+values_of_words lg cols old new p v small count below e size values h =
+    let rows : v.rows ≡ 2 ^ lg = size.0 ∙ ap (λ m. m.rows) e in
+    let columns : v.cols ≡ cols = size.1 ∙ ap (λ m. m.cols) e in
+    let full : length v.cells ≡ 2 ^ lg * cols = size.2 ∙ ap (λ m. m.rows * m.cols) e in
+    let whole : v ≡ word_matrix (2 ^ lg) cols new = matrix_of_numbers v (2 ^ lg) cols new rows columns h in
+    let there : AreValuesOnDomain goldilocks root_of (word_matrix (2 ^ lg) cols old) (word_matrix (2 ^ lg) cols new) =
+    subst (λ m. AreValuesOnDomain goldilocks root_of m (word_matrix (2 ^ lg) cols new)) e (subst (λ m. AreValuesOnDomain goldilocks root_of p m) whole values) in
+    record {
+      lg = lg;
+      small = small;
+      count = count;
+      value_count = count_by v (2 ^ lg * cols) new full h;
+      coefficients_below = below;
+      values_below = below_by v new h;
+      at_powers = there lg refl;
+    }
 
 -- where all rows are filled, what is recovered has the cells as its values
 values_of_recovered : (e : EvaluationsOf F) (q : MatrixOf F) → e.filled ≡ replicate e.matrix.rows true → q.rows ≡ e.matrix.rows → q.cols ≡ e.matrix.cols

@@ -1,9 +1,8 @@
 -- Rows of words as coefficients and values of polynomials at the points of a domain, one polynomial a column.
 use Rattle.std.specs.Prelude.{◌≡◌, ℕ, ◌+◌, ◌*◌, ◌<◌, ◌≤◌, ◌^◌, ◌==◌, List, length, map, All, slice_index, slice_index_or, Bool}
 use Rattle.math_numbers.specs.Goldilocks.{P}
-use Rattle.math_theory.specs.BitReversal.{bit_reversed}
 use Rattle.math_base.specs.declared.fields.goldilocks.F.{F}
-use Rattle.math_base.specs.Elements.{number, residue, root_of}
+use Rattle.math_base.specs.Elements.{residue, root_of}
 use Rattle.math_transforms.specs.DomainValues.{matrix_of, AreValuesAtPowers}
 use Rattle.math_ntt.specs.Evaluations.{EvaluationsOf}
 use Rattle.math_transforms.specs.Matrices.{MatrixOf}
@@ -31,11 +30,6 @@ pub record AreWordValues (cols : ℕ) (coefficients values : List ℕ) : Type 0 
   pub coefficients_below : AreElements coefficients
   pub values_below : AreElements values
   pub at_powers : AreValuesAtPowers goldilocks (root_of lg) (word_matrix (2 ^ lg) cols coefficients) (word_matrix (2 ^ lg) cols values)
-
--- row i of the words, which are 2^lg rows of c, has the numbers of that row of the elements whose number has the lg bits of i in the opposite order
-abbrev pub AreReversedRows : ℕ → ℕ → List F → List ℕ → Type 0
-AreReversedRows lg c items words =
-    (i k : ℕ) → i < 2 ^ lg → k < c → slice_index words (i * c + k) ≡ number (slice_index_or items (bit_reversed lg i * c + k) (residue 0))
 
 -- the truth values that bytes say: 1 is true
 abbrev pub truth : List ℕ → List Bool

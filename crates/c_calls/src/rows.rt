@@ -7,7 +7,6 @@ ghost use Rattle.c_calls.specs.WordRows.{
   AreElementsWhereFilled,
   AreFilledElements,
   AreRecoveredWords,
-  AreReversedRows,
   AreWordValues,
   HasRows,
   HasRowsFor,
@@ -18,17 +17,8 @@ ghost use Rattle.c_calls.specs.WordRows.{
 use crate::elements::{are_elements, write_numbers};
 use commonware_math::algebra::Mem;
 use commonware_math::fields::goldilocks::F;
-use commonware_math::ntt::{EvaluationVector, Matrix, VanishingPoints};
-use math_transforms::transform::order::{reverse_rows, reversed_row};
-use math_transforms::transform::{evaluate_rows_reversed, evaluation_table};
-use math_transforms::work::Work;
+use commonware_math::ntt::{EvaluationVector, Matrix, PolynomialVector, VanishingPoints};
 use std::alloc::Global;
-
-/// How many cells a line of a cache has: rows of fewer share their lines with others.
-const LINE_CELLS: usize = 8;
-
-/// How many cells a cache holds: 2 MiB.
-const CACHE_CELLS: usize = 262144;
 
 /// 2^lg.
 fn power_of_two(lg: u8) -> usize
@@ -148,45 +138,11 @@ pub fn evaluate(alloc: Global, cells: &mut [u64], items: Vec<F>, lg: u8, cols: u
     ensures ok { OnOk result (AreWordValues cols cells.old cells.new) }
     ensures err { OnErr result (cells.new ≡ cells.old) }
 {
-    let mut items = items;
-    let values: &mut [F] = &mut items;
-    let table = evaluation_table::<F>(alloc, lg)?;
-    evaluate_rows_reversed(alloc, values, cols, lg, &table, &mut Work::new())?;
-    write_in_order(cells, values, lg, cols);
+    let matrix = matrix_of(items, power_of_two(lg), cols);
+    let polynomials = PolynomialVector::from_matrix(matrix);
+    let values = polynomials.evaluate(alloc)?.data().into_cells();
+    write_numbers(cells, &values);
     Ok(())
-}
-
-/// Writes rows of elements over rows of words: over row i the numbers of the row whose number has
-/// the lg bits of i in the opposite order. What the elements are afterwards does not matter.
-///
-/// Short rows, and rows that no cache holds, are put in order in place, since that is done many
-/// rows at a time. Others are read where they stand.
-fn write_in_order(words: &mut [u64], items: &mut [F], lg: u8, cols: usize)
-    requires small { lg ≤ 32 }
-    requires words { length words.old ≡ 2 ^ lg * cols }
-    requires items { length items.old ≡ 2 ^ lg * cols }
-    ensures { AreReversedRows lg cols items.old words.new }
-{
-    if cols < LINE_CELLS || words.len() > CACHE_CELLS {
-        reverse_rows(items, cols, lg);
-        write_numbers(words, items);
-    } else {
-        write_rows(words, items, lg, cols);
-    }
-}
-
-/// Does what `write_in_order` does row by row, and leaves the elements as they are.
-fn write_rows(words: &mut [u64], items: &[F], lg: u8, cols: usize)
-    requires small { lg ≤ 32 }
-    requires words { length words.old ≡ 2 ^ lg * cols }
-    requires items { length items.now ≡ 2 ^ lg * cols }
-    ensures { AreReversedRows lg cols items.now words.new }
-{
-    for row in 0..power_of_two(lg) {
-        let at = row * cols;
-        let source = reversed_row(items, cols, lg, row);
-        write_numbers(&mut words[at..at + cols], source);
-    }
 }
 
 /// Puts the coefficients of the polynomials whose values the columns are in place of these, which

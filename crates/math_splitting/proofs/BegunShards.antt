@@ -5,8 +5,6 @@ use Rattle.std.proofs.lemmas.Bool.{cases_eq, cases_lt}
 use Rattle.std.proofs.lemmas.List.{get_or_append_left, get_or-append-add, get_or_default, get_or_push, get_or-set_other, get_or-set_same}
 use Rattle.std.specs.Int.{IsNextPowerOfTwo}
 use Rattle.std.specs.List.{All}
-use Rattle.math_theory.specs.BitReversal.{bit_reversed}
-use Rattle.math_theory.proofs.transforms.BitOrder.{bit_reversed-below}
 use Rattle.math_base.specs.declared.fields.goldilocks.F.{F}
 use Rattle.math_base.specs.Elements.{number, same}
 use Rattle.math_transforms.specs.DomainValues.{matrix_of}
@@ -16,7 +14,8 @@ use Rattle.math_ntt.proofs.MatrixPlaces.{rows_are_full, rows_hold_cells}
 use Rattle.math_splitting.specs.declared.shards.Shard.{Shard}
 use Rattle.math_splitting.specs.Shards.{AreShardsAt, IsShardOf, rows_for, value_at_index, width_for}
 use Rattle.math_restoring.proofs.CombinedColumns.{same_values}
-use Rattle.math_splitting.specs.Strips.{AreBegun, AreExtended, AreValued, HasStripValues, IsBegun, IsExtendedBy, IsStripOf}
+use Rattle.math_splitting.specs.Strips.{AreBegun, AreExtended, AreValued, HasStripValues, IsBegun, IsExtendedBy, IsStripOf, place_of}
+use Rattle.math_splitting.proofs.RowPlaces.{place_of-below}
 use Rattle.math_splitting.proofs.SameCells.{nought}
 
 -- Shards are changed one by one, each so to what it was.
@@ -92,10 +91,10 @@ begun_more words min total lg from c strip indices old new strip_of below count 
     let k = get_or indices i 0 in
     let m = matrix_of (2 ^ lg) c strip in
     let inside : k < 2 ^ lg = subst (λ n. n < 2 ^ lg) before.index (below i d within) in
-    let r = bit_reversed lg k in
+    let r = place_of lg k in
     let row : IsExtendedBy (take c (drop (r * c) strip)) (get_or old i d) (get_or new i d) =
-    subst (λ n. IsExtendedBy (take c (drop (bit_reversed lg n * c) strip)) (get_or old i d) (get_or new i d)) before.index (extended i d within) in
-    begun_further words min total lg from c k (take c (drop (r * c) strip)) (get_or old i d) (get_or new i d) (rows_are_full m r strip_of.count (bit_reversed-below lg k))
+    subst (λ n. IsExtendedBy (take c (drop (place_of lg n * c) strip)) (get_or old i d) (get_or new i d)) before.index (extended i d within) in
+    begun_further words min total lg from c k (take c (drop (r * c) strip)) (get_or old i d) (get_or new i d) (rows_are_full m r strip_of.count (place_of-below lg k inside))
     (λ j b. ap number (rows_hold_cells m r j nought b) ∙ strip_of.values k j inside b) row before
 
 -- and where each has the values of a strip of coefficients at its index

@@ -2,6 +2,7 @@ pub mod SameCells
 pub mod LeastDomains
 pub mod LaidOutData
 pub mod PackedWords
+pub mod RowPlaces
 pub mod StripColumns
 pub mod StripSizes
 pub mod BegunShards

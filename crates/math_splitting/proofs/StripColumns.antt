@@ -13,7 +13,7 @@ use Rattle.math_transforms.proofs.ColumnHalves.{column-halves}
 use Rattle.math_transforms.proofs.MatrixRows.{cell-of_column}
 use Rattle.math_transforms.proofs.WrittenRows.{row-done}
 use Rattle.math_splitting.specs.Shards.{elements_for, rows_for, width_for}
-use Rattle.math_splitting.specs.Strips.{ArePacked, HasStripValues, IsStripOf, packed_at}
+use Rattle.math_splitting.specs.Strips.{ArePacked, ArePlaced, HasStripValues, IsStripOf, packed_at}
 use Rattle.math_splitting.proofs.SameCells.{nought}
 use Rattle.math_restoring.proofs.CombinedColumns.{same_values}
 use Rattle.math_splitting.proofs.LaidOutData.{rows_are_whole}
@@ -105,12 +105,12 @@ first_columns n c k rows rest whole =
     ∙ append-nil (column_of nought (matrix_of n c (take (n * c) (rows ++ rest))) k) ∙ ap (λ xs. column_of nought (matrix_of n c xs) k) front
 
 -- the values of the columns of a strip, in whose first rows the coefficients stood, are those of the columns of the rows of data
-pub strip_valued : (words : List ℕ) (min lg part from c : ℕ) (strip rest new : List F) → IsStripOf words min (2 ^ part) from c strip → length new ≡ 2 ^ lg * c
-    → AreReversedValuesAtPowers goldilocks (root_of lg) lg (matrix_of (2 ^ part) c (strip ++ rest)) (matrix_of (2 ^ lg) c new) → HasStripValues words min lg from c new
-strip_valued words min lg part from c strip rest new h count values = record {
+pub strip_valued : (words : List ℕ) (min lg part from c : ℕ) (strip rest mid new : List F) → IsStripOf words min (2 ^ part) from c strip → length new ≡ 2 ^ lg * c
+    → AreReversedValuesAtPowers goldilocks (root_of lg) lg (matrix_of (2 ^ part) c (strip ++ rest)) (matrix_of (2 ^ lg) c mid) → ArePlaced lg c mid new → HasStripValues words min lg from c new
+strip_valued words min lg part from c strip rest mid new h count values placed = record {
   count = count;
   values = λ i k a b.
       let column = column_of nought (matrix_of (2 ^ part) c strip) k in
       let there = column_of nought (rows_for min words) (from + k) in
-      rw (first_columns (2 ^ part) c k strip rest h.count) at (values i k a b) ∙ same_values _ column there (h.columns k b);
+      ap number (placed i k a b) ∙ rw (first_columns (2 ^ part) c k strip rest h.count) at (values i k a b) ∙ same_values _ column there (h.columns k b);
 }

@@ -10,7 +10,6 @@ use Rattle.std.proofs.lemmas.List.Elements.{All-map}
 use Rattle.std.proofs.lemmas.List.Folds.{flat_map-map}
 use Rattle.std.proofs.lemmas.List.FromFn.{get_or-map-range_with_len, length-range_with_len}
 use Rattle.std.proofs.lemmas.Nat.{mul-le}
-use Rattle.math_theory.specs.BitReversal.{bit_reversed}
 use Rattle.math_base.specs.declared.fields.goldilocks.F.{F}
 use Rattle.math_base.specs.Elements.{number, same}
 use Rattle.math_transforms.specs.DomainValues.{matrix_of}
@@ -21,7 +20,7 @@ use Rattle.math_splitting.specs.declared.shards.Shard.{Shard}
 use Rattle.math_splitting.specs.Shards.{IsShardOf, rows_for, value_at_index, width_for}
 use Rattle.math_restoring.proofs.CombinedColumns.{same_values}
 use Rattle.math_splitting.specs.ShardRows.{AreColumnsWritten, AreRowsOfShardsAt, HaveColumns, number_at, strip_element, value_element}
-use Rattle.math_splitting.specs.Strips.{HasStripValues, IsStripOf}
+use Rattle.math_splitting.specs.Strips.{HasStripValues, IsStripOf, place_of}
 use Rattle.math_splitting.proofs.SameCells.{nought}
 
 -- Row i gets the numbers of c items, from column `from` on.
@@ -85,8 +84,8 @@ module _ (width from c i : ℕ) (items : List F) (element : ℕ → ℕ → F) (
 
 -- a row of a strip is the elements that are written
 pub strip_row : (lg : ℕ) (indices : List ℕ) (c t m : ℕ) (strip : List F) → m ≡ c → (k : ℕ) → k < c
-    → get_or (take m (drop (bit_reversed lg (get_or indices t 0) * c) strip)) k nought ≡ strip_element lg indices c strip t k
-strip_row lg indices c t m strip q k l = part-read nought strip (bit_reversed lg (get_or indices t 0) * c) m k (omega (arith, q, l))
+    → get_or (take m (drop (place_of lg (get_or indices t 0) * c) strip)) k nought ≡ strip_element lg indices c strip t k
+strip_row lg indices c t m strip q k l = part-read nought strip (place_of lg (get_or indices t 0) * c) m k (omega (arith, q, l))
 
 -- the elements are the values, at the power of the root that is the index of their row, of the polynomials of c columns from column `from` on
 abbrev pub HaveValuesFrom : List ℕ → ℕ → ℕ → ℕ → ℕ → List ℕ → (ℕ → ℕ → F) → Type 0

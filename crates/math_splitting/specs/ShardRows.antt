@@ -1,7 +1,6 @@
 -- Shards of data as words, a shard a row: how they are written column by column.
 use Rattle.std.specs.Prelude.{◌≡◌, ℕ, ◌+◌, ◌*◌, ◌<◌, List, length, map, slice_index, slice_index_or}
 use Rattle.std.specs.List.{flat_map, range_with_len}
-use Rattle.math_theory.specs.BitReversal.{bit_reversed}
 use Rattle.math_base.specs.declared.fields.goldilocks.F.{F}
 use Rattle.math_base.specs.Elements.{number, residue}
 use Rattle.math_transforms.specs.Matrices.{MatrixOf, column_of}
@@ -9,6 +8,7 @@ use Rattle.math_splitting.specs.declared.shards.Shard.{Shard}
 use Rattle.math_splitting.specs.declared.shards.wanting.Wanted.{Wanted}
 use Rattle.math_splitting.specs.declared.shards.wanting.Wanted.TheVariants as wanted
 use Rattle.math_splitting.specs.Shards.{AreShardsAt, rows_for, value_at_index}
+use Rattle.math_splitting.specs.Strips.{place_of}
 
 -- the words are the numbers of the cells of the shards of these indices for the data, shard by shard
 abbrev pub AreRowsOfShardsAt : List ℕ → ℕ → ℕ → List ℕ → List ℕ → Type 0
@@ -40,9 +40,9 @@ pub record AreColumnsWritten (width from c rows : ℕ) (element : ℕ → ℕ �
   pub written : (i k : ℕ) → i < rows → k < c → slice_index new (i * width + (from + k)) ≡ number (element i k)
   pub kept : (i k : ℕ) → i < rows → k < from → slice_index new (i * width + k) ≡ slice_index old (i * width + k)
 
--- the element in this column of the row of a strip whose number has the lg bits of the index in this place in the opposite order
+-- the element in this column of the row of a strip that is in the place of the index
 abbrev pub strip_element : ℕ → List ℕ → ℕ → List F → ℕ → ℕ → F
-strip_element lg indices c strip t k = slice_index_or strip (bit_reversed lg (slice_index indices t) * c + k) (residue 0)
+strip_element lg indices c strip t k = slice_index_or strip (place_of lg (slice_index indices t) * c + k) (residue 0)
 
 -- the value, at the power of the root that is the index in this place, of the polynomial of this column of the matrix
 abbrev pub value_element : List ℕ → ℕ → MatrixOf F → ℕ → ℕ → F

@@ -1,5 +1,5 @@
 -- Strips of columns of the rows that data fill, and shards that grow by the values of a strip.
-use Rattle.std.specs.Prelude.{◌≡◌, ℕ, ◌+◌, ◌-◌, ◌*◌, ◌/◌, ◌<◌, ◌≤◌, ◌^◌, List, ◌++◌, length, take, drop, slice_index, slice_index_or}
+use Rattle.std.specs.Prelude.{◌≡◌, ℕ, ◌+◌, ◌-◌, ◌*◌, ◌/◌, ◌<◌, ◌≤◌, ◌^◌, List, ◌++◌, length, take, drop, slice_index, slice_index_or, nat_lt, if◌then◌else◌}
 use Rattle.math_numbers.specs.Bits as Bits
 use Rattle.math_numbers.specs.Bits.{bits}
 use Rattle.math_theory.specs.BitReversal.{bit_reversed}
@@ -48,12 +48,22 @@ pub record IsStripOf (words : List ℕ) (min n from c : ℕ) (cells : List F) : 
   pub count : length cells ≡ n * c
   pub columns : (k : ℕ) → k < c → HaveSameCoefficients same (residue 0) (column_of (residue 0) (matrix_of n c cells) k) (column_of (residue 0) (rows_for min words) (from + k))
 
--- 2^lg rows of c cells: cell k of the row whose number has the lg bits of i in the opposite order is the value, at power i of the root of order 2^lg, of the
--- polynomial whose coefficients are column from + k of the rows of data
+-- the row that has the values at power i of the root of order 2^lg: of at most 2^8 rows that whose number has the lg bits of i in the opposite order, and of
+-- more row i
+abbrev pub place_of : ℕ → ℕ → ℕ
+place_of lg i = if nat_lt 8 lg then i else bit_reversed lg i
+
+-- rows of c cells in the order of the tree, the old ones, are each in the place of their index
+abbrev pub ArePlaced : ℕ → ℕ → List F → List F → Type 0
+ArePlaced lg c old new =
+    (i k : ℕ) → i < 2 ^ lg → k < c → cell_of (residue 0) (matrix_of (2 ^ lg) c new) (place_of lg i) k ≡ cell_of (residue 0) (matrix_of (2 ^ lg) c old) (bit_reversed lg i) k
+
+-- 2^lg rows of c cells: cell k of the row in the place of i is the value, at power i of the root of order 2^lg, of the polynomial whose coefficients are
+-- column from + k of the rows of data
 pub record HasStripValues (words : List ℕ) (min lg from c : ℕ) (cells : List F) : Type 0 where
   pub count : length cells ≡ 2 ^ lg * c
   pub values : (i k : ℕ) → i < 2 ^ lg → k < c
-      → same (cell_of (residue 0) (matrix_of (2 ^ lg) c cells) (bit_reversed lg i) k) (value_at_index lg (column_of (residue 0) (rows_for min words) (from + k)) i)
+      → same (cell_of (residue 0) (matrix_of (2 ^ lg) c cells) (place_of lg i) k) (value_at_index lg (column_of (residue 0) (rows_for min words) (from + k)) i)
 
 -- t is the shard s with these cells behind its own
 pub record IsExtendedBy (row : List F) (s t : Shard) : Type 0 where
@@ -66,9 +76,9 @@ pub record IsExtendedBy (row : List F) (s t : Shard) : Type 0 where
 abbrev pub AreEach : (Shard → Shard → Type 0) → List Shard → List Shard → Type 0
 AreEach R old new = (i : ℕ) (d : Shard) → i < length old → R (slice_index_or old i d) (slice_index_or new i d)
 
--- each shard gets a row of c cells behind its own: that whose number has the lg bits of its index in the opposite order
+-- each shard gets the row in the place of its index behind its cells; a row has c cells
 abbrev pub AreExtended : ℕ → ℕ → List F → List Shard → List Shard → Type 0
-AreExtended lg c cells old new = AreEach (λ s t. IsExtendedBy (take c (drop (bit_reversed lg s.index * c) cells)) s t) old new
+AreExtended lg c cells old new = AreEach (λ s t. IsExtendedBy (take c (drop (place_of lg s.index * c) cells)) s t) old new
 
 -- the row has, for each column of the matrix, its value at power i of the root of order 2^lg
 pub record HasValuesAt (lg i : ℕ) (m : MatrixOf F) (row : List F) : Type 0 where

@@ -1,9 +1,8 @@
 //! Data to shards.
 //!
-//! A row of the values of a strip is the next part of a shard: of shard i that whose number has the
-//! bits of i in the opposite order, since a transform leaves the rows so. It is read there, and no
-//! row of the strip is moved. The shards are filled strip by strip, each in the same room, and
-//! beside them there is but one strip.
+//! A row of the values of a strip is the next part of a shard, which the transform leaves in the
+//! order of the tree. Of few points it is read there, and no row of the strip is moved. The shards
+//! are filled strip by strip, each in the same room, and beside them there is but one strip.
 
 ghost use Rattle.std.specs.Prelude.{
   ◌≡◌,
@@ -32,13 +31,12 @@ ghost use Rattle.math_splitting.specs.Strips.{IsTableOf};
 use super::Shard;
 use super::rooms::Room;
 use super::sources::{Source, Word, source_of};
-use super::strips::{Layout, layout_of, most_cols, strip_room, write_values};
+use super::strips::{Layout, layout_of, most_cols, row_of_index, strip_room, write_values};
 use super::wanting::{
     Wanted, append_values, are_products_cheaper, wanted_count, wanted_index, write_products,
 };
 use math_base::algebra::Mem;
 use math_base::fields::goldilocks::F;
-use math_transforms::transform::order::reversed_row;
 use math_transforms::transform::{evaluation_table, size_of};
 use std::alloc::Global;
 
@@ -318,7 +316,7 @@ fn write_columns<R: Room>(
     ensures size { length (R.words cells.new) ≡ length (R.words cells.old) }
 {
     for t in 0..wanted_count(wanted) {
-        let row = reversed_row(strip, cols, lg, wanted_index(wanted, t));
+        let row = row_of_index(strip, cols, lg, wanted_index(wanted, t));
         R::write(cells, t * width + from, row);
     }
 }
@@ -443,7 +441,7 @@ fn append_rows(strip: &[F], cols: usize, lg: u8, shards: &mut [Shard]) -> Mem<()
     ensures { OnOk result (AreExtended lg cols strip.now shards.old shards.new) }
 {
     for i in 0..shards.len() {
-        let row = reversed_row(strip, cols, lg, shards[i].index as usize);
+        let row = row_of_index(strip, cols, lg, shards[i].index as usize);
         append_row(&mut shards[i], row)?;
     }
     Ok(())

@@ -26,15 +26,18 @@ ghost use Rattle.std.specs.Prelude.{
 };
 ghost use Rattle.std.specs.Int.{IsNextPowerOfTwo};
 ghost use Rattle.math_base.specs.Elements.{same};
+ghost use Rattle.math_transforms.specs.DomainValues.{matrix_of};
+ghost use Rattle.math_transforms.specs.Matrices.{row_of};
 ghost use Rattle.math_splitting.specs.DataWords.{words_in};
 ghost use Rattle.math_splitting.specs.Shards.{counted, width_for};
-ghost use Rattle.math_splitting.specs.Strips.{ArePacked, ArePieces, HasStripValues, IsLayoutOf};
-ghost use Rattle.math_splitting.specs.Strips.{IsStripOf};
-ghost use Rattle.math_splitting.specs.Strips.{IsTableOf, packed_at, piece_of};
+ghost use Rattle.math_splitting.specs.Strips.{ArePacked, ArePieces, ArePlaced, HasStripValues};
+ghost use Rattle.math_splitting.specs.Strips.{IsLayoutOf, IsStripOf};
+ghost use Rattle.math_splitting.specs.Strips.{IsTableOf, packed_at, piece_of, place_of};
 
 use super::sources::{Source, Word, before_slice, count_of, word_in};
 use math_base::algebra::Mem;
 use math_base::fields::goldilocks::F;
+use math_transforms::transform::order::{reverse_rows, reversed_row};
 use math_transforms::transform::{evaluate_few, lg_of, size_of};
 use math_transforms::work::Work;
 use std::alloc::Global;
@@ -45,6 +48,11 @@ const STRIP_CELLS: usize = 32768;
 /// How many columns a strip has at least, where so many are left: a line of a cache has eight
 /// cells.
 const LEAST_COLS: usize = 8;
+
+/// At most 2^8 points have their rows of values left in the order of the tree. Of more points rows
+/// that are read in that order, one by one, take longer than a pass that puts them in natural
+/// order, many at a time.
+const MOST_REVERSED_LG: u8 = 8;
 
 /// How the rows that data fill lie, and how many points their columns are evaluated at.
 #[derive(Clone, Copy)]
@@ -210,8 +218,7 @@ pub(super) fn write_strip<W: Word>(
     cells[layout.min * cols..].fill(F::from(0));
 }
 
-/// Writes over the cells the values of `cols` columns from column `from` on, at all points: those
-/// at power i of the root in the row whose number has the bits of i in the opposite order. The
+/// Writes over the cells the values of `cols` columns from column `from` on, at all points. The
 /// table is that of `evaluation_table`. Takes no memory.
 pub(super) fn write_values<W: Word>(
     alloc: Global,
@@ -235,6 +242,33 @@ pub(super) fn write_values<W: Word>(
     let Ok(()) = evaluate_few(alloc, cells, cols, layout.lg, part, table, &mut Work::new()) else {
         unreachable!()
     };
+    place_rows(cells, cols, layout.lg);
+}
+
+/// Puts 2^lg rows of values, which stand in the order of the tree, where `row_of_index` finds them.
+fn place_rows(cells: &mut [F], cols: usize, lg: u8)
+    requires small { lg < 64 }
+    requires size { length cells.old ≡ 2 ^ lg * cols }
+    ensures { ArePlaced lg cols cells.old cells.new }
+{
+    if lg > MOST_REVERSED_LG {
+        reverse_rows(cells, cols, lg);
+    }
+}
+
+/// The row of a strip of values that has those at power `index` of the root, of 2^lg rows.
+pub(super) fn row_of_index(strip: &[F], cols: usize, lg: u8, index: usize) -> &[F]
+    requires small { lg < 64 }
+    requires below { index < 2 ^ lg }
+    requires size { length strip.now ≡ 2 ^ lg * cols }
+    ensures row { result.now ≡ row_of (matrix_of (2 ^ lg) cols strip.now) (place_of lg index) }
+    ensures count { length result.now ≡ cols }
+{
+    if lg > MOST_REVERSED_LG {
+        let at = index * cols;
+        return &strip[at..at + cols];
+    }
+    reversed_row(strip, cols, lg, index)
 }
 
 /// Room for so many rows of a strip of so many columns: zeros.

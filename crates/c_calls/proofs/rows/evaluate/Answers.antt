@@ -1,9 +1,19 @@
-use Rattle.std.proofs.Common.{◌∙◌}
-use Rattle.c_calls.proofs.WordMatrices.{values_in_order}
+use Rattle.std.proofs.Common.{◌≡◌, ◌∙◌, ap, ap₂}
+use Rattle.math_transforms.specs.DomainValues.{matrix_of}
+use Rattle.c_calls.specs.WordElements.{numbers}
+use Rattle.c_calls.proofs.WordMatrices.{has_domain, values_of_words}
 use Rattle.c_calls.proofs.rows.evaluate.Goals as goal
+
+pub evaluate-requires : goal.evaluate-requires
+evaluate-requires c = record {
+  domain = has_domain c.args.lg c.from_matrix-polynomials.result.rows c.requires.small (ap (λ m. m.rows) (c.from_matrix-polynomials.ensures ∙ c.matrix_of-matrix.ensures) ∙ c.power_of_two.ensures);
+}
 
 pub returns-clause-ok : goal.returns-clause-ok
 returns-clause-ok c =
-    values_in_order c.args.lg c.args.cols c.args.cells.now c.write_in_order.new.words c.evaluate_rows_reversed.new.cells c.requires.small c.requires.count
-    (c.write_in_order.auto.words ∙ c.requires.count) c.requires.below
-    (rw (c.deref_mut-values.ensures.value ∙ c.requires.items) at c.in_ok-evaluate_rows_reversed.ensures.values) c.write_in_order.ensures
+    let cells = c.args.cells.now in
+    let is_words = c.from_matrix-polynomials.ensures ∙ c.matrix_of-matrix.ensures ∙ ap₂ (λ n xs. matrix_of n c.args.cols xs) c.power_of_two.ensures c.requires.items in
+    let written : c.write_numbers.new.words ≡ numbers c.in_ok-evaluate.field-0.matrix.cells =
+    c.write_numbers.ensures ∙ ap numbers (c.deref.ensures.value ∙ c.into_cells-values.ensures ∙ ap (λ m. m.cells) c.data.ensures) in
+    values_of_words c.args.lg c.args.cols cells c.write_numbers.new.words c.from_matrix-polynomials.result c.in_ok-evaluate.field-0.matrix c.requires.small c.requires.count c.requires.below
+    is_words c.in_ok-evaluate.ensures.size c.in_ok-evaluate.ensures.values written

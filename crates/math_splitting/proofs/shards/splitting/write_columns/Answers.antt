@@ -1,8 +1,8 @@
 use Rattle.std.proofs.Common.{◌≡◌, ◌∙◌, ℕ, ◌+◌, ◌*◌, ◌<◌, ◌≤◌, List, drop, get_or, length, take, refl, ap, arith}
 use Rattle.std.proofs.lemmas.Nat.{mul-le}
-use Rattle.math_theory.specs.BitReversal.{bit_reversed}
 use Rattle.math_base.specs.declared.fields.goldilocks.F.{F}
 use Rattle.math_splitting.specs.ShardRows.{indices_in, strip_element}
+use Rattle.math_splitting.specs.Strips.{place_of}
 use Rattle.math_splitting.proofs.SameCells.{nought}
 use Rattle.math_splitting.proofs.WrittenColumns.{columns-more, left-more, size-kept, strip_row}
 use Rattle.math_splitting.proofs.shards.splitting.write_columns.Goals as goal
@@ -18,12 +18,12 @@ loop-t-preserved g c =
     let old = g.R.Room.words c.loop-t.cells in
     let first = g.R.Room.words c.args.cells.now in
     let lg = c.args.lg in
-    let items : List F = c.reversed_row-row.result.now in
+    let items : List F = c.row_of_index-row.result.now in
     let element : ℕ → ℕ → F = strip_element lg indices cols strip in
     let below : t < length indices = omega (arith, c.wanted_count-t-end.ensures) in
-    let long : length items ≡ cols = c.reversed_row-row.ensures.count in
+    let long : length items ≡ cols = c.row_of_index-row.ensures.count in
     let is : (k : ℕ) → k < cols → get_or items k nought ≡ element t k = λ k l.
-    ap (λ xs. get_or xs k nought) c.reversed_row-row.ensures.row ∙ ap (λ j. get_or (take cols (drop (bit_reversed lg j * cols) strip)) k nought) c.wanted_index.ensures
+    ap (λ xs. get_or xs k nought) c.row_of_index-row.ensures.row ∙ ap (λ j. get_or (take cols (drop (place_of lg j * cols) strip)) k nought) c.wanted_index.ensures
     ∙ strip_row lg indices cols t cols strip refl k l in
     let up : (t + 1) * width ≤ length indices * width = mul-le (t + 1) width (length indices) width (omega (arith, below)) (omega arith) in
     let next : (t + 1) * width ≡ t * width + width = omega arith in

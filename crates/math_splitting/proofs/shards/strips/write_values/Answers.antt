@@ -69,7 +69,7 @@ returns g c =
     let words = words_in g.W.Word.word c.args.source.now in
     let strip = c.write_strip.new.cells in
     let rest = drop (c.size_of-rows.result * c.args.cols) c.args.cells.now in
-    strip_valued words layout.min layout.lg c.lg_of-part.result c.args.from c.args.cols strip rest c.evaluate_few.new.cells
+    strip_valued words layout.min layout.lg c.lg_of-part.result c.args.from c.args.cols strip rest c.evaluate_few.new.cells c.place_rows.new.cells
     (subst (λ (n : ℕ). IsStripOf words layout.min n c.args.from c.args.cols strip) c.size_of-rows.ensures c.write_strip.ensures)
-    (omega (arith, c.evaluate_few.auto.cells, length-append strip rest, c.write_strip.ensures.count, length-drop (c.size_of-rows.result * c.args.cols) c.args.cells.now, within, c.requires.size))
-    c.in-Ok.ensures.values
+    (omega (arith, c.place_rows.auto.cells, c.evaluate_few.auto.cells, length-append strip rest, c.write_strip.ensures.count, length-drop (c.size_of-rows.result * c.args.cols) c.args.cells.now, within, c.requires.size))
+    c.in-Ok.ensures.values c.place_rows.ensures
