@@ -1,38 +1,33 @@
 -- Words read from bytes, one after the other.
-use Rattle.std.proofs.Common.{◌≡◌, ◌∙◌, ℕ, suc, Ok, append_assoc, ◌+◌, ◌<◌, ◌^◌, List, [], ◌∷◌, ◌++◌, length, take, drop, get_or, refl, sym, ap, ap₂, arith}
+use Rattle.std.proofs.Common.{◌≡◌, ◌∙◌, ℕ, suc, Ok, append_assoc, ◌+◌, ◌/◌, ◌<◌, ◌≤◌, List, [], ◌∷◌, ◌++◌, length, map, take, get_or, refl, sym, ap, ap₂, arith}
 use Rattle.std.proofs.Math.ListN.{set}
-use Rattle.std.specs.Int.{to_be_bytes, w64}
-use Rattle.std.proofs.lemmas.List.{drop_more, take_more, take_more_set}
+use Rattle.std.specs.Int.{from_be_bytes, to_be_bytes, w64}
+use Rattle.std.specs.Simd.{first_chunks}
+use Rattle.std.proofs.lemmas.List.{map-append, take_all, take_more, take_more_set}
 use Rattle.std.proofs.lemmas.List.Concat.{flat_map-cons}
 use Rattle.std.proofs.lemmas.List.Elements.{All-append, All-head, All-tail}
 use Rattle.math_numbers.specs.Goldilocks.{P}
 use Rattle.math_codec.specs.Lists.{scan_items}
-use Rattle.math_codec.specs.WordLaws.{word_apart}
 use Rattle.math_base.specs.ElementEncoding.{scan_element}
 use Rattle.math_base.specs.ElementEncodingLaws.{element_again}
+use Rattle.math_splitting.specs.DataWords.{spelled_words}
+use Rattle.math_splitting.proofs.SpelledWords.{spelled-words}
 use Rattle.c_calls.specs.WordElements.{AreElements}
 use Rattle.c_calls.proofs.WrittenWords.{bytes_of}
 
--- where the bytes are those of the items, the first i words are the first items, and the bytes that are left are those of the others
-pub record AreRead (i : ℕ) (items words rest : List ℕ) : Type 0 where
-  pub front : take i words ≡ take i items
-  pub back : rest ≡ bytes_of (drop i items)
+-- the first words are those of the first eight bytes each, and with one more they still are
+pub one_read : (i word : ℕ) (words : List ℕ) (eights : List (List ℕ)) (d : List ℕ) → i < length words → i < length eights → word ≡ from_be_bytes w64 (get_or eights i d)
+    → take i words ≡ map (from_be_bytes w64) (take i eights) → take (i + 1) (set words i word) ≡ map (from_be_bytes w64) (take (i + 1) eights)
+one_read i word words eights d l m e h =
+    take_more_set words i word l ∙ ap₂ (λ xs x. xs ++ x ∷ []) h e
+    ∙ sym (ap (map (from_be_bytes w64)) (take_more eights i d m) ∙ map-append (from_be_bytes w64) (take i eights) (get_or eights i d ∷ []))
 
-pub none_read : (items words bytes : List ℕ) → bytes ≡ bytes_of items → AreRead 0 items words bytes
-none_read items words bytes e = record { front = refl; back = e }
-
-pub one_read : (i word : ℕ) (items words rest after : List ℕ) → AreElements items → word < 2 ^ 64 → i < length words → length items ≡ length words
-    → rest ≡ to_be_bytes w64 word ++ after → AreRead i items words rest → AreRead (i + 1) items (set words i word) after
-one_read i word items words rest after below small l e taken h =
-    let m : i < length items = omega arith in
-    let next : rest ≡ to_be_bytes w64 (get_or items i 0) ++ bytes_of (drop (i + 1) items) =
-    h.back ∙ ap bytes_of (drop_more items i 0 m) ∙ flat_map-cons (to_be_bytes w64) (get_or items i 0) (drop (i + 1) items) in
-    let item : get_or items i 0 < 2 ^ 64 = omega (arith, below i 0 m) in
-    let apart = word_apart word (get_or items i 0) after (bytes_of (drop (i + 1) items)) small item (sym taken ∙ next) in
-    record {
-      front = take_more_set words i word l ∙ ap₂ (λ xs x. xs ++ x ∷ []) h.front apart.0 ∙ sym (take_more items i 0 m);
-      back = apart.1;
-    }
+-- where the bytes are those of the items, all words are these
+pub all_read : (i : ℕ) (words items bytes : List ℕ) (eights : List (List ℕ)) → length words ≤ i → length eights ≤ i → take i words ≡ map (from_be_bytes w64) (take i eights)
+    → eights ≡ first_chunks 8 (length bytes / 8) bytes → AreElements items → bytes ≡ bytes_of items → words ≡ items
+all_read i words items bytes eights l m h chunks below e =
+    sym (take_all i words l) ∙ h ∙ ap (map (from_be_bytes w64)) (take_all i eights m ∙ chunks) ∙ ap spelled_words e
+    ∙ spelled-words items (λ k d n. let small = below k d n in omega (arith, small))
 
 -- one word below P more
 pub elements_pushed : (words : List ℕ) (word : ℕ) → AreElements words → word < P → AreElements (words ++ word ∷ [])

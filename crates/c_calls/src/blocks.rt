@@ -80,10 +80,19 @@ pub fn are_elements(bytes: &[u8]) -> bool
 }
 
 /// Whether each word, as its eight bytes, the highest first, is below P.
+///
+/// All words are looked at before it answers, so that none waits for the one before it.
 fn are_below(words: &[[u8; 8]]) -> bool
     ensures { IsTrue result ↔ All (λ word. from_be_bytes w64 word < P) words.now }
 {
-    words.iter().all(|word| u64::from_be_bytes(*word) < MODULUS)
+    let mut below = true;
+    for word in words {
+        let number = u64::from_be_bytes(*word);
+        if number >= MODULUS {
+            below = false;
+        }
+    }
+    below
 }
 
 /// Writes the block that the shards give back over the first bytes of `out`, and gives their

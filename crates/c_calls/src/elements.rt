@@ -12,6 +12,7 @@ ghost use Rattle.c_calls.specs.WordElements.{AreElements, elements, numbers};
 use commonware_math::algebra::Mem;
 use commonware_math::codec::{Error, Read};
 use commonware_math::fields::goldilocks::{F, MODULUS};
+use math_splitting::shards::write_word;
 use std::alloc::Global;
 
 /// Whether each word is below P, and so the number of an element.
@@ -71,17 +72,22 @@ pub(crate) fn write_numbers(words: &mut [u64], items: &[F])
 }
 
 /// Reads the words that the bytes spell, eight bytes each, highest first, over the words.
-pub(crate) fn read_words(alloc: Global, words: &mut [u64], bytes: &[u8])
+///
+/// Two are read in a turn, as two are written in `write_words`.
+pub(crate) fn read_words(words: &mut [u64], bytes: &[u8])
     requires { length bytes.now ≡ 8 * length words.old }
     ensures { (items : List ℕ) → AreElements items → bytes.now ≡ flat_map (to_be_bytes w64) items
         → words.new ≡ items }
 {
-    let mut rest = bytes;
-    for i in 0..words.len() {
-        let Ok(word) = u64::read_cfg(alloc, &mut rest, &()) else {
-            unreachable!()
-        };
-        words[i] = word;
+    let (eights, _) = bytes.as_chunks::<8>();
+    for pair in 0..words.len() / 2 {
+        let i = 2 * pair;
+        words[i] = u64::from_be_bytes(eights[i]);
+        words[i + 1] = u64::from_be_bytes(eights[i + 1]);
+    }
+    if words.len() % 2 == 1 {
+        let last = words.len() - 1;
+        words[last] = u64::from_be_bytes(eights[last]);
     }
 }
 
@@ -129,13 +135,21 @@ pub(crate) fn after_elements(alloc: Global, count: u32, bytes: &[u8]) -> Result<
 }
 
 /// Writes the words over the bytes from place `from` on: eight bytes each, highest first.
+///
+/// Two are written in a turn. One by one LLVM would exchange the bytes of some at once, which takes
+/// twice as long on processors that cannot move single bytes.
 pub(crate) fn write_words(bytes: &mut [u8], from: usize, words: &[u64])
     requires { from + 8 * length words.now ≤ length bytes.old }
     ensures { bytes.new ≡ take from bytes.old ++ flat_map (to_be_bytes w64) words.now
         ++ drop (from + 8 * length words.now) bytes.old }
 {
-    for i in 0..words.len() {
-        let at = from + 8 * i;
-        bytes[at..at + 8].copy_from_slice(&words[i].to_be_bytes());
+    for pair in 0..words.len() / 2 {
+        let i = 2 * pair;
+        write_word(bytes, from + 8 * i, words[i]);
+        write_word(bytes, from + 8 * i + 8, words[i + 1]);
+    }
+    if words.len() % 2 == 1 {
+        let last = words.len() - 1;
+        write_word(bytes, from + 8 * last, words[last]);
     }
 }

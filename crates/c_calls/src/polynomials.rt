@@ -87,6 +87,6 @@ pub fn decode(alloc: Global, bytes: &[u8], out: &mut [u64]) -> Result<Option<usi
     if n > out.len() {
         return Ok(None);
     }
-    read_words(alloc, &mut out[..n], coefficients);
+    read_words(&mut out[..n], coefficients);
     Ok(Some(n))
 }

@@ -8,8 +8,6 @@ use Rattle.std.proofs.lemmas.List.{append-nil, drop_at, drop-drop, flat_map_more
 use Rattle.std.proofs.lemmas.List.Concat.{flat_map-cons}
 use Rattle.std.proofs.lemmas.List.Elements.{All-head, All-tail}
 use Rattle.std.proofs.lemmas.Nat.{be_bytes_8, from_be_bytes-to_be_bytes_8}
-use Rattle.std.proofs.lemmas.Slice.{take-put_mid, drop-put_mid}
-use borrow.Rule.Slice.PartMut.{put_mid}
 use Rattle.math_base.specs.declared.fields.goldilocks.F.{F}
 use Rattle.math_base.specs.Elements.{number, residue}
 use Rattle.math_splitting.specs.DataWords.{spelled_words}
@@ -30,20 +28,23 @@ pub record AreWritten (from i : ℕ) (old words bytes : List ℕ) : Type 0 where
 pub none_written : (from : ℕ) (old words : List ℕ) → AreWritten from 0 old words old
 none_written from old words = record { front = ap (λ n. take n old) (let q : from + 8 * 0 ≡ from = omega arith in q) ∙ sym (append-nil (take from old)); rest = refl }
 
-pub one_written : (from i place k : ℕ) (old words bytes part : List ℕ) → place ≡ from + 8 * i → k ≡ 8 → place + 8 ≤ length bytes → i < length words
-    → part ≡ to_be_bytes w64 (get_or words i 0) → AreWritten from i old words bytes → AreWritten from (i + 1) old words (put_mid place k bytes part)
-one_written from i place k old words bytes part e hk l m hp h =
+pub one_written : (from i place word : ℕ) (old words bytes new : List ℕ) → place ≡ from + 8 * i → place + 8 ≤ length bytes → i < length words → word ≡ get_or words i 0
+    → new ≡ take place bytes ++ (to_be_bytes w64 word ++ drop (place + 8) bytes) → AreWritten from i old words bytes → AreWritten from (i + 1) old words new
+one_written from i place word old words bytes new e l m hw hn h =
     let next : from + 8 * (i + 1) ≡ place + 8 = omega arith in
     let after : from + 8 * i + 8 ≡ place + 8 = omega arith in
-    let long : length part ≡ 8 = ap length hp in
+    let front = take place bytes ++ to_be_bytes w64 word in
+    let rest = drop (place + 8) bytes in
+    let long : length front ≡ place + 8 = length-append (take place bytes) (to_be_bytes w64 word) ∙ ap (λ n. n + 8) (length-take-le place bytes (omega (arith, l))) in
+    let parts : new ≡ front ++ rest = hn ∙ sym (append_assoc (take place bytes) (to_be_bytes w64 word) rest) in
     record {
-      front = ap (λ n. take n (put_mid place k bytes part)) next
-          ∙ take-put_mid place k bytes part (place + 8) (omega (arith, long)) (omega arith)
-          ∙ ap₂ (λ xs ys. xs ++ ys) (ap (λ n. take n bytes) e ∙ h.front) hp
+      front = ap₂ take next parts
+          ∙ take_at front rest (place + 8) long
+          ∙ ap₂ (λ xs ys. xs ++ ys) (ap (λ n. take n bytes) e ∙ h.front) (ap (to_be_bytes w64) hw)
           ∙ flat_map_more (to_be_bytes w64) (take from old) (take i words) (get_or words i 0)
           ∙ ap (λ xs. take from old ++ bytes_of xs) (sym (take_more words i 0 m));
-      rest = ap (λ n. drop n (put_mid place k bytes part)) next
-          ∙ drop-put_mid place k bytes part (place + 8) (omega arith) (omega arith) (long ∙ sym hk)
+      rest = ap₂ drop next parts
+          ∙ drop_at front rest (place + 8) long
           ∙ ap (λ n. drop n bytes) (sym after) ∙ sym (drop-drop 8 (from + 8 * i) bytes) ∙ ap (drop 8) h.rest ∙ drop-drop 8 (from + 8 * i) old
           ∙ ap (λ n. drop n old) (let q : from + 8 * i + 8 ≡ from + 8 * (i + 1) = omega arith in q);
     }

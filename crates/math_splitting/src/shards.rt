@@ -17,7 +17,7 @@ mod strips;
 mod wanting;
 
 use math_base::fields::goldilocks::F;
-pub use rooms::Room;
+pub use rooms::{Room, write_word};
 pub use sources::{Source, Word};
 pub use splitting::{
     split, split_rows, split_source, split_source_at, split_source_rows, split_source_rows_at,

@@ -4,7 +4,7 @@
 //! A record is the shard of a block and its two fingerprints. Callers hand in how many cells the
 //! shard of a block has; `shard_blocks` says it.
 
-ghost use Rattle.std.specs.Prelude.{◌≡◌, ◌≢◌, ◌↔◌, ◌<◌, ◌≤◌, ◌^◌, ◌+◌, ◌*◌, ◌++◌, List, length, take, OnOk, IsTrue, IsFalse, IfOk, IfSome, IsNone};
+ghost use Rattle.std.specs.Prelude.{◌≡◌, ◌≢◌, ◌↔◌, ◌<◌, ◌≤◌, ◌^◌, ◌+◌, ◌*◌, ◌++◌, List, length, map, take, OnOk, IsTrue, IsFalse, IfOk, IfSome, IsNone};
 ghost use Rattle.math_base.specs.declared.fields.goldilocks.F.{F};
 ghost use Rattle.shard_format.specs.Records.{AreCellsThatFit, HaveFingerprints, IsRecordOf, IsShardOfHeader, block_count, block_size, capped, element_spelling, elements_spelling, file_size, numbers_spelling, record_place, record_size, record_spelling};
 
@@ -121,6 +121,21 @@ fn element_of(word: &[u8; 8]) -> Option<F>
     Some(F::from(number))
 }
 
+/// Writes the elements that the words are over as many others, and says whether all are such words.
+fn write_elements(words: &[[u8; 8]], elements: &mut [F]) -> bool
+    requires { length elements.old ≡ length words.now }
+    ensures spelled { IsTrue result → map element_spelling elements.new ≡ words.now }
+    ensures none { IsFalse result → (others : List F) → words.now ≢ map element_spelling others }
+{
+    for k in 0..words.len() {
+        let Some(element) = element_of(&words[k]) else {
+            return false;
+        };
+        elements[k] = element;
+    }
+    true
+}
+
 /// Whether the bytes are those of elements, a word each, which then are in `elements`.
 fn read_elements(bytes: &[u8], elements: &mut Vec<F>) -> Mem<bool>
     ensures spelled { IfOk result
@@ -129,18 +144,11 @@ fn read_elements(bytes: &[u8], elements: &mut Vec<F>) -> Mem<bool>
         (λ are. IsFalse are → (others : List F) → bytes.now ≢ elements_spelling others) }
 {
     let (words, rest) = bytes.as_chunks::<8>();
-    elements.clear();
     if !rest.is_empty() {
         return Ok(false);
     }
-    elements.reserve(words.len())?;
-    for word in words {
-        let Some(element) = element_of(word) else {
-            return Ok(false);
-        };
-        elements.push(element)?;
-    }
-    Ok(true)
+    elements.resize(words.len(), F::from(0))?;
+    Ok(write_elements(words, elements))
 }
 
 /// Whether the elements are so many cells, and then their two fingerprints as those of the shard of

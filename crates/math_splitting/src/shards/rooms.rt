@@ -64,14 +64,30 @@ fn write_numbers(words: &mut [u64], items: &[F])
 
 /// Writes the numbers of the elements over the bytes from eight times `from` on, eight for each, the
 /// highest first.
+///
+/// Two are written in a turn. One by one LLVM would exchange the bytes of some at once, which takes
+/// twice as long on processors that cannot move single bytes.
 fn write_bytes(bytes: &mut [u8], from: usize, items: &[F])
     requires { 8 * (from + length items.now) ≤ length bytes.old }
     ensures { bytes.new ≡ take (8 * from) bytes.old
         ++ flat_map (to_be_bytes w64) (map number items.now)
         ++ drop (8 * from + 8 * length (map number items.now)) bytes.old }
 {
-    for k in 0..items.len() {
-        let at = 8 * (from + k);
-        bytes[at..at + 8].copy_from_slice(&number_of(&items[k]).to_be_bytes());
+    for pair in 0..items.len() / 2 {
+        let k = 2 * pair;
+        write_word(bytes, 8 * (from + k), number_of(&items[k]));
+        write_word(bytes, 8 * (from + k) + 8, number_of(&items[k + 1]));
     }
+    if items.len() % 2 == 1 {
+        let last = items.len() - 1;
+        write_word(bytes, 8 * (from + last), number_of(&items[last]));
+    }
+}
+
+/// Writes the word over the eight bytes from place `at` on, the highest first.
+pub fn write_word(bytes: &mut [u8], at: usize, word: u64)
+    requires { at + 8 ≤ length bytes.old }
+    ensures { bytes.new ≡ take at bytes.old ++ (to_be_bytes w64 word ++ drop (at + 8) bytes.old) }
+{
+    bytes[at..at + 8].copy_from_slice(&word.to_be_bytes());
 }

@@ -1,27 +1,42 @@
-use Rattle.std.proofs.Common.{◌≡◌, ◌≤◌, length, length-append, ap, arith}
-use Rattle.std.specs.Int.{to_be_bytes, w64}
-use Rattle.std.proofs.lemmas.List.{length-set, take_all}
-use Rattle.c_calls.proofs.ReadWords.{none_read, one_read}
-use Rattle.c_calls.proofs.WrittenWords.{length-bytes}
+use Rattle.std.proofs.Common.{◌≡◌, ◌∙◌, [], ℕ, ◌+◌, ◌-◌, ◌*◌, ◌/◌, ◌<◌, ◌≤◌, length, map, take, subst, arith}
+use Rattle.std.proofs.Math.ListN.{set}
+use Rattle.std.proofs.lemmas.List.{length-set}
+use Rattle.std.specs.Int.{from_be_bytes, w64}
+use Rattle.c_calls.proofs.ReadWords.{all_read, one_read}
 use Rattle.c_calls.proofs.elements.read_words.Goals as goal
 
-pub loop-i-init : goal.loop-i-init
-loop-i-init c = record { left = omega (arith, c.requires); read = λ items below e. none_read _ _ _ e }
+pub loop-pair-preserved : goal.loop-pair-preserved
+loop-pair-preserved c =
+    let words = c.loop-pair.words in
+    let eights = c.as_chunks.result.0.now in
+    let i : ℕ = 2 * c.loop-pair.pair in
+    let a = c.from_be_bytes.result in
+    let b = c.from_be_bytes-in-loop-pair.result in
+    let within : i + 1 < length words = omega (arith, c.loop-pair-test.true, c.loop-pair.auto.words) in
+    let many : i + 1 < length eights = omega (arith, within, c.loop-pair.auto.words, c.requires, c.as_chunks.ensures.front_len) in
+    let next : i + 1 + 1 ≡ 2 * (c.loop-pair.pair + 1) = omega arith in
+    let one = one_read i a words eights [] (omega (arith, within)) (omega (arith, many)) c.from_be_bytes.ensures c.loop-pair.invariant in
+    let two = one_read (i + 1) b (set words i a) eights [] (omega (arith, within, length-set words i a)) many c.from_be_bytes-in-loop-pair.ensures one in
+    subst (λ n. take n (set (set words i a) (i + 1) b) ≡ map (from_be_bytes w64) (take n eights)) next two
 
-pub loop-i-preserved : goal.loop-i-preserved
-loop-i-preserved c =
-    let word = c.in-Ok.word in
-    let taken = c.in-Ok.ensures.taken in
-    record {
-      left = omega (arith, length-set c.loop-i.words c.loop-i.i word, ap length taken.1, length-append (to_be_bytes w64 word) c.read_cfg.new.input.now, c.loop-i.invariant.left, c.loop-i-test.true);
-      read = λ items below e.
-          let count : length items ≡ length c.loop-i.words = omega (arith, ap length e, length-bytes items, c.requires) in
-          one_read c.loop-i.i word items c.loop-i.words c.loop-i.rest.now c.read_cfg.new.input.now below taken.0 (omega (arith, c.loop-i-test.true)) count taken.1
-          (c.loop-i.invariant.read items below e);
-    }
+pub returns-then-words-eq1 : goal.returns-then-words-eq1
+returns-then-words-eq1 c = λ items below e.
+    let words = c.loop-pair.words in
+    let eights = c.as_chunks.result.0.now in
+    let last = length words - 1 in
+    let even : 2 * c.loop-pair.pair ≡ last = omega (arith, c.loop-pair-test.false, c.loop-pair.auto.pair-end, c.loop-pair.auto.words, c.if-words-eq1.true) in
+    let some : last < length words = omega (arith, c.if-words-eq1.true) in
+    let many : length eights ≡ length words = omega (arith, c.requires, c.as_chunks.ensures.front_len, c.loop-pair.auto.words) in
+    let word = c.from_be_bytes-then-words-eq1.result in
+    let before = subst (λ m. take m words ≡ map (from_be_bytes w64) (take m eights)) even c.loop-pair.invariant in
+    all_read (last + 1) (set words last word) items c.args.bytes.now eights (omega (arith, some, length-set words last word)) (omega (arith, some, many))
+    (one_read last word words eights [] some (omega (arith, some, many)) c.from_be_bytes-then-words-eq1.ensures before)
+    c.as_chunks.ensures.front below e
 
-pub returns : goal.returns
-returns c = λ items below e.
-    let written : length c.loop-i.words ≤ c.loop-i.i = omega arith in
-    let all : length items ≤ c.loop-i.i = omega (arith, ap length e, length-bytes items, c.requires) in
-    rw (take_all c.loop-i.i c.loop-i.words written, take_all c.loop-i.i items all) at (c.loop-i.invariant.read items below e).front
+pub returns-else-words-eq1 : goal.returns-else-words-eq1
+returns-else-words-eq1 c = λ items below e.
+    let words = c.loop-pair.words in
+    let i : ℕ = 2 * c.loop-pair.pair in
+    let all : length words ≤ i = omega (arith, c.loop-pair-test.false, c.loop-pair.auto.words, c.if-words-eq1.false) in
+    all_read i words items c.args.bytes.now c.as_chunks.result.0.now all (omega (arith, all, c.requires, c.as_chunks.ensures.front_len, c.loop-pair.auto.words)) c.loop-pair.invariant
+    c.as_chunks.ensures.front below e

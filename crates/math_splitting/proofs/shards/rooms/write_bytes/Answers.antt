@@ -1,25 +1,39 @@
-use Rattle.std.proofs.Common.{◌≡◌, ◌∙◌, ◌+◌, ◌-◌, ◌*◌, get_or, map, sym, ap, arith}
-use Rattle.std.specs.Int.{to_be_bytes, w64}
+use Rattle.std.proofs.Common.{◌≡◌, ◌∙◌, ℕ, ◌+◌, ◌-◌, ◌*◌, ◌/◌, ◌%◌, ◌<◌, length, map, sym, ap, subst, arith}
 use Rattle.std.proofs.lemmas.List.{get_or-map, length-map}
 use Rattle.math_base.specs.Elements.{number}
-use Rattle.math_splitting.proofs.SpelledWords.{all_written, none_written, one_written}
+use Rattle.math_splitting.proofs.SpelledWords.{AreWritten, all_written, one_written}
 use Rattle.math_splitting.proofs.shards.rooms.write_bytes.Goals as goal
 
-pub loop-k-init : goal.loop-k-init
-loop-k-init c = none_written (8 * c.args.from) c.args.bytes.now (map number c.args.items.now)
-
-pub loop-k-preserved : goal.loop-k-preserved
-loop-k-preserved c =
+pub loop-pair-preserved : goal.loop-pair-preserved
+loop-pair-preserved c =
     let items = c.args.items.now in
-    let k = c.loop-k.k in
-    let at = 8 * (c.args.from + k) in
-    let item = c.index-items-k.result in
-    let word : get_or (map number items) k 0 ≡ number item = get_or-map number items k item 0 c.loop-k-test.true ∙ ap number (sym c.index-items-k.is) in
-    one_written (8 * c.args.from) k at (at + 8 - at) c.args.bytes.now (map number items) c.loop-k.bytes c.copy_from_slice.new.self (omega arith) (omega arith)
-    (omega (arith, c.requires, c.loop-k-test.true)) (omega (arith, length-map items number, c.loop-k-test.true))
-    (c.copy_from_slice.ensures.after ∙ c.to_be_bytes.ensures ∙ ap (to_be_bytes w64) (c.number_of.ensures ∙ sym word)) c.loop-k.invariant
+    let words = map number items in
+    let old = c.args.bytes.now in
+    let k : ℕ = 2 * c.loop-pair.pair in
+    let place = 8 * (c.args.from + k) in
+    let within : k + 1 < length items = omega (arith, c.loop-pair-test.true) in
+    let many : length words ≡ length items = length-map items number in
+    let next : k + 1 + 1 ≡ 2 * (c.loop-pair.pair + 1) = omega arith in
+    let first = c.index-items-k.result in
+    let second = c.index-items-k-in-loop-pair.result in
+    let one = one_written (8 * c.args.from) k place (c.number_of.result) old words c.loop-pair.bytes c.write_word.new.bytes (omega arith) (omega (arith, c.loop-pair.auto.bytes, c.requires, within)) (omega (arith, many, within))
+    (c.number_of.ensures ∙ ap number c.index-items-k.is ∙ sym (get_or-map number items k first 0 (omega (arith, within)))) c.write_word.ensures c.loop-pair.invariant in
+    let two = one_written (8 * c.args.from) (k + 1) (place + 8) (c.number_of-in-loop-pair.result) old words c.write_word.new.bytes c.write_word-in-loop-pair.new.bytes (omega arith)
+    (omega (arith, c.write_word.auto.bytes, c.loop-pair.auto.bytes, c.requires, within)) (omega (arith, many, within))
+    (c.number_of-in-loop-pair.ensures ∙ ap number c.index-items-k-in-loop-pair.is ∙ sym (get_or-map number items (k + 1) second 0 within)) c.write_word-in-loop-pair.ensures one in
+    subst (λ n. AreWritten (8 * c.args.from) n old words c.write_word-in-loop-pair.new.bytes) next two
 
-pub returns : goal.returns
-returns c =
+pub returns-then-items-eq1 : goal.returns-then-items-eq1
+returns-then-items-eq1 c =
     let items = c.args.items.now in
-    all_written (8 * c.args.from) c.loop-k.k c.args.bytes.now (map number items) c.loop-k.bytes (omega (arith, length-map items number)) c.loop-k.invariant
+    let words = map number items in
+    let old = c.args.bytes.now in
+    let last = length items - 1 in
+    let many : length words ≡ length items = length-map items number in
+    let even : 2 * c.loop-pair.pair ≡ last = omega (arith, c.loop-pair-test.false, c.loop-pair.auto.pair-end, c.if-items-eq1.true) in
+    let some : last < length items = omega (arith, c.if-items-eq1.true) in
+    let before = subst (λ n. AreWritten (8 * c.args.from) n old words c.loop-pair.bytes) even c.loop-pair.invariant in
+    all_written (8 * c.args.from) (last + 1) old words c.write_word-then-items-eq1.new.bytes (omega (arith, many, some))
+    (one_written (8 * c.args.from) last (8 * (c.args.from + last)) c.number_of-then-items-eq1.result old words c.loop-pair.bytes c.write_word-then-items-eq1.new.bytes (omega arith)
+    (omega (arith, c.loop-pair.auto.bytes, c.requires, some)) (omega (arith, many, some))
+    (c.number_of-then-items-eq1.ensures ∙ ap number c.index-items-last.is ∙ sym (get_or-map number items last c.index-items-last.result 0 some)) c.write_word-then-items-eq1.ensures before)

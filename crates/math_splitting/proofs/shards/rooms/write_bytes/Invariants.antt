@@ -4,5 +4,5 @@ use Rattle.math_splitting.proofs.SpelledWords.{AreWritten}
 use Rattle.math_splitting.proofs.shards.rooms.write_bytes.Given as goal
 
 -- the numbers of the elements so far
-abbrev pub invariant-loop-k : goal.invariant-loop-k
-invariant-loop-k l = AreWritten (8 * l.from) l.k l.initial.bytes (map number l.items) l.bytes
+abbrev pub invariant-loop-pair : goal.invariant-loop-pair
+invariant-loop-pair l = AreWritten (8 * l.from) (2 * l.pair) l.initial.bytes (map number l.items) l.bytes
