@@ -73,7 +73,7 @@ pub(crate) fn write_numbers(words: &mut [u64], items: &[F])
 
 /// Reads the words that the bytes spell, eight bytes each, highest first, over the words.
 ///
-/// Two are read in a turn, as two are written in `write_words`.
+/// Each turn of the loop reads two, as each of `write_words` writes two.
 pub(crate) fn read_words(words: &mut [u64], bytes: &[u8])
     requires { length bytes.now ≡ 8 * length words.old }
     ensures { (items : List ℕ) → AreElements items → bytes.now ≡ flat_map (to_be_bytes w64) items
@@ -136,8 +136,8 @@ pub(crate) fn after_elements(alloc: Global, count: u32, bytes: &[u8]) -> Result<
 
 /// Writes the words over the bytes from place `from` on: eight bytes each, highest first.
 ///
-/// Two are written in a turn. One by one LLVM would exchange the bytes of some at once, which takes
-/// twice as long on processors that cannot move single bytes.
+/// Each turn of the loop writes two. If it wrote one, LLVM would make a vector loop of it, which
+/// takes twice as long on processors that cannot move bytes within a register.
 pub(crate) fn write_words(bytes: &mut [u8], from: usize, words: &[u64])
     requires { from + 8 * length words.now ≤ length bytes.old }
     ensures { bytes.new ≡ take from bytes.old ++ flat_map (to_be_bytes w64) words.now

@@ -65,8 +65,8 @@ fn write_numbers(words: &mut [u64], items: &[F])
 /// Writes the numbers of the elements over the bytes from eight times `from` on, eight for each, the
 /// highest first.
 ///
-/// Two are written in a turn. One by one LLVM would exchange the bytes of some at once, which takes
-/// twice as long on processors that cannot move single bytes.
+/// Each turn of the loop writes two. If it wrote one, LLVM would make a vector loop of it, which
+/// takes twice as long on processors that cannot move bytes within a register.
 fn write_bytes(bytes: &mut [u8], from: usize, items: &[F])
     requires { 8 * (from + length items.now) ≤ length bytes.old }
     ensures { bytes.new ≡ take (8 * from) bytes.old

@@ -1,5 +1,4 @@
-use Rattle.std.proofs.Common.{◌≡◌, ◌<◌, [], List, ℕ, true, false, true≢false, All, get_or, subst, sym, arith}
-use Rattle.std.proofs.lemmas.List.{take_all}
+use Rattle.std.proofs.Common.{◌<◌, [], List, ℕ, true≢false, sym, arith}
 use Rattle.std.proofs.lemmas.List.Elements.{All-more}
 use Rattle.std.specs.Int.{from_be_bytes, w64}
 use Rattle.math_numbers.specs.Goldilocks.{P}

@@ -1,4 +1,4 @@
-use Rattle.std.proofs.Common.{◌≡◌, ◌∙◌, ℕ, ◌+◌, ◌-◌, ◌*◌, ◌<◌, length, get_or, subst, refl, arith}
+use Rattle.std.proofs.Common.{◌≡◌, ℕ, ◌+◌, ◌-◌, ◌*◌, ◌<◌, length, get_or, subst, refl, arith}
 use Rattle.c_calls.proofs.WrittenWords.{AreWritten, all_written, one_written}
 use Rattle.c_calls.proofs.elements.write_words.Goals as goal
 
