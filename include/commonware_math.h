@@ -1,14 +1,14 @@
 /* commonware-math for C: polynomials over the Goldilocks field and data in shards, in the caller's memory.
  *
- * An element of the field is a whole number below P = 2^64 - 2^32 + 1, in a uint64_t. Each call tests the words
- * that it takes as elements, but for those of rows that are not filled: P or more gives CWM_OUT_OF_RANGE.
- * Coefficients go from the constant upwards.
+ * An element of the field is a whole number below P = 2^64 - 2^32 + 1, in a uint64_t. A call on elements tests each word,
+ * and answers CWM_OUT_OF_RANGE if one is P or more. It does not read rows that are not filled. Coefficients go from the
+ * constant upwards.
  *
  * Rows of cells lie one behind the other: cell (i, k) is cells[i * cols + k], and each column is a
  * polynomial of its own. A domain has N = 2^lg points, lg at most 32: point i is power i of the root of
  * order N, which is 0xee41f5320c4ea145 to the power 2^(32 - lg).
  *
- * Each function but cwm_version answers a status. If it is not CWM_DONE, the call wrote nothing.
+ * Each function but cwm_version and cwm_status_name answers a status. If it is not CWM_DONE, the call wrote nothing.
  *
  * The library keeps nothing between calls, so calls on buffers of their own may run at the same time, in any threads.
  *
@@ -104,9 +104,8 @@ CWM_MUST_USE uint32_t cwm_eval(const uint64_t *coefficients, size_t n, uint64_t 
 
 /* Evaluates polynomials at all points of a domain: row i of the cells holds coefficient i of each polynomial, and gets
  * the values at point i.
- * n cells in rows of `cols`: cols is 1 or more and n / cols is a power of two, 2^32 at most, else
- * CWM_WRONG_SIZE. A word of P or more: CWM_OUT_OF_RANGE. Takes memory for n words, one more a row, and
- * 64. */
+ * n cells in rows of `cols`: cols is 1 or more and n is cols times a power of two, 2^32 at most, else CWM_WRONG_SIZE. A
+ * word of P or more: CWM_OUT_OF_RANGE. Takes memory for n words, one more a row, and 64. */
 CWM_MUST_USE uint32_t cwm_evaluate(uint64_t *cells, size_t n, size_t cols);
 
 /* Goes the way back: row i holds the values at point i, and gets coefficient i of each polynomial.
@@ -114,20 +113,20 @@ CWM_MUST_USE uint32_t cwm_evaluate(uint64_t *cells, size_t n, size_t cols);
 CWM_MUST_USE uint32_t cwm_interpolate(uint64_t *cells, size_t n, size_t cols);
 
 /* Recovers polynomials of at most m coefficients from any m rows of their values. If filled[i] is 1, row i of the cells
- * holds the values at point i. If it is 0, the row may hold anything, and is not read. Puts the coefficients in place of
- * the cells, coefficient i in row i. In each column that is the only polynomial that has these values and whose
- * coefficients from the number of filled rows on are zero.
- * n cells in rows of `cols`: cols is 1 or more, rows is n / cols and a power of two, 2^32 at most, else
+ * holds the values at point i. If it is 0, the row may hold anything, and is not read. Let m rows be filled. In each
+ * column the call finds the only polynomial of at most m coefficients that has their values. Puts its coefficients in
+ * place of the cells, coefficient i in row i, and zeros from row m on.
+ * n cells in rows of `cols`: cols is 1 or more, n is cols times rows, and rows is a power of two, 2^32 at most, else
  * CWM_WRONG_SIZE. A byte of `filled` that is neither 0 nor 1, or a word of P or more in a filled row:
  * CWM_OUT_OF_RANGE. Takes memory for n words, four more a row, and 1024. */
 CWM_MUST_USE uint32_t cwm_recover(uint64_t *cells, size_t n, size_t cols, const uint8_t *filled, size_t rows);
 
 /* Does what cwm_recover does though some of the filled rows are wrong, and says which. A row is wrong if one of its
- * cells is. Puts in place of the cells the coefficients of polynomials of at most `count` coefficients that have
- * the values of all m filled rows but at most (m - count) / 2, rounded down. They are the only such polynomials. Writes
- * the numbers of the wrong rows, rising, over the first of the `room` places of `wrong`, and how many they are into
- * *written. If there are no such polynomials: CWM_INCONSISTENT. If more rows are wrong than that, they may fit other
- * polynomials, and the call then gives these.
+ * cells is. Let m rows be filled. Puts in place of the cells the coefficients of polynomials of at most `count`
+ * coefficients that have the values of all filled rows but at most (m - count) / 2, rounded down. They are the only such
+ * polynomials. Writes the numbers of the wrong rows, rising, over the first of the `room` places of `wrong`, and how many
+ * they are into *written. If there are no such polynomials: CWM_INCONSISTENT. If more rows are wrong than that, they may
+ * fit other polynomials, and the call then gives these.
  * n, cols, rows and words as for cwm_recover: a row that is not filled is not read. room is rows / 2 or more, else
  * CWM_WRONG_SIZE. count is at most the number of filled rows, else CWM_TOO_FEW. With no wrong row it takes the time of
  * cwm_recover; with some, time grows with their number and with m^2. Takes three times the memory of cwm_recover. */
@@ -151,17 +150,17 @@ CWM_MUST_USE uint32_t cwm_decode(const uint64_t *points, size_t n, const uint64_
 CWM_MUST_USE uint32_t cwm_weights(const uint64_t *points, size_t n, uint64_t x, uint64_t *weights, size_t m);
 
 /* Writes the same weights for the points of a domain that have these n indices; N is `total` rounded up
- * to a power of two. total is 1 or more and m is n, else CWM_WRONG_SIZE. The indices strictly rise and are
- * below total, else CWM_WRONG_INDEX. x of P or more: CWM_OUT_OF_RANGE. Time grows with N lg N if x is
- * zero, and with N lg^2 N at most. Takes memory for 7 N words. */
+ * to a power of two. total is 1 or more and m is n, else CWM_WRONG_SIZE. x of P or more: CWM_OUT_OF_RANGE. The indices
+ * strictly rise and are below total, else CWM_WRONG_INDEX. Time grows with N lg N if x is zero, and with N lg^2 N at most.
+ * Takes memory for 7 N words. */
 CWM_MUST_USE uint32_t cwm_weights_at_roots(uint32_t total, const uint32_t *indices, size_t n, uint64_t x, uint64_t *weights,
                                            size_t m);
 
 /* Writes the encoding of the polynomial with these n coefficients over the first of the m bytes of out,
- * and their number into *written. The encoding is n as 1 to 5 bytes, seven bits a byte and the lowest first, where
- * bit 7 says that another follows; then each coefficient as 8 bytes, highest first. 8 n + 5 bytes are enough.
- * n is 1 to 2^32 - 1 and there is room, else CWM_WRONG_SIZE. A word of P or more: CWM_OUT_OF_RANGE. Takes memory
- * for a few words. */
+ * and their number into *written. The encoding is n in as few bytes as possible, 1 to 5, seven bits a byte and the lowest
+ * first, where bit 7 says that another follows; then each coefficient as 8 bytes, highest first. 8 n + 5 bytes are enough.
+ * n is 1 to 2^32 - 1, else CWM_WRONG_SIZE. A word of P or more: CWM_OUT_OF_RANGE. Too little room: CWM_WRONG_SIZE. Takes
+ * memory for a few words. */
 CWM_MUST_USE uint32_t cwm_encode_poly(const uint64_t *coefficients, size_t n, uint8_t *out, size_t m, size_t *written);
 
 /* Writes the coefficients of the polynomial that the n bytes encode over the first of the m words of out,
@@ -182,39 +181,42 @@ CWM_MUST_USE uint32_t cwm_shard_sizes(size_t words, uint32_t min, uint32_t total
 /* Writes the shards of the n words of data: shard i is row i of the m words of `cells`, in `total` rows of
  * as many words as cwm_shard_sizes says.
  * 1 <= min <= total, else CWM_MISMATCH. m is total times the size of a shard, and cwm_shard_sizes takes the sizes,
- * else CWM_WRONG_SIZE. N is `total` rounded up to a power of two. Takes memory for N words and for N rows; a row has
- * as many words as a shard, but no more than the greater of 8 and 2^15 / N. */
+ * else CWM_WRONG_SIZE. N is `total` rounded up to a power of two. Takes memory for N words, and for N rows of w words: w is
+ * the size of a shard, but at most 8, or 2^15 / N if that is more. */
 CWM_MUST_USE uint32_t cwm_split(const uint64_t *data, size_t n, uint32_t min, uint32_t total, uint64_t *cells, size_t m);
 
 /* Writes the data that k shards give back over the first of the m words of data, and their number into
  * *written. Row i of the n words of `cells`, in k rows, is the shard whose index is indices[i]. The order
  * does not matter, and a shard that is there twice counts once. The call writes at most min * (n / k) words,
- * and no more than were split; too little room: CWM_WRONG_SIZE.
+ * and no more than were split.
  * n is a multiple of k, and 0 if k is, else CWM_WRONG_SIZE. A word of P or more: CWM_OUT_OF_RANGE. Then,
  * in this order: no shard at all: CWM_TOO_FEW; not 1 <= min <= total: CWM_MISMATCH; an index of `total` or
  * more: CWM_WRONG_INDEX; unequal shards of one index: CWM_CONFLICT; fewer than `min` distinct indices:
- * CWM_TOO_FEW; shards of no data: CWM_INCONSISTENT. So the call finds damage to one shard if there are
- * more than `min` distinct indices; if there are just `min`, it may not.
- * N is `total` rounded up to a power of two. Shards of data take memory for `min` times the words of a shard, for 9 times N rows
- * of `min` words and of 64 more, for 3 words a row and for 16,384. Other shards also take it for 9 times N rows of a shard's
- * words and of 64 more: limit `total` before you join shards from someone you do not trust. */
+ * CWM_TOO_FEW; shards of no data: CWM_INCONSISTENT; too little room: CWM_WRONG_SIZE. So the call finds damage to one
+ * shard if there are more than `min` distinct indices; if there are just `min`, it may not. Nothing is signed: one
+ * forged shard among just `min` changes what comes back. Keep a hash of the data to compare.
+ * N is `total` rounded up to a power of two. Takes memory for `min` times the words of a shard, for 9 times N rows of 64
+ * words and of the lesser of `min` and the words of a shard, for 3 words a row and for 16,384. A refusal may also take it
+ * for N words and one shard. So limit `total` before you join shards from someone you do not trust. */
 CWM_MUST_USE uint32_t cwm_join(const uint32_t *indices, size_t k, uint32_t min, uint32_t total, const uint64_t *cells, size_t n,
                                uint64_t *data, size_t m, size_t *written);
 
 /* Does what cwm_join does though some of the shards are wrong, and says which. An index whose shards have unequal cells
- * counts as missing. Of the i distinct indices that remain at most (i - min) / 2, rounded down, have wrong shards; the
- * data are the only such ones. Writes the positions of the shards that are not shards of the data, rising, over the first
+ * counts as missing. Let i distinct indices remain. The call finds the only data that at most (i - min) / 2 of them,
+ * rounded down, contradict. Writes the positions of the shards that are not shards of the data, rising, over the first
  * of the `room` places of `left_out`, and how many they are into *many. The position of a shard is its row. If there are
  * no such data: CWM_INCONSISTENT. If more shards are wrong than that, they may have other data, and the call then gives
  * these.
- * Sizes, words and statuses as for cwm_join; but there is no CWM_CONFLICT, and CWM_TOO_FEW says that i is below min. room is k or
- * more, else CWM_WRONG_SIZE. Takes memory for 9 times N rows of a shard's words and of 64 more, with N as there. */
+ * Sizes, words and statuses as for cwm_join; but there is no CWM_CONFLICT, and CWM_TOO_FEW says that i is below min. room
+ * is k or more, else CWM_WRONG_SIZE. With no wrong shard it takes time and memory as cwm_join. Else time grows with k^2 and
+ * with the number of wrong shards, and it takes memory for the k rows, and for 9 times N rows of a shard's words and of 64
+ * more: limit `total` and k. */
 CWM_MUST_USE uint32_t cwm_join_corrected(const uint32_t *indices, size_t k, uint32_t min, uint32_t total, const uint64_t *cells,
                                          size_t n, uint64_t *data, size_t m, size_t *written, size_t *left_out, size_t room,
                                          size_t *many);
 
-/* The same calls for bytes, any n of them: there is nothing to pack, and their number is kept inside, so it comes back too.
- * A shard is bytes: each of its words as eight, the highest first. Keep min, total and the index beside each shard.
+/* The same calls for n bytes, any n. The shards store n, so a join gives back exactly these bytes. A shard is bytes: each of
+ * its words as eight, the highest first. Keep min, total and the index beside each shard.
  *
  * Writes how many bytes each shard of so many bytes of data has into *size.
  * 1 <= min <= total, else CWM_MISMATCH. total times *size is below 2^60, else CWM_WRONG_SIZE. Takes no memory. */
@@ -229,20 +231,20 @@ CWM_MUST_USE uint32_t cwm_split_bytes(const uint8_t *data, size_t n, uint32_t mi
 
 /* Writes the data that k shards give back over the first of the m bytes of data, and their number into *written. Row i
  * of the n bytes of `shards`, in k rows, is the shard whose index is indices[i]. The order does not matter, and a shard
- * that is there twice counts once. The call writes fewer than min * (n / k) bytes; too little room: CWM_WRONG_SIZE.
- * n is a multiple of 8 k, and 0 if k is, else CWM_WRONG_SIZE. A word of P or more: CWM_OUT_OF_RANGE. Then as
- * cwm_join; shards of words that are those of no bytes: CWM_INCONSISTENT. Takes memory as cwm_join does: it reads words
- * from the bytes where these lie. Limit `total` before you join shards from someone you do not trust. */
+ * that is there twice counts once. The call writes fewer than min * (n / k) bytes.
+ * n is a multiple of 8 k, and 0 if k is, else CWM_WRONG_SIZE. A word of P or more: CWM_OUT_OF_RANGE. Then as cwm_join;
+ * shards of words that are those of no bytes: CWM_INCONSISTENT, before too little room. Takes memory as cwm_join does: it
+ * reads words from the bytes where these lie. Limit `total` before you join shards from someone you do not trust. */
 CWM_MUST_USE uint32_t cwm_join_bytes(const uint32_t *indices, size_t k, uint32_t min, uint32_t total, const uint8_t *shards,
                                      size_t n, uint8_t *data, size_t m, size_t *written);
 
 /* Does what cwm_join_bytes does though some of the shards are wrong, and says which. As for cwm_join_corrected, an index
- * whose shards are unequal counts as missing. Of the i distinct indices that remain at most (i - min) / 2, rounded down,
- * have wrong shards; the data are the only such ones. Writes the positions of the shards that are not shards of the data,
+ * whose shards are unequal counts as missing. Let i distinct indices remain. The call finds the only data that at most
+ * (i - min) / 2 of them, rounded down, contradict. Writes the positions of the shards that are not shards of the data,
  * rising, over the first of the `room` places of `left_out`, and how many they are into *many. The position of a shard is
  * its row. If more shards are wrong than that, they may have other data, and the call then gives these.
  * Sizes, words and statuses as for cwm_join_bytes; but there is no CWM_CONFLICT, and CWM_TOO_FEW says that i is below min.
- * room is k or more, else CWM_WRONG_SIZE. Takes memory as cwm_join_corrected does. */
+ * room is k or more, else CWM_WRONG_SIZE. Takes time and memory as cwm_join_corrected does: limit `total` and k. */
 CWM_MUST_USE uint32_t cwm_join_bytes_corrected(const uint32_t *indices, size_t k, uint32_t min, uint32_t total,
                                                const uint8_t *shards, size_t n, uint8_t *data, size_t m, size_t *written,
                                                size_t *left_out, size_t room, size_t *many);

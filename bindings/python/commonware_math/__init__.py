@@ -141,8 +141,10 @@ _ERRORS = {error.status: error for error in Error.__subclasses__()}
 
 
 def _done(status: int) -> None:
-    if status:
+    if status in _ERRORS:
         raise _ERRORS[status]()
+    if status:
+        raise RuntimeError(f"the library answers {status}, which is no status of version {_library.MAJOR}.0")
 
 
 def _number(value: int, bits: int) -> int:
@@ -169,17 +171,27 @@ def _rows(shards: Mapping[int, Bytes]) -> tuple[Any, int, Any, int]:
 
 def _room(count: int, length: int, min: int) -> int:
     """How many bytes at most come back from so many shards that have so many bytes together."""
-    return builtins.min(_number(min, 32), count) * (length // count if count else 0)
+    return builtins.min(min, count) * (length // count if count else 0)
+
+
+def _cells(cells: Words, cols: int) -> tuple[Any, int, int]:
+    """Cells that a call writes in place, how many they are, and how many a row has: in a buffer of rows, as many as it says."""
+    cols = _number(cols, 64)
+    at, count = _library.borrowed(cells)
+    shape = memoryview(cells).shape
+    if len(shape) > 1 and shape[1:] != (cols,):
+        raise WrongSize()
+    return at, count, cols
 
 
 def _marks(filled: Any) -> tuple[Any, int]:
-    """One byte a row: those of a buffer of bytes, or items that are true or false."""
+    """One byte a row, copied: those of a buffer of bytes, or items that are true or false."""
     try:
         are_bytes = memoryview(filled).itemsize == 1
     except TypeError:
         are_bytes = False
     if are_bytes:
-        return _library.read_bytes(filled)
+        return _library.read_bytes(memoryview(filled).tobytes())
     items = list(filled)
     if not all(item in (True, False) for item in items):
         raise TypeError("whether a row is filled is neither True nor False")
@@ -223,6 +235,7 @@ def split(data: Bytes, min: int, total: int) -> list[bytes]:
     >>> [len(shard) for shard in shards]
     [24, 24, 24]
     """
+    min, total = _number(min, 32), _number(total, 32)
     at, count = _library.read_bytes(data)
     size = shard_size(count, min, total)
     out = _library.bytes_of(total * size)
@@ -245,10 +258,11 @@ def join(shards: Mapping[int, Bytes], min: int, total: int) -> bytes:
     Traceback (most recent call last):
     commonware_math.TooFew: too few
     """
+    min, total = _number(min, 32), _number(total, 32)
     indices, count, at, length = _rows(shards)
     room = _room(count, length, min)
     out, written = _library.bytes_of(room), ctypes.c_size_t()
-    _done(_lib.cwm_join_bytes(indices, count, min, _number(total, 32), at, length, out, room, ctypes.byref(written)))
+    _done(_lib.cwm_join_bytes(indices, count, min, total, at, length, out, room, ctypes.byref(written)))
     return bytes(memoryview(out).cast("B")[: written.value])
 
 
@@ -261,13 +275,14 @@ def join_corrected(shards: Mapping[int, Bytes], min: int, total: int) -> tuple[b
     >>> join_corrected({0: shards[0], 1: shards[1], 2: shards[0], 3: shards[3]}, 2, 4)
     (b'0123456789', [2])
     """
+    min, total = _number(min, 32), _number(total, 32)
     indices, count, at, length = _rows(shards)
     room = _room(count, length, min)
     out, written, many = _library.bytes_of(room), ctypes.c_size_t(), ctypes.c_size_t()
     wrong = (ctypes.c_size_t * builtins.max(1, count))()
     _done(
         _lib.cwm_join_bytes_corrected(
-            indices, count, min, _number(total, 32), at, length, out, room, ctypes.byref(written), wrong, count, ctypes.byref(many)
+            indices, count, min, total, at, length, out, room, ctypes.byref(written), wrong, count, ctypes.byref(many)
         )
     )
     return bytes(memoryview(out).cast("B")[: written.value]), sorted(indices[i] for i in wrong[: many.value])
@@ -277,15 +292,15 @@ def evaluate(cells: Words, cols: int = 1) -> None:
     """Puts the values at all points of a domain in place of the coefficients, in each column.
 
     Cell (i, k) is ``cells[i * cols + k]``. There are N rows, a power of two; row i holds coefficient i of each
-    polynomial, and gets the values at point i, power i of the root of order N.
+    polynomial, and gets the values at point i, power i of the root of order N. A buffer that has rows of its own, such
+    as an array of numpy with two dimensions, has rows of ``cols``.
 
     >>> cells = array("Q", [4, 6, 8, 0])
     >>> evaluate(cells)
     >>> cells[0] == 4 + 6 + 8
     True
     """
-    at, count = _library.borrowed(cells)
-    _done(_lib.cwm_evaluate(at, count, _number(cols, 64)))
+    _done(_lib.cwm_evaluate(*_cells(cells, cols)))
 
 
 def interpolate(cells: Words, cols: int = 1) -> None:
@@ -297,8 +312,7 @@ def interpolate(cells: Words, cols: int = 1) -> None:
     >>> list(cells)
     [4, 6, 8, 0]
     """
-    at, count = _library.borrowed(cells)
-    _done(_lib.cwm_interpolate(at, count, _number(cols, 64)))
+    _done(_lib.cwm_interpolate(*_cells(cells, cols)))
 
 
 def recover(cells: Words, filled: Any, cols: int = 1) -> None:
@@ -313,9 +327,8 @@ def recover(cells: Words, filled: Any, cols: int = 1) -> None:
     >>> list(cells)
     [4, 6, 0, 0]
     """
-    at, count = _library.borrowed(cells)
     marks, rows = _marks(filled)
-    _done(_lib.cwm_recover(at, count, _number(cols, 64), marks, rows))
+    _done(_lib.cwm_recover(*_cells(cells, cols), marks, rows))
 
 
 def correct(cells: Words, filled: Any, count: int, cols: int = 1) -> list[int]:
@@ -330,11 +343,10 @@ def correct(cells: Words, filled: Any, count: int, cols: int = 1) -> list[int]:
     >>> correct(cells, [True] * 4, 2), list(cells)
     ([2], [4, 6, 0, 0])
     """
-    at, length = _library.borrowed(cells)
     marks, rows = _marks(filled)
     room = rows // 2
     wrong, written = (ctypes.c_size_t * builtins.max(1, room))(), ctypes.c_size_t()
-    _done(_lib.cwm_correct(at, length, _number(cols, 64), marks, rows, _number(count, 64), wrong, room, ctypes.byref(written)))
+    _done(_lib.cwm_correct(*_cells(cells, cols), marks, rows, _number(count, 64), wrong, room, ctypes.byref(written)))
     return list(wrong[: written.value])
 
 
@@ -361,10 +373,10 @@ def decode(points: Words, values: Words, count: int) -> tuple["array[int]", list
     """
     points_at, n = _library.read(points)
     values_at, m = _library.read(values)
-    room = builtins.max(0, n - _number(count, 64)) // 2
-    found = _library.words(builtins.min(count, n + 1))
+    count = builtins.min(_number(count, 64), n + 1)
+    room = builtins.max(0, n - count) // 2
+    found = _library.words(count)
     wrong, written = (ctypes.c_size_t * builtins.max(1, room))(), ctypes.c_size_t()
-    count = builtins.min(count, n + 1)
     _done(_lib.cwm_decode(points_at, n, values_at, m, found, count, wrong, room, ctypes.byref(written)))
     return _array(found, count), list(wrong[: written.value])
 

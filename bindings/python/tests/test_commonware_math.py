@@ -253,6 +253,33 @@ class Buffers(unittest.TestCase):
         self.assertEqual(cm.join(left, 3, 5), data)
         self.assertEqual(cm.join({i: s for i, s in enumerate(cm.split(b"", 1, 2))}, 1, 2), b"")
 
+    def test_rows_of_a_buffer(self):
+        rows = memoryview(bytearray(array("Q", [4, 1, 6, 0]).tobytes())).cast("B").cast("Q", (2, 2))
+        cm.evaluate(rows, 2)
+        self.assertEqual(rows.tolist(), [[10, 1], [cm.MODULUS - 2, 1]])
+        for call in (lambda: cm.evaluate(rows), lambda: cm.interpolate(rows), lambda: cm.recover(rows, [True] * 4), lambda: cm.correct(rows, [True] * 4, 4)):
+            with self.assertRaises(cm.WrongSize):
+                call()
+        self.assertEqual(rows.tolist(), [[10, 1], [cm.MODULUS - 2, 1]])
+
+    def test_numbers_of_other_types(self):
+        class Number:
+            def __init__(self, value):
+                self.value = value
+
+            def __index__(self):
+                return self.value
+
+        data = bytes(range(100))
+        two, four, five = Number(2), Number(4), Number(5)
+        shards = cm.split(data, two, four)
+        self.assertEqual(shards, cm.split(data, 2, 4))
+        self.assertEqual(cm.shard_size(100, two, four), len(shards[0]))
+        self.assertEqual(cm.join({1: shards[1], 3: shards[3]}, two, four), data)
+        self.assertEqual(cm.join_corrected(dict(enumerate(shards)), two, four), (data, []))
+        self.assertEqual(cm.decode([1, 2, 3, 4], [3, 5, 8, 9], two)[1], [2])
+        self.assertEqual(cm.eval([4, 6, 8], five), 234)
+
     def test_numpy(self):
         try:
             import numpy
@@ -263,6 +290,12 @@ class Buffers(unittest.TestCase):
         cm.recover(cells, numpy.array([False, True, True, True]))
         self.assertEqual(list(cells), [4, 6, 8, 0])
         self.assertEqual(cm.eval([numpy.uint64(4), numpy.uint64(6), numpy.uint64(8)], numpy.uint64(5)), 234)
+        rows = numpy.array([[4, 1], [6, 0]], dtype=numpy.uint64)
+        cm.evaluate(rows, 2)
+        self.assertEqual(rows.tolist(), [[10, 1], [cm.MODULUS - 2, 1]])
+        for cols in (1, 4):
+            with self.assertRaises(cm.WrongSize):
+                cm.interpolate(rows, cols)
 
 
 class Threads(unittest.TestCase):

@@ -113,10 +113,16 @@ pub fn version() -> (u32, u32, u32) {
     (number / 10_000, number / 100 % 100, number % 100)
 }
 
-/// So many items, all zero.
-fn zeros<T: Clone + Default>(count: usize) -> Result<Vec<T>, Error> {
+/// Room for so many items.
+fn room_for<T>(count: usize) -> Result<Vec<T>, Error> {
     let mut items = Vec::new();
     items.try_reserve_exact(count).map_err(|_| Error::OutOfMemory)?;
+    Ok(items)
+}
+
+/// So many items, all zero.
+fn zeros<T: Clone + Default>(count: usize) -> Result<Vec<T>, Error> {
+    let mut items = room_for(count)?;
     items.resize(count, T::default());
     Ok(items)
 }
@@ -404,7 +410,13 @@ pub fn split_bytes(data: &[u8], min: u32, total: u32) -> Result<Vec<Vec<u8>>, Er
     let size = shard_bytes_sizes(data.len(), min, total)?;
     let mut shards = zeros(total as usize * size)?;
     library::split_bytes(data, min, total, &mut shards)?;
-    Ok(shards.chunks_exact(size).map(<[u8]>::to_vec).collect())
+    let mut found = room_for(total as usize)?;
+    for shard in shards.chunks_exact(size) {
+        let mut copy = room_for(size)?;
+        copy.extend_from_slice(shard);
+        found.push(copy);
+    }
+    Ok(found)
 }
 
 /// Returns the bytes that the shards, each beside its index, give back: `min` of them or more, in any order.
@@ -472,9 +484,8 @@ pub fn join_bytes_corrected<S: AsRef<[u8]>>(shards: &[(u32, S)], min: u32, total
 /// The indices of the shards, and the shards one behind the other, all of one length.
 fn rows_of<S: AsRef<[u8]>>(shards: &[(u32, S)]) -> Result<(Vec<u32>, Vec<u8>), Error> {
     let size = shards.first().map_or(0, |(_, shard)| shard.as_ref().len());
-    let mut rows = Vec::new();
-    rows.try_reserve_exact(size.saturating_mul(shards.len())).map_err(|_| Error::OutOfMemory)?;
-    let mut indices = Vec::new();
+    let mut rows = room_for(size.saturating_mul(shards.len()))?;
+    let mut indices = room_for(shards.len())?;
     for (index, shard) in shards {
         if shard.as_ref().len() != size {
             return Err(Error::Mismatch);

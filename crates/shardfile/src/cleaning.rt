@@ -54,8 +54,12 @@ fn partial_names(rt: &HostRuntime, folder: &str) -> Result<Vec<String>, Fault> {
     Ok(names)
 }
 
-/// Whether no run holds a lock on the file with this name, or there is none.
+/// Whether no run holds a lock on the file with this name, or no regular file has it: opening
+/// another one might wait without end.
 fn is_free(rt: &HostRuntime, path: &str) -> Result<bool, Fault> {
+    if fs::symlink_metadata(rt, path).is_ok_and(|metadata| !metadata.is_file()) {
+        return Ok(true);
+    }
     let file = match fs::open(rt, path) {
         Ok(file) => file,
         Err(error) if error.kind() == ErrorKind::NotFound => return Ok(true),

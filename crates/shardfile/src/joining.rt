@@ -5,7 +5,7 @@ ghost use Rattle.std.specs.Prelude.{◌≡◌, ◌≤◌, length, IfOk, IfSome, 
 use crate::blocks::{Block, Look, RecordRoom, block_in};
 use crate::fault::Fault;
 use crate::listing::line_of;
-use crate::names::{Wanted, number_in};
+use crate::names::{Wanted, is_shard_name};
 use crate::output::{Identity, Manner, Restored, check_no_input, owned};
 use crate::progress::Progress;
 use crate::sources::{ShardFile, count_there, gather, is_shard_file};
@@ -60,7 +60,7 @@ fn check_out(
     files: &[ShardFile],
 ) -> Result<(), Fault> {
     if let Wanted::Beside(file) = wanted {
-        if number_in(rt, file, out)?.is_some() {
+        if is_shard_name(rt, file, out)? {
             return Err(Fault::Input(owned(rt, out)?));
         }
     }

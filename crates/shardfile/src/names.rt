@@ -1,8 +1,9 @@
 //! The names of shard files.
 
 use crate::fault::Fault;
-use crate::output::owned;
+use crate::output::{Identity, owned};
 use shard_format::header::MOST_SHARDS;
+use std::fs;
 use std::fs::read_dir;
 use std::io::ErrorKind;
 
@@ -51,6 +52,22 @@ pub fn number_in(rt: &HostRuntime, file: &str, name: &str) -> Result<Option<u32>
     };
     let is_so_written = shard_name(rt, file, number)?.as_str() == name;
     Ok((is_so_written && number < MOST_SHARDS).then_some(number))
+}
+
+/// Whether the name is that of a shard of the file, in the file's folder, however each is spelled.
+pub fn is_shard_name(rt: &HostRuntime, file: &str, name: &str) -> Result<bool, Fault> {
+    let (folder, last) = folder_and_name(rt, file)?;
+    let (other, its_last) = folder_and_name(rt, name)?;
+    let is_numbered = number_in(rt, last.as_str(), its_last.as_str())?.is_some();
+    Ok(is_numbered && are_one_folder(rt, folder.as_str(), other.as_str()))
+}
+
+/// Whether both are names of one folder that is there.
+fn are_one_folder(rt: &HostRuntime, folder: &str, other: &str) -> bool {
+    match (fs::metadata(rt, folder), fs::metadata(rt, other)) {
+        (Ok(one), Ok(another)) => Identity::new(&one) == Identity::new(&another),
+        _ => false,
+    }
 }
 
 /// The folder that a file lies in, with a slash at its end, and its name there.

@@ -545,21 +545,24 @@ impl ShardFiles {
 
     /// Writes the headers, and gives the files their names, once the shards of all bytes are
     /// written.
+    ///
+    /// Where a name cannot be given, what was written is removed; but once another file has its name,
+    /// it stays, as a stopped run leaves it: shards that were replaced may be needed.
     pub fn finish(self, rt: &HostRuntime) -> Result<(), Fault>
         requires { self.left ≡ 0 }
     {
-        let done = all_named(rt, &self.partials, &self.indices, &self.split);
-        if done.is_err() {
-            self.discard(rt);
+        match all_settled(rt, &self.partials, &self.indices, &self.split) {
+            Ok(folders) => all_named(rt, &self.partials, folders),
+            Err(fault) => {
+                self.discard(rt);
+                Err(fault)
+            }
         }
-        done
     }
 
-    /// Removes what was written, but for files that have their final names.
+    /// Removes what was written.
     pub fn discard(self, rt: &HostRuntime) {
-        for partial in &self.partials {
-            partial.remove(rt);
-        }
+        remove_all(rt, &self.partials);
     }
 }
 
@@ -643,14 +646,21 @@ fn folders_of(rt: &HostRuntime, partials: &[Partial]) -> Result<Vec<String>, Fau
     Ok(folders)
 }
 
-/// Writes the headers, and gives the files their final names, the first one last, once the system
-/// has written all of them to the device. No memory is taken once one has it.
-fn all_named(
+/// Removes the files, where they have not their final names yet.
+fn remove_all(rt: &HostRuntime, partials: &[Partial]) {
+    for partial in partials {
+        partial.remove(rt);
+    }
+}
+
+/// Writes the headers, and has the system write all files to the device. It answers their folders,
+/// so that no memory is taken once a file has its final name.
+fn all_settled(
     rt: &HostRuntime,
     partials: &[Partial],
     indices: &[u32],
     split: &Header,
-) -> Result<(), Fault> {
+) -> Result<Vec<String>, Fault> {
     for (partial, index) in partials.iter().zip(indices) {
         let header = Header {
             index: *index,
@@ -659,12 +669,33 @@ fn all_named(
         partial.write_first(rt, &header_bytes(rt.alloc(), &header)?)?;
         partial.settle(rt)?;
     }
-    let folders = folders_of(rt, partials)?;
-    for partial in partials.iter().rev() {
-        partial.take_name(rt)?;
+    folders_of(rt, partials)
+}
+
+/// Gives the files their final names, the first one last, and has the system write their folders to
+/// the device. Where a name cannot be given, the files without one are named on standard error, or
+/// removed where all are.
+fn all_named(rt: &HostRuntime, partials: &[Partial], folders: Vec<String>) -> Result<(), Fault> {
+    for place in (0..partials.len()).rev() {
+        if let Err(fault) = partials[place].take_name(rt) {
+            if place + 1 == partials.len() {
+                remove_all(rt, partials);
+            } else {
+                print_unnamed(rt, &partials[..=place]);
+            }
+            return Err(fault);
+        }
     }
     for folder in folders {
         sync_folder(rt, folder)?;
     }
     Ok(())
+}
+
+/// Says on standard error of each file which final name it has not.
+fn print_unnamed(rt: &HostRuntime, partials: &[Partial]) {
+    for partial in partials {
+        let (beside, path) = (partial.beside.as_str(), partial.path.as_str());
+        let _told = eprintln!(rt; "{beside}: is {path}, without its name");
+    }
 }

@@ -30,10 +30,11 @@ impl Progress {
         }
         let hundredth = (self.length / 100).max(1);
         let percent = self.length.saturating_sub(left) / hundredth;
-        if percent != self.percent {
+        if percent != self.percent || left == 0 {
             self.percent = percent;
-            let end = if left == 0 { "\n" } else { "" };
-            let _told = eprint!(rt; "\r{percent}%{end}");
+            // Whatever is written next stands over it.
+            let end = if left == 0 { "\n" } else { "\r" };
+            let _told = eprint!(rt; "{percent}%{end}");
         }
     }
 }
