@@ -47,19 +47,22 @@ void *__wrap_realloc(void *at, size_t size) {
 static struct {
   const char *name;
   double most, taken;
-} calls[20];
+} calls[24];
 static int failed;
 
-/* What was taken since the last count, beside so many words. */
-static void count(const char *name, uint32_t status, double most, size_t words) {
+/* What was taken since the last count by a call with this answer, beside so many words. */
+static void count_of(const char *name, uint32_t wanted, uint32_t status, double most, size_t words) {
   double taken = (double)peak / 8 / (double)words;
   int i = 0;
   while (calls[i].name != NULL && strcmp(calls[i].name, name) != 0) i++;
   calls[i].name = name, calls[i].most = most;
   if (taken > calls[i].taken) calls[i].taken = taken;
-  if (status != CWM_DONE || now != 0) failed = 1, printf("%s: %s, %zu bytes kept\n", name, cwm_status_name(status), now);
+  if (status != wanted || now != 0) failed = 1, printf("%s: %s, %zu bytes kept\n", name, cwm_status_name(status), now);
   peak = 0;
 }
+
+/* The same of a call that is done. */
+static void count(const char *name, uint32_t status, double most, size_t words) { count_of(name, CWM_DONE, status, most, words); }
 
 static void *block(size_t size) {
   void *at = __real_malloc(size);
@@ -67,7 +70,7 @@ static void *block(size_t size) {
   return at;
 }
 
-enum { LG = 12, ROWS = 1 << LG, MOST_COLS = 16, CELLS = ROWS * MOST_COLS, POINTS = 256, LONG = 1 << 17, BLOCK = 1 << 16, ROOM = 1 << 22 };
+enum { LG = 12, ROWS = 1 << LG, MOST_COLS = 16, CELLS = ROWS * MOST_COLS, POINTS = 256, LONG = 1 << 17, BLOCK = 1 << 16, ROOM = 1 << 23 };
 
 static uint64_t *a, *b, *c;
 static uint8_t *filled;
@@ -138,17 +141,36 @@ static void shards(uint32_t min, uint32_t total) {
   while (rows < total) rows *= 2;
   memset(back, 7, BLOCK);
   fill(a, BLOCK / 8);
-  if (cwm_shard_bytes_sizes(BLOCK, min, total, &size) != CWM_DONE || size * total > ROOM) exit(2);
-  if (cwm_shard_sizes(BLOCK / 8, min, total, &cols) != CWM_DONE || 8 * cols * total > ROOM) exit(2);
+  if (cwm_shard_bytes_sizes(BLOCK, min, total, &size) != CWM_DONE || size * (total + 100) > ROOM) exit(2);
+  if (cwm_shard_sizes(BLOCK / 8, min, total, &cols) != CWM_DONE || 8 * cols * (total + 100) > ROOM) exit(2);
   size_t words = rows * cols + 64 * rows, strip = 32768 / rows > 8 ? 32768 / rows : 8;
   peak = 0;
   count("cwm_split", cwm_split(a, BLOCK / 8, min, total, cells, total * cols), 1, rows * (cols < strip ? cols : strip) + rows);
   count("cwm_split_bytes", cwm_split_bytes(back, BLOCK, min, total, bytes, total * size), 1, rows * (size / 8 < strip ? size / 8 : strip) + rows);
+  /* one list as long as the data, the weights or the tables, a strip of the transforms and of a coset, and the rows as they stand */
+  size_t most = min * cols + 9 * (rows * (min < cols ? min : cols) + 64 * rows) + 3 * total + 16384, refused = most + rows + cols;
   for (uint32_t k = min; k <= total; k += total > min ? total - min : 1) {
-    /* one list as long as the data, the weights or the tables, a strip of the transforms and of a coset, and the rows as they stand */
-    size_t most = 9 * (rows * min + 64 * rows) + 3 * k + 16384;
-    count("cwm_join", cwm_join(indices, k, min, total, cells, k * cols, b, CELLS, &written), 1, min * cols + most);
-    count("cwm_join_bytes", cwm_join_bytes(indices, k, min, total, bytes, k * size, back, ROOM, &written), 1, min * size / 8 + most);
+    count("cwm_join", cwm_join(indices, k, min, total, cells, k * cols, b, CELLS, &written), 1, most);
+    count("cwm_join_bytes", cwm_join_bytes(indices, k, min, total, bytes, k * size, back, ROOM, &written), 1, most);
+  }
+  /* too few; a cell of one of all changed; and two unequal shards of one index */
+  count_of("cwm_join, refused", CWM_TOO_FEW, cwm_join(indices, min - 1, min, total, cells, (min - 1) * cols, b, CELLS, &written), 1, refused);
+  cells[0] ^= 1;
+  if (min < total) count_of("cwm_join, refused", CWM_INCONSISTENT, cwm_join(indices, total, min, total, cells, total * cols, b, CELLS, &written), 1, refused);
+  memcpy(cells + total * cols, cells, 8 * cols), cells[0] ^= 1, indices[total] = 0;
+  count_of("cwm_join, refused", CWM_CONFLICT, cwm_join(indices, total + 1, min, total, cells, (total + 1) * cols, b, CELLS, &written), 1, refused);
+  if (min < total) {
+    /* the first shard a hundred times more, once wrong */
+    size_t k = total + 100;
+    for (size_t i = total; i < k; i++) indices[i] = 0, memcpy(cells + i * cols, cells, 8 * cols);
+    cells[total * cols] ^= 1;
+    count("cwm_join_corrected, copies", cwm_join_corrected(indices, k, min, total, cells, k * cols, b, CELLS, &written, wrong, k, &many), 1, 9 * words + k * (cols + 8));
+    for (size_t i = total; i < k; i++) indices[i] = i;
+  }
+  indices[total] = total;
+  if (total > 200) {
+    __real_free(bytes), __real_free(back), __real_free(cells);
+    return;
   }
   for (uint32_t i = 0; i < (total - min) / 2; i++) cells[i * cols] = 1, memset(bytes + i * size, 1, 8);
   count("cwm_join_corrected", cwm_join_corrected(indices, total, min, total, cells, total * cols, b, CELLS, &written, wrong, total, &many), 9, words);
@@ -171,7 +193,7 @@ static void large(void) {
 }
 
 int main(void) {
-  static const uint32_t splits[][2] = {{1, 1}, {1, 2}, {1, 16}, {2, 3}, {10, 16}, {9, 17}, {20, 40}, {129, 200}, {200, 200}};
+  static const uint32_t splits[][2] = {{1, 1}, {1, 2}, {1, 16}, {2, 3}, {10, 16}, {9, 17}, {20, 40}, {129, 200}, {200, 200}, {100, 1000}, {500, 1000}, {1000, 2000}};
   a = block(8 * CELLS), b = block(8 * CELLS), c = block(8 * CELLS), filled = block(ROWS);
   wrong = block(ROWS * sizeof *wrong), indices = block(ROWS * sizeof *indices);
   for (uint32_t i = 0; i < ROWS; i++) indices[i] = i;
