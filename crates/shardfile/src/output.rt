@@ -681,7 +681,7 @@ fn all_named(rt: &HostRuntime, partials: &[Partial], folders: Vec<String>) -> Re
             if place + 1 == partials.len() {
                 remove_all(rt, partials);
             } else {
-                print_unnamed(rt, &partials[..=place]);
+                print_unnamed(rt, &partials[..place + 1]);
             }
             return Err(fault);
         }
