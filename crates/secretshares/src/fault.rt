@@ -38,6 +38,8 @@ pub enum Fault {
     Io(io::Error),
     #[error("refused: the secret has more than 65536 bytes")]
     TooLong,
+    #[error("refused: a terminal cuts off a line of 4095 bytes: give it by a file or a pipe")]
+    FullLine,
     #[error("refused: {0}")]
     Deal(DealError),
     #[error("refused: {0}")]

@@ -35,7 +35,8 @@ For example, any 3 of the 5 lines of the file shares give the secret back:
   head -n 3 shares | secretshares combine > restored
 
 T is at least 1, and N at most 255. Fewer than T shares say nothing of the secret
-but its length. Of M lines, at most (M - T) / 2 may be wrong, and are named.
+but its length. Of M different shares, at most (M - T) / 2 may have been changed,
+and are named.
 
 Status: 0 done, 1 refused, 2 usage error.
 ";
@@ -51,15 +52,38 @@ const LINES_AT_TERMINAL: &str = "\
 reading shares, a line each, from the terminal, to its end (Ctrl-D)
 ";
 
+/// A terminal hands over at most so many bytes of a line, and drops the others without a word.
+const MOST_TYPED: usize = 4095;
+
+/// Whether some line has so many bytes that a terminal may have dropped more.
+fn has_full_line(bytes: &[u8]) -> bool {
+    let mut length = 0usize;
+    for byte in bytes {
+        length = if *byte == b'\n' {
+            0
+        } else {
+            length.saturating_add(1)
+        };
+        if length >= MOST_TYPED {
+            return true;
+        }
+    }
+    false
+}
+
 /// Standard input to its end, or its first bytes where it is longer than that many. Where it is a
-/// terminal, this is said first.
+/// terminal, this is said first, and lines that it may have cut off are refused.
 fn input(rt: &HostRuntime, most: u64, at_terminal: &str) -> Result<Vec<u8>, Fault> {
     let stdin = rt.reader();
-    if stdin.is_terminal() {
+    let is_terminal = stdin.is_terminal();
+    if is_terminal {
         let _told = eprint!(rt; "{at_terminal}");
     }
     let mut bytes = Vec::new(rt.alloc());
     stdin.take(most).read_to_end(&mut bytes)?;
+    if is_terminal && has_full_line(&bytes) {
+        return Err(Fault::FullLine);
+    }
     Ok(bytes)
 }
 
