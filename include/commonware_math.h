@@ -196,8 +196,8 @@ CWM_MUST_USE uint32_t cwm_split(const uint64_t *data, size_t n, uint32_t min, ui
  * shard if there are more than `min` distinct indices; if there are just `min`, it may not. Nothing is signed: one
  * forged shard among just `min` changes what comes back. Keep a hash of the data to compare.
  * N is `total` rounded up to a power of two. Takes memory for `min` times the words of a shard, for 9 times N rows of 64
- * words and of the lesser of `min` and the words of a shard, for 3 words a row and for 16,384. A refusal may also take it
- * for N words and one shard. So limit `total` before you join shards from someone you do not trust. */
+ * words and of the lesser of `min` and the words of a shard, for 3 words for each of the k rows, and for 16,384. A refusal
+ * may also take it for N words and one shard. So limit `total` before you join shards from someone you do not trust. */
 CWM_MUST_USE uint32_t cwm_join(const uint32_t *indices, size_t k, uint32_t min, uint32_t total, const uint64_t *cells, size_t n,
                                uint64_t *data, size_t m, size_t *written);
 
@@ -209,8 +209,8 @@ CWM_MUST_USE uint32_t cwm_join(const uint32_t *indices, size_t k, uint32_t min, 
  * these.
  * Sizes, words and statuses as for cwm_join; but there is no CWM_CONFLICT, and CWM_TOO_FEW says that i is below min. room
  * is k or more, else CWM_WRONG_SIZE. With no wrong shard it takes time and memory as cwm_join. Else time grows with k^2 and
- * with the number of wrong shards, and it takes memory for the k rows, and for 9 times N rows of a shard's words and of 64
- * more: limit `total` and k. */
+ * with the number of wrong shards, and it takes memory for the k rows and 8 words more each, and for 9 times N rows of a
+ * shard's words and of 64 more: limit `total` and k. */
 CWM_MUST_USE uint32_t cwm_join_corrected(const uint32_t *indices, size_t k, uint32_t min, uint32_t total, const uint64_t *cells,
                                          size_t n, uint64_t *data, size_t m, size_t *written, size_t *left_out, size_t room,
                                          size_t *many);

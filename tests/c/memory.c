@@ -47,7 +47,7 @@ void *__wrap_realloc(void *at, size_t size) {
 static struct {
   const char *name;
   double most, taken;
-} calls[24];
+} calls[32];
 static int failed;
 
 /* What was taken since the last count by a call with this answer, beside so many words. */
@@ -148,26 +148,30 @@ static void shards(uint32_t min, uint32_t total) {
   count("cwm_split", cwm_split(a, BLOCK / 8, min, total, cells, total * cols), 1, rows * (cols < strip ? cols : strip) + rows);
   count("cwm_split_bytes", cwm_split_bytes(back, BLOCK, min, total, bytes, total * size), 1, rows * (size / 8 < strip ? size / 8 : strip) + rows);
   /* one list as long as the data, the weights or the tables, a strip of the transforms and of a coset, and the rows as they stand */
-  size_t most = min * cols + 9 * (rows * (min < cols ? min : cols) + 64 * rows) + 3 * total + 16384, refused = most + rows + cols;
+  size_t most = min * cols + 9 * (rows * (min < cols ? min : cols) + 64 * rows) + 16384, refused = most + rows + cols;
   for (uint32_t k = min; k <= total; k += total > min ? total - min : 1) {
-    count("cwm_join", cwm_join(indices, k, min, total, cells, k * cols, b, CELLS, &written), 1, most);
-    count("cwm_join_bytes", cwm_join_bytes(indices, k, min, total, bytes, k * size, back, ROOM, &written), 1, most);
+    count("cwm_join", cwm_join(indices, k, min, total, cells, k * cols, b, CELLS, &written), 1, most + 3 * k);
+    count("cwm_join_bytes", cwm_join_bytes(indices, k, min, total, bytes, k * size, back, ROOM, &written), 1, most + 3 * k);
   }
-  /* too few; a cell of one of all changed; and two unequal shards of one index */
-  count_of("cwm_join, refused", CWM_TOO_FEW, cwm_join(indices, min - 1, min, total, cells, (min - 1) * cols, b, CELLS, &written), 1, refused);
-  cells[0] ^= 1;
-  if (min < total) count_of("cwm_join, refused", CWM_INCONSISTENT, cwm_join(indices, total, min, total, cells, total * cols, b, CELLS, &written), 1, refused);
-  memcpy(cells + total * cols, cells, 8 * cols), cells[0] ^= 1, indices[total] = 0;
-  count_of("cwm_join, refused", CWM_CONFLICT, cwm_join(indices, total + 1, min, total, cells, (total + 1) * cols, b, CELLS, &written), 1, refused);
+  /* too few; then the first shard a hundred times more */
+  count_of("cwm_join, refused", CWM_TOO_FEW, cwm_join(indices, min - 1, min, total, cells, (min - 1) * cols, b, CELLS, &written), 1, refused + 3 * min);
+  size_t k = total + 100;
+  for (size_t i = total; i < k; i++) indices[i] = 0, memcpy(cells + i * cols, cells, 8 * cols), memcpy(bytes + i * size, bytes, size);
+  count("cwm_join, copies", cwm_join(indices, k, min, total, cells, k * cols, b, CELLS, &written), 1, most + 3 * k);
+  count("cwm_join_bytes, copies", cwm_join_bytes(indices, k, min, total, bytes, k * size, back, ROOM, &written), 1, most + 3 * k);
+  /* half of the copies wrong: the first index counts as missing */
+  for (size_t i = total; i < k; i += 2) cells[i * cols] ^= 1, bytes[i * size + 7] ^= 1;
+  count_of("cwm_join, refused", CWM_CONFLICT, cwm_join(indices, k, min, total, cells, k * cols, b, CELLS, &written), 1, refused + 3 * k);
+  count_of("cwm_join_bytes, refused", CWM_CONFLICT, cwm_join_bytes(indices, k, min, total, bytes, k * size, back, ROOM, &written), 1, refused + 3 * k);
   if (min < total) {
-    /* the first shard a hundred times more, once wrong */
-    size_t k = total + 100;
-    for (size_t i = total; i < k; i++) indices[i] = 0, memcpy(cells + i * cols, cells, 8 * cols);
-    cells[total * cols] ^= 1;
     count("cwm_join_corrected, copies", cwm_join_corrected(indices, k, min, total, cells, k * cols, b, CELLS, &written, wrong, k, &many), 1, 9 * words + k * (cols + 8));
-    for (size_t i = total; i < k; i++) indices[i] = i;
+    count("cwm_join_bytes_corrected, copies", cwm_join_bytes_corrected(indices, k, min, total, bytes, k * size, back, ROOM, &written, wrong, k, &many), 1, 9 * words + k * (size / 8 + 8));
+    cells[0] ^= 1, bytes[7] ^= 1;
+    count_of("cwm_join, refused", CWM_INCONSISTENT, cwm_join(indices, total, min, total, cells, total * cols, b, CELLS, &written), 1, refused + 3 * total);
+    count_of("cwm_join_bytes, refused", CWM_INCONSISTENT, cwm_join_bytes(indices, total, min, total, bytes, total * size, back, ROOM, &written), 1, refused + 3 * total);
   }
-  indices[total] = total;
+  for (size_t i = total; i < k; i++) indices[i] = i;
+  /* more wrong shards take too long */
   if (total > 200) {
     __real_free(bytes), __real_free(back), __real_free(cells);
     return;
@@ -202,7 +206,7 @@ int main(void) {
   for (size_t i = 0; i < sizeof splits / sizeof *splits; i++) shards(splits[i][0], splits[i][1]);
   large();
   for (int i = 0; calls[i].name != NULL; i++) {
-    printf("%-24s %5.2f of %5.2f%s\n", calls[i].name, calls[i].taken, calls[i].most, calls[i].taken > calls[i].most ? ", FAILED" : "");
+    printf("%-34s %5.2f of %5.2f%s\n", calls[i].name, calls[i].taken, calls[i].most, calls[i].taken > calls[i].most ? ", FAILED" : "");
     failed |= calls[i].taken > calls[i].most;
   }
   return failed;

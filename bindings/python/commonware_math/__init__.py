@@ -16,6 +16,7 @@ from __future__ import annotations
 
 import builtins
 import ctypes
+import math
 import operator
 from array import array
 from typing import Any, Iterable, Mapping, Sequence, Union
@@ -175,11 +176,11 @@ def _room(count: int, length: int, min: int) -> int:
 
 
 def _cells(cells: Words, cols: int) -> tuple[Any, int, int]:
-    """Cells that a call writes in place, how many they are, and how many a row has: in a buffer of rows, as many as it says."""
+    """Cells that a call writes in place, how many they are, and how many a row has. A buffer of rows has to have rows of so many."""
     cols = _number(cols, 64)
     at, count = _library.borrowed(cells)
     shape = memoryview(cells).shape
-    if len(shape) > 1 and shape[1:] != (cols,):
+    if len(shape) > 1 and math.prod(shape[1:]) != cols:
         raise WrongSize()
     return at, count, cols
 
@@ -293,7 +294,7 @@ def evaluate(cells: Words, cols: int = 1) -> None:
 
     Cell (i, k) is ``cells[i * cols + k]``. There are N rows, a power of two; row i holds coefficient i of each
     polynomial, and gets the values at point i, power i of the root of order N. A buffer that has rows of its own, such
-    as an array of numpy with two dimensions, has rows of ``cols``.
+    as an array of numpy with two dimensions, has to have rows of ``cols``.
 
     >>> cells = array("Q", [4, 6, 8, 0])
     >>> evaluate(cells)

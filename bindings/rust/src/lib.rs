@@ -332,7 +332,8 @@ pub fn split(data: &[u64], min: u32, total: u32) -> Result<Vec<u64>, Error> {
 /// Returns the words that the shards give back. Row i of the cells is the shard with index `indices[i]`.
 ///
 /// If there are more than `min` distinct indices, it is sure to find damage to one shard. If there are just `min`, it
-/// may not. Limit `total` before you join shards from someone you do not trust: the memory grows with it.
+/// may not. Limit `total` and the number of shards before you join shards from
+/// someone you do not trust: memory and time grow with them.
 ///
 /// ```
 /// let shards = commonware_math::split(&[7, 8, 9], 1, 2)?;
@@ -361,7 +362,8 @@ pub struct Joined {
 /// Does what [`join`] does though some of the shards are wrong: returns the data and the rows that are wrong.
 ///
 /// An index whose shards have unequal cells counts as missing. Of i distinct indices that remain at most
-/// (i - `min`) / 2 may have wrong shards. If no data are so near: [`Error::Inconsistent`].
+/// (i - `min`) / 2 may have wrong shards. If no data are so near: [`Error::Inconsistent`]. If some shard is wrong, time
+/// grows with the square of the number of shards.
 ///
 /// ```
 /// let mut shards = commonware_math::split(&[7, 8, 9], 1, 3)?;
@@ -422,8 +424,8 @@ pub fn split_bytes(data: &[u8], min: u32, total: u32) -> Result<Vec<Vec<u8>>, Er
 /// Returns the bytes that the shards, each beside its index, give back: `min` of them or more, in any order.
 ///
 /// It refuses shards of different lengths with [`Error::Mismatch`]. If there are more than `min` distinct indices, it
-/// is sure to find damage to one shard. If there are just `min`, it may not. Limit `total` before you join shards from
-/// someone you do not trust: the memory grows with it.
+/// is sure to find damage to one shard. If there are just `min`, it may not. Limit `total` and the number of shards before
+/// you join shards from someone you do not trust: memory and time grow with them.
 ///
 /// ```
 /// use commonware_math::{join_bytes, split_bytes, Error};
@@ -455,7 +457,8 @@ pub struct JoinedBytes {
 /// Does what [`join_bytes`] does though some of the shards are wrong: returns the bytes and which are wrong.
 ///
 /// An index whose shards are unequal counts as missing. Of i distinct indices that remain at most (i - `min`) / 2 may
-/// have wrong shards. If no bytes are so near: [`Error::Inconsistent`].
+/// have wrong shards. If no bytes are so near: [`Error::Inconsistent`]. If some shard is wrong, time grows with
+/// the square of the number of shards.
 ///
 /// ```
 /// use commonware_math::{join_bytes_corrected, split_bytes, Error};

@@ -1,4 +1,4 @@
-//! The partial files that stopped runs left.
+//! The partial files that stopped and refused runs left.
 
 use crate::fault::Fault;
 use crate::output::{first_of_run, is_partial_name, owned};

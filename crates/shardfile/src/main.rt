@@ -3,7 +3,7 @@
 //! `shardfile split MIN TOTAL FILE` writes `FILE.0` and on beside it, TOTAL in all; `shardfile join
 //! FILE OUT` restores the file from those that are there, however others are damaged; `shardfile
 //! repair FILE` writes those that are lost; `shardfile check FILE` says which are there and whether
-//! they fit; `shardfile clean FOLDER` removes what stopped runs left.
+//! they fit; `shardfile clean FOLDER` removes what stopped and refused runs left.
 #![tactic(auto)]
 
 ghost use Rattle.std.specs.Prelude.{◌≤◌, IfOk};
@@ -47,7 +47,7 @@ shardfile: a file in TOTAL shard files, any MIN of which give it back
   shardfile check [--all] FILE
       says which shard files are there, whether they fit, and what join would do
   shardfile clean FOLDER
-      removes the files shardfile-*.partial there that stopped runs left
+      removes the files shardfile-*.partial there that stopped or refused runs left
 
   --force   replaces files that are there; of repair, those that do not fit
   --all     compares all shards of a block with each other, also where MIN fit
@@ -297,7 +297,7 @@ fn check(rt: &HostRuntime, options: &Options) -> Result<(), Fault> {
     }
 }
 
-/// `FOLDER`: what stopped runs left there is removed.
+/// `FOLDER`: what stopped and refused runs left there is removed.
 fn clean(rt: &HostRuntime, options: &Options) -> Result<(), Fault> {
     check_options(options, "clean", &[])?;
     let [folder] = options.words.as_slice() else {

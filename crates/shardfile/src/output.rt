@@ -546,8 +546,8 @@ impl ShardFiles {
     /// Writes the headers, and gives the files their names, once the shards of all bytes are
     /// written.
     ///
-    /// Where a name cannot be given, what was written is removed; but once another file has its name,
-    /// it stays, as a stopped run leaves it: shards that were replaced may be needed.
+    /// Where it refuses before a file has its name, what was written is removed. Later all of it stays,
+    /// under final names or not: files that were replaced are gone, and these may be all there is.
     pub fn finish(self, rt: &HostRuntime) -> Result<(), Fault>
         requires { self.left ≡ 0 }
     {
@@ -673,8 +673,8 @@ fn all_settled(
 }
 
 /// Gives the files their final names, the first one last, and has the system write their folders to
-/// the device. Where a name cannot be given, the files without one are named on standard error, or
-/// removed where all are.
+/// the device. Where a name cannot be given, and no file has its own yet, all are removed; else
+/// those without one are told on standard error.
 fn all_named(rt: &HostRuntime, partials: &[Partial], folders: Vec<String>) -> Result<(), Fault> {
     for place in (0..partials.len()).rev() {
         if let Err(fault) = partials[place].take_name(rt) {
@@ -692,10 +692,12 @@ fn all_named(rt: &HostRuntime, partials: &[Partial], folders: Vec<String>) -> Re
     Ok(())
 }
 
-/// Says on standard error of each file which final name it has not.
+/// Says on standard error of each file that is there which final name it has not.
 fn print_unnamed(rt: &HostRuntime, partials: &[Partial]) {
     for partial in partials {
         let (beside, path) = (partial.beside.as_str(), partial.path.as_str());
-        let _told = eprintln!(rt; "{beside}: is {path}, without its name");
+        if fs::symlink_metadata(rt, beside).is_ok() {
+            let _told = eprintln!(rt; "{beside}: is {path}, without its name");
+        }
     }
 }

@@ -30,8 +30,8 @@ const STREAM_RIGHTS: u32 = 0o666;
 ///
 /// It refuses, beside what the system refuses, where the file is no regular one, changes meanwhile
 /// or is being split by another run, where a shard file is there already and is not to be replaced,
-/// and where one is there with a number of `total` or more. Where it refuses, no new shard file is
-/// there.
+/// and where one is there with a number of `total` or more. Then no new shard file is there. Where it
+/// refuses while it names them, those stay that have their names, and so do the others, without.
 pub fn split(
     rt: &HostRuntime,
     min: u32,
