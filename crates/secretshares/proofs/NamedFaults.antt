@@ -5,7 +5,7 @@ use Rattle.secret_bytes.specs.Combined.{IsDueCombining}
 use Rattle.secret_bytes.specs.Texts.{AreReadAs}
 use Rattle.secret_bytes.specs.declared.error.CombineError.{CombineError}
 use Rattle.secretshares.specs.declared.fault.Fault.{Fault}
-use Rattle.secretshares.specs.declared.fault.Fault.TheVariants.{Combine, Deal, Io, Line, Memory, Share, Text, TooLong, Usage}
+use Rattle.secretshares.specs.declared.fault.Fault.TheVariants.{Combine, Deal, FullLine, Io, Line, Memory, Share, Text, TooLong, Usage}
 use Rattle.secretshares.specs.Answers.{IsAt, IsDueFor, IsNamed}
 
 -- what an error says of the shares that were read, the fault that names them says of the text
@@ -15,6 +15,7 @@ named-due text shares numbers indices error (Usage w) r d i h = absurd h
 named-due text shares numbers indices error (Memory e) r d i h = tt
 named-due text shares numbers indices error (Io e) r d i h = absurd h
 named-due text shares numbers indices error TooLong r d i h = absurd h
+named-due text shares numbers indices error FullLine r d i h = absurd h
 named-due text shares numbers indices error (Deal e) r d i h = absurd h
 named-due text shares numbers indices error (Text e) r d i h = absurd h
 named-due text shares numbers indices error (Line number why) r d i h = absurd h
