@@ -169,6 +169,7 @@ static void shards(uint32_t min, uint32_t total) {
     cells[0] ^= 1, bytes[7] ^= 1;
     count_of("cwm_join, refused", CWM_INCONSISTENT, cwm_join(indices, total, min, total, cells, total * cols, b, CELLS, &written), 1, refused + 3 * total);
     count_of("cwm_join_bytes, refused", CWM_INCONSISTENT, cwm_join_bytes(indices, total, min, total, bytes, total * size, back, ROOM, &written), 1, refused + 3 * total);
+    cells[0] ^= 1, bytes[7] ^= 1;
   }
   for (size_t i = total; i < k; i++) indices[i] = i;
   /* more wrong shards take too long */
