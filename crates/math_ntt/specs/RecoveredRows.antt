@@ -7,7 +7,7 @@ use Rattle.math_base.specs.Polynomials.{value_in_ring}
 use Rattle.math_transforms.specs.CosetValues.{AreReversedMultiples}
 use Rattle.math_transforms.specs.CountedWork.{WorkOf, AddsAtMost}
 use Rattle.math_transforms.specs.DomainValues.{matrix_of}
-use Rattle.math_ntt.specs.AddedWork.{AddsInOrder}
+use Rattle.math_ntt.specs.AddedWork.{AddsInOrder, AddsNoneOrAll}
 use Rattle.math_ntt.specs.Evaluations.{EvaluationsOf}
 use Rattle.math_transforms.specs.Matrices.{MatrixOf, column_of, cell_of}
 use Rattle.math_transforms.specs.MissingPoints.{count_false}
@@ -81,6 +81,12 @@ pub record IsRefusedWork {A : Type 0} (lg : ℕ) (e : EvaluationsOf A) (v w : Wo
   pub none_or_all : (count_true e.filled ≡ 0) ⊎ (count_false e.filled ≡ 0) → AddsAtMost (e.matrix.cols * e.matrix.rows * lg) v w
   pub some : 0 < count_true e.filled → 0 < count_false e.filled → lg ≤ 8
       → AddsInOrder (e.matrix.rows * lg * (3 * e.matrix.cols + 3)) (count_false e.filled * (count_false e.filled + 1)) v w
+
+-- the work of a recovery of 2^lg rows that is refused though calls on elements never are: with some rows missing and lg at most 8,
+-- no butterfly, or all root products and two transforms of all columns and three of one more
+abbrev pub IsLateWork : {A : Type 0} → ℕ → EvaluationsOf A → WorkOf → WorkOf → Type 0
+IsLateWork lg e v w = 0 < count_true e.filled → 0 < count_false e.filled → lg ≤ 8
+    → AddsNoneOrAll (e.matrix.rows * lg * (2 * e.matrix.cols + 3)) (count_false e.filled * (count_false e.filled + 1)) v w
 
 -- from v to w the work of a recovery that succeeds is added, after which it is `after`, and maybe more
 pub record AddsRecovery {A : Type 0} (lg : ℕ) (e : EvaluationsOf A) (v w : WorkOf) : Type 0 where

@@ -10,7 +10,7 @@ use Rattle.std.proofs.lemmas.List.Elements.{All-head, All-tail}
 use Rattle.std.proofs.lemmas.Nat.{be_bytes_8, from_be_bytes-to_be_bytes_8}
 use Rattle.math_base.specs.declared.fields.goldilocks.F.{F}
 use Rattle.math_base.specs.Elements.{number, residue}
-use Rattle.math_splitting.specs.DataWords.{spelled_words}
+use Rattle.math_splitting.specs.DataWords.{bytes_behind, spelled_words}
 
 -- the words as bytes, eight each
 abbrev pub bytes_of : List ℕ → List ℕ
@@ -119,6 +119,22 @@ spelled-written bytes words from within h =
     ∙ ap₂ (λ xs ys. xs ++ ys) both.0
     (spelled-append (length words) (bytes_of words) (drop (8 * from + 8 * length words) bytes) (length-bytes words)
     ∙ ap₂ (λ xs ys. xs ++ ys) (spelled-words words h) rest)
+
+-- and the bytes behind the last whole word stay
+pub behind-written : (bytes words : List ℕ) (from : ℕ) → from + length words ≤ length (spelled_words bytes)
+    → bytes_behind (take (8 * from) bytes ++ bytes_of words ++ drop (8 * from + 8 * length words) bytes) ≡ bytes_behind bytes
+behind-written bytes words from within =
+    let k = 8 * from + 8 * length words in
+    let m = 8 * (length bytes / 8) in
+    let fits : k ≤ m = omega (arith, within, length-spelled bytes) in
+    let front = take (8 * from) bytes ++ bytes_of words in
+    let new = front ++ drop k bytes in
+    let first : length (take (8 * from) bytes) ≡ 8 * from = length-take-le (8 * from) bytes (omega (arith, fits)) in
+    let long : length front ≡ k = length-append (take (8 * from) bytes) (bytes_of words) ∙ ap₂ (λ i j. i + j) first (length-bytes words) in
+    let same : length new ≡ length bytes = omega (arith, length-append front (drop k bytes), long, length-drop k bytes, fits) in
+    let parts : m ≡ k + (m - k) = omega (arith, fits) in
+    ap (λ n. drop (8 * (n / 8)) new) same ∙ ap (λ j. drop j new) parts ∙ sym (drop-drop (m - k) k new)
+    ∙ ap (drop (m - k)) (drop_at front (drop k bytes) k long) ∙ drop-drop (m - k) k bytes ∙ ap (λ j. drop j bytes) (sym parts)
 
 -- bytes are those of the words that they spell
 pub bytes-spelled : (n : ℕ) (bytes : List ℕ) → length bytes ≡ 8 * n → ((i : ℕ) → get_or bytes i 0 < 256) → bytes ≡ bytes_of (spelled_words bytes)

@@ -1,5 +1,5 @@
 -- Data as they lie before they are split, and bytes as the words of shards.
-use Rattle.std.specs.Prelude.{ℕ, ◌/◌, List, [], ◌∷◌, ◌++◌, length, map, Option, None, Some}
+use Rattle.std.specs.Prelude.{ℕ, ◌*◌, ◌/◌, List, [], ◌∷◌, ◌++◌, length, map, drop, Option, None, Some}
 use Rattle.std.specs.Int.{from_be_bytes, w64}
 use Rattle.std.specs.Simd.{first_chunks}
 use Rattle.math_splitting.specs.declared.shards.sources.Source.{Source}
@@ -20,3 +20,7 @@ front_count source = length (apart source.first)
 -- the words that bytes spell, eight for each, the highest first
 abbrev pub spelled_words : List ℕ → List ℕ
 spelled_words bytes = map (from_be_bytes w64) (first_chunks 8 (length bytes / 8) bytes)
+
+-- the bytes behind the last whole word, at most seven
+abbrev pub bytes_behind : List ℕ → List ℕ
+bytes_behind bytes = drop (8 * (length bytes / 8)) bytes

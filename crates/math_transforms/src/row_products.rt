@@ -1,6 +1,6 @@
 //! Rows of cells multiplied by factors, in place.
 
-ghost use Rattle.std.specs.Prelude.{◌≡◌, ◌*◌, ◌<◌, ℕ, OnOk, length, slice_index_or};
+ghost use Rattle.std.specs.Prelude.{◌≡◌, ◌*◌, ◌<◌, ℕ, IsOk, IsTrue, OnOk, length, slice_index_or};
 ghost use Rattle.math_theory.specs.Powers.{power};
 ghost use Rattle.math_transforms.specs.RowProducts.{AreRowProducts};
 
@@ -9,9 +9,10 @@ use std::alloc::Global;
 
 /// Multiplies each cell by the factor.
 pub(super) fn multiply_row<F: Ring>(alloc: Global, cells: &mut [F], factor: &F) -> Mem<()>
-    ensures { OnOk result ((k : ℕ) → k < length cells.old
+    ensures products { OnOk result ((k : ℕ) → k < length cells.old
         → F.same (slice_index_or cells.new k F.zero)
         (F.product (slice_index_or cells.old k F.zero) factor.now)) }
+    ensures never { IsTrue F.NEVER_REFUSES → IsOk result }
 {
     for cell in cells.iter_mut() {
         cell.mul_assign(alloc, factor)?;
@@ -22,8 +23,9 @@ pub(super) fn multiply_row<F: Ring>(alloc: Global, cells: &mut [F], factor: &F) 
 /// Multiplies each cell of row i by factor i.
 pub fn multiply_rows<F: Ring>(alloc: Global, cells: &mut [F], cols: usize, factors: &[F]) -> Mem<()>
     requires { length cells.old ≡ length factors.now * cols }
-    ensures { OnOk result (AreRowProducts F.Ring (length factors.now) cols (λ i.
+    ensures products { OnOk result (AreRowProducts F.Ring (length factors.now) cols (λ i.
         slice_index_or factors.now i F.zero) cells.old cells.new) }
+    ensures never { IsTrue F.NEVER_REFUSES → IsOk result }
 {
     for i in 0..factors.len() {
         let from = i * cols;

@@ -12,7 +12,7 @@
 //! it, and the second half is the first half times the root of the level. No product waits for the
 //! one before it.
 
-ghost use Rattle.std.specs.Prelude.{◌≡◌, ◌+◌, ◌<◌, ◌≤◌, ◌^◌, ℕ, IfOk, OnOk, length, if◌then◌else◌};
+ghost use Rattle.std.specs.Prelude.{◌≡◌, ◌+◌, ◌<◌, ◌≤◌, ◌^◌, ℕ, IfOk, IsOk, IsTrue, OnOk, length, if◌then◌else◌};
 ghost use Rattle.math_transforms.specs.RootTrees.{IsTreeOf};
 ghost use Rattle.math_transforms.specs.TreeLevels.{AddsLevel, AddsMade, AreLevelsScaled};
 
@@ -118,7 +118,8 @@ pub(super) fn domain_tree<F: FieldNTT, const FORWARD: bool>(alloc: Global, lg: u
 fn scale_levels<F: Ring>(alloc: Global, tree: &mut [F], start: &F, lg: u8) -> Mem<()>
     requires small { lg < 64 }
     requires size { length tree.old ≡ 2 ^ lg }
-    ensures { OnOk result (AreLevelsScaled F.Ring start.now lg tree.old tree.new) }
+    ensures scaled { OnOk result (AreLevelsScaled F.Ring start.now lg tree.old tree.new) }
+    ensures never { IsTrue F.NEVER_REFUSES → IsOk result }
 {
     if lg == 0 {
         return Ok(());
@@ -139,6 +140,7 @@ pub fn start_at<F: Ring>(alloc: Global, tree: &mut [F], start: &F, lg: u8) -> Me
     ensures size { length tree.new ≡ length tree.old }
     ensures tree { OnOk result ((root : ℕ → F) (s : F) → F.same start.now s
         → IsTreeOf F.Ring root F.one lg tree.old → IsTreeOf F.Ring root s lg tree.new) }
+    ensures never { IsTrue F.NEVER_REFUSES → IsOk result }
 {
     scale_levels(alloc, tree, start, lg)?;
     Ok(())

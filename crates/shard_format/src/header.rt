@@ -394,7 +394,7 @@ pub enum Verdict {
 impl Header {
     /// Returns the greatest number of bytes that a block may have: 1 MiB, and so many that
     /// `total` / `min` blocks have 32 MiB at most. The shards of a block take as much, and some
-    /// bytes for their numbers.
+    /// bytes for their numbers. `total` is at least 1.
     pub fn largest_block(min: u32, total: u32) -> u32
         requires { 1 ≤ total }
         ensures { result ≡ largest_block min total }

@@ -19,7 +19,7 @@ use std::alloc::{AllocError, Global};
 /// The number of bytes of the fingerprints of a record: two words.
 pub const FINGERPRINTS_SIZE: usize = 16;
 
-/// Returns how many blocks the file has.
+/// Returns how many blocks the file has. A block has one byte or more.
 pub fn block_count(header: &Header) -> u64
     requires { 1 ≤ header.now.block }
     ensures { result ≡ block_count header.now }
@@ -62,7 +62,7 @@ pub fn record_place(header: &Header, cells: usize, number: u64) -> u64
 }
 
 /// Returns how many bytes the shard file has, or 2^64 - 1 if they are more. The shard of a whole
-/// block has `cells` cells, and that of the last block `last_cells`.
+/// block has `cells` cells, and that of the last block `last_cells`. A block has one byte or more.
 pub fn file_size(header: &Header, cells: usize, last_cells: usize) -> u64
     requires { 1 ≤ header.now.block }
     ensures { result ≡ capped (file_size header.now cells last_cells) }

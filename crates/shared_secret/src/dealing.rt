@@ -54,7 +54,7 @@ pub fn deal<F: Field + Random, G: Rng + CryptoRng>(
 /// verified.
 ///
 /// The commitment is public: it is the generator scaled by each coefficient, the secret being the
-/// first. It refuses as `deal` does.
+/// first. The conditions and the refusals are those of `deal`.
 ///
 /// ```
 /// use math_samples::quotients::Quotient;

@@ -106,9 +106,12 @@ impl<F: FieldNTT> EvaluationVector<F> {
         Ok(out)
     }
 
-    /// Does what `correct` does, and adds the work of the transforms. Whatever the outcome, that is
-    /// the work of at most (m - count) / 2 + 1 recoveries of m filled rows. If no row is wrong, it
-    /// is exactly the work of one recovery.
+    /// Does what `correct` does, and adds the work of the transforms. If no row is wrong, that is
+    /// exactly the work of one recovery of the m filled rows.
+    ///
+    /// Whatever the outcome, the call makes at most (m - count) / 2 + 1 recoveries. Each has fewer
+    /// filled rows than the one before it, and may cost more. All together add at most so many times
+    /// the most that `recover_counted` may add at N rows: see there.
     ///
     /// A call that is not refused adds at least the work of one recovery. A refused one does so
     /// too, unless its first recovery was refused: then it adds what a refused recovery does.

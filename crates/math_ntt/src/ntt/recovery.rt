@@ -25,6 +25,7 @@ ghost use Rattle.std.specs.Prelude.{
   ◌⊎◌,
   ℕ,
   IfOk,
+  IsOk,
   IsTrue,
   OnOk,
   OnErr,
@@ -38,13 +39,14 @@ ghost use Rattle.math_transforms.specs.DomainValues.{matrix_of, AreValuesAtPower
 ghost use Rattle.math_transforms.specs.Matrices.{IsOfSize};
 ghost use Rattle.math_transforms.specs.MissingPoints.{count_false};
 ghost use Rattle.math_transforms.specs.RootTrees.{IsTreeOf};
-ghost use Rattle.math_ntt.specs.AddedWork.{AddsInOrder, AddsUpTo};
+ghost use Rattle.math_ntt.specs.AddedWork.{AddsInOrder, AddsNoneOrAll, AddsUpTo};
 ghost use Rattle.math_ntt.specs.RecoveredRows.{
   AreDivided,
   AreQuotientsOfValues,
   AreRecovered,
   AreOnlyRecovered,
   IsExactWork,
+  IsLateWork,
   IsRefusedWork,
 };
 
@@ -105,9 +107,15 @@ impl<F: FieldNTT> EvaluationVector<F> {
     /// - at least N lg N (3 c + 3) / 2 butterflies, if v rows are missing, some and not all. If
     ///   lg N is at most 8, it adds just these, and v (v + 1) / 2 root products.
     ///
-    /// A refused call adds no more than one that succeeds. If lg N is at most 8, it adds no
-    /// butterfly before all root products. If no row or all rows are filled, and calls on elements
-    /// are never refused, it adds nothing: it takes its own memory before the first butterfly.
+    /// If no row or all rows are filled, or lg N is at most 8, a refused call adds no more than one
+    /// that succeeds. If lg N is at most 8, it adds no butterfly before all root products.
+    ///
+    /// If calls on elements are never refused, the call takes its own memory at a few places, and a
+    /// refused one adds what stands before that place:
+    ///
+    /// - nothing, if no row or all rows are filled;
+    /// - if some rows are missing and lg N is at most 8: no butterfly; or all root products and
+    ///   N lg N (2 c + 3) / 2 butterflies, all but those of the way back from the coset.
     ///
     /// ```
     /// let mut values = EvaluationVector::empty(alloc, 1, 1)?;
@@ -134,6 +142,8 @@ impl<F: FieldNTT> EvaluationVector<F> {
         ensures unbegun { IsTrue F.NEVER_REFUSES
             → (count_true self.filled ≡ 0) ⊎ (count_false self.filled ≡ 0)
             → OnErr result (work.new ≡ work.old) }
+        ensures late { IsTrue F.NEVER_REFUSES → OnErr result ((lg : ℕ)
+            → self.matrix.rows ≡ 2 ^ lg → IsLateWork lg self work.old work.new) }
     {
         let mut matrix = self.matrix;
         let lg = lg_of(matrix.rows);
@@ -182,6 +192,9 @@ pub(super) fn recovered_cells<F: FieldNTT>(
     ensures unbegun { IsTrue F.NEVER_REFUSES
         → (count_true points.now ≡ 0) ⊎ (count_false points.now ≡ 0)
         → OnErr result (work.new ≡ work.old) }
+    ensures late { OnErr result (IsTrue F.NEVER_REFUSES → IsLateWork lg
+        (record { matrix = matrix_of (2 ^ lg) cols cells.old; filled = points.now }) work.old
+        work.new) }
 {
     let filled = points.count_non_vanishing() as usize;
     if filled == 0 {
@@ -265,6 +278,7 @@ fn moved_to_coset<F: FieldNTT>(
         ≡ 2 * work.old.butterflies + (cols + cols + 2) * 2 ^ lg * lg) }
     ensures bounded { AddsAtMost ((cols + cols + 2) * 2 ^ lg * lg) work.old work.new }
     ensures refused { OnErr result (work.old.butterflies < work.new.butterflies) }
+    ensures never { IsTrue F.NEVER_REFUSES → IsOk result }
 {
     move_rows(alloc, vanishing, 1, lg, interpolation, coset, work)?;
     move_rows(alloc, cells, cols, lg, interpolation, coset, work)?;
@@ -297,6 +311,7 @@ fn quotients_from_coset<F: FieldNTT>(
     ensures counted { OnOk result
         (2 * work.new.butterflies ≡ 2 * work.old.butterflies + cols * 2 ^ lg * lg) }
     ensures bounded { AddsAtMost (cols * 2 ^ lg * lg) work.old work.new }
+    ensures unbegun { OnErr result (IsTrue F.NEVER_REFUSES → work.new ≡ work.old) }
 {
     let numerator = size_inverse(alloc, lg)?;
     let inverses = quotients(alloc, numerator, divisors)?;
@@ -334,6 +349,8 @@ fn divided<F: FieldNTT>(
         ≡ 2 * work.old.butterflies + (3 * cols + 3) * 2 ^ lg * lg) }
     ensures bounded { AddsAtMost ((3 * cols + 3) * 2 ^ lg * lg) work.old work.new }
     ensures refused { OnErr result (work.old.butterflies < work.new.butterflies) }
+    ensures late { OnErr result (IsTrue F.NEVER_REFUSES → 2 * work.new.butterflies
+        ≡ 2 * work.old.butterflies + (2 * cols + 3) * 2 ^ lg * lg) }
 {
     reverse_rows(cells, cols, lg);
     evaluate_below(alloc, vanishing, 1, lg, 1, true, evaluation, work)?;
@@ -387,6 +404,9 @@ fn recovered<F: FieldNTT>(
     ensures no_fewer { OnOk result (2 * work.old.butterflies + 2 ^ lg * lg * (3 * cols + 3)
         ≤ 2 * work.new.butterflies) }
     ensures refused { OnErr result (lg ≤ 8 → AddsInOrder (2 ^ lg * lg * (3 * cols + 3))
+        (count_false points.now * (count_false points.now + 1)) work.old work.new) }
+    ensures late { OnErr result (IsTrue F.NEVER_REFUSES → lg ≤ 8
+        → AddsNoneOrAll (2 ^ lg * lg * (2 * cols + 3))
         (count_false points.now * (count_false points.now + 1)) work.old work.new) }
 {
     let mut evaluation = evaluation_table(alloc, lg)?;

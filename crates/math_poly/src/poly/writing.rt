@@ -27,7 +27,8 @@ impl<K: EncodeSize + Drop> EncodeSize for Poly<K> {
 
 impl<K: MaxEncodeSize + Drop> Poly<K> {
     /// Returns the greatest number of bytes of a polynomial with at most n stored coefficients:
-    /// those of the length n, and n times those of a coefficient.
+    /// those of the length n, and n times those of a coefficient. n is below 2^32, and the result
+    /// below 2^64.
     ///
     /// ```
     /// Poly::<F>::max_encode_size(3); // 25

@@ -1,27 +1,34 @@
 //! Where rows of shards are written: over words, over bytes, or over elements.
 
-ghost use Rattle.std.specs.Prelude.{◌≡◌, ◌+◌, ◌*◌, ◌≤◌, ◌++◌, ℕ, List, length, take, drop, map};
+ghost use Rattle.std.specs.Prelude.{◌≡◌, ◌+◌, ◌*◌, ◌≤◌, ◌++◌, ℕ, List, [], length, take, drop, map};
 ghost use Rattle.std.specs.Int.{to_be_bytes, w64};
 ghost use Rattle.std.specs.List.{flat_map};
 ghost use Rattle.math_base.specs.Elements.{number};
-ghost use Rattle.math_splitting.specs.DataWords.{spelled_words};
+ghost use Rattle.math_splitting.specs.DataWords.{bytes_behind, spelled_words};
 ghost use Rattle.math_splitting.specs.ShardRows.{AreNumbers};
 
 use math_base::fields::goldilocks::F;
 
 /// Room for words. Each takes a word, an element, or eight bytes, the highest first.
 pub trait Room: Copy {
+    /// The words that are there.
     ghost words: { List Self → List ℕ };
+    /// What stands behind the last whole word.
+    ghost rest: { List Self → List Self };
 
-    /// Writes the numbers of the elements over the words from place `from` on.
+    /// Writes the numbers of the elements over the words from place `from` on. There are as many
+    /// words. What stands behind the last whole word stays.
     fn write(room: &mut [Self], from: usize, items: &[F])
         requires { from + length items.now ≤ length (words room.old) }
-        ensures { words room.new ≡ take from (words room.old) ++ (map number items.now
-            ++ drop (length items.now) (drop from (words room.old))) };
+        ensures written { words room.new ≡ take from (words room.old) ++ (map number items.now
+            ++ drop (length items.now) (drop from (words room.old))) }
+        ensures rest { rest room.new ≡ rest room.old };
 }
 
 impl Room for u64 {
     ghost words = { λ xs. xs };
+
+    ghost rest = { λ _. [] };
 
     fn write(room: &mut [u64], from: usize, items: &[F]) {
         write_numbers(&mut room[from..from + items.len()], items);
@@ -31,6 +38,8 @@ impl Room for u64 {
 impl Room for u8 {
     ghost words = { spelled_words };
 
+    ghost rest = { bytes_behind };
+
     fn write(room: &mut [u8], from: usize, items: &[F]) {
         write_bytes(room, from, items);
     }
@@ -38,6 +47,8 @@ impl Room for u8 {
 
 impl Room for F {
     ghost words = { map number };
+
+    ghost rest = { λ _. [] };
 
     fn write(room: &mut [F], from: usize, items: &[F]) {
         room[from..from + items.len()].copy_from_slice(items);
@@ -84,7 +95,8 @@ fn write_bytes(bytes: &mut [u8], from: usize, items: &[F])
     }
 }
 
-/// Writes the word over the eight bytes from place `at` on, the highest first.
+/// Writes the word over the eight bytes from place `at` on, the highest first. They lie within the
+/// bytes.
 pub fn write_word(bytes: &mut [u8], at: usize, word: u64)
     requires { at + 8 ≤ length bytes.old }
     ensures { bytes.new ≡ take at bytes.old ++ (to_be_bytes w64 word ++ drop (at + 8) bytes.old) }

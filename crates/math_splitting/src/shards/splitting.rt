@@ -62,7 +62,8 @@ pub fn split(alloc: Global, data: &[u64], min: u32, total: u32) -> Mem<Vec<Shard
     split_source(alloc, &source_of(data), min, total)
 }
 
-/// Cuts data that lie in any form into shards, as `split` does with words.
+/// Cuts data that lie in any form into shards, as `split` does with words. There are fewer than 2^61
+/// words; the other conditions are those of `split`.
 ///
 /// ```
 /// let source = Source { first: Some(4), words: &[[6, 0, 0, 0, 0, 0, 0, 0]], last: None };
@@ -88,7 +89,7 @@ pub fn split_source<W: Word>(
 /// Gives the shards of these indices, in their order: those that `split_source` gives of all. An
 /// index may stand there twice.
 ///
-/// The conditions are those of `split`, and each index is below `total`. Where there are few indices,
+/// The conditions are those of `split_source`, and each index is below `total`. Where there are few indices,
 /// each value is a sum of `min` products; else all values of a strip are computed as `split` does, and
 /// those of these indices are kept. Beside the shards it takes memory as `split` does, or less.
 ///
@@ -143,6 +144,7 @@ pub fn split_rows(alloc: Global, data: &[u64], min: u32, total: u32, cells: &mut
 }
 
 /// Writes the shards of data that lie in any form over words, or over bytes, as `split_rows` does.
+/// The data have fewer than 2^61 words, and the cells fewer than 2^64.
 ///
 /// ```
 /// let source = Source { first: None, words: &[4_u64, 6], last: None };

@@ -4,7 +4,7 @@
 //! coset leads from these to the values on it. The rows of values are in bit-reversed order in both,
 //! so that no row changes its place.
 
-ghost use Rattle.std.specs.Prelude.{◌≡◌, ◌+◌, ◌*◌, ◌<◌, ◌≤◌, ◌^◌, OnOk, OnErr, length};
+ghost use Rattle.std.specs.Prelude.{◌≡◌, ◌+◌, ◌*◌, ◌<◌, ◌≤◌, ◌^◌, IsOk, IsTrue, OnOk, OnErr, length};
 ghost use Rattle.math_transforms.specs.CosetValues.{AreMovedValues};
 ghost use Rattle.math_transforms.specs.CountedWork.{AddsAtMost};
 ghost use Rattle.math_transforms.specs.RootTrees.{IsTreeOf};
@@ -44,6 +44,7 @@ pub fn move_rows<F: FieldNTT>(
         ≡ 2 * work.old.butterflies + (cols + cols) * 2 ^ lg * lg) }
     ensures bounded { AddsAtMost ((cols + cols) * 2 ^ lg * lg) work.old work.new }
     ensures refused { OnErr result (work.old.butterflies < work.new.butterflies) }
+    ensures never { IsTrue F.NEVER_REFUSES → IsOk result }
 {
     interpolate_below(alloc, cells, cols, lg, 1, true, interpolation, work)?;
     evaluate_below(alloc, cells, cols, lg, 1, false, coset, work)?;

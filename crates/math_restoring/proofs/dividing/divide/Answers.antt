@@ -69,7 +69,7 @@ returns c = λ k cells l count times.
     let rest = drop (c.size_of-2.result * cols) c.if-part-lg.cells in
     let long : length final ≡ n = c.interpolate_below-2.auto.cells ∙ c.multiply_rows.auto.cells ∙ c.evaluate_below.auto.cells ∙ taken (goal.at.returns c).After-size_of-2 in
     let values = rw (c.size_of-2.ensures, c.deref-2.ensures.value) at c.in_ok-evaluate_below.ensures.values in
-    let scaled = rw c.deref-3.ensures.value at c.in_ok-multiply_rows.ensures in
+    let scaled = rw c.deref-3.ensures.value at c.in_ok-multiply_rows.ensures.products in
     let found = rw c.deref-4.ensures.value at c.in_ok-interpolate_below-2.ensures.values in
     rw (column-before (2 ^ d.part) cols k final rest l (omega (arith, long)))
     (elim c.if-part-lg.branch [

@@ -22,7 +22,7 @@ pub returns-in_ok-multiply_rows : goal.returns-in_ok-multiply_rows
 returns-in_ok-multiply_rows c = record {
   whole = λ t e l.
       whole-factors c.args.lg c.args.part c.args.step c.requires.some c.requires.domain c.args.cells.now c.evaluate_below.new.cells c.args.roots.now c.requires.size c.requires.tree
-      c.in_ok-evaluate_below.ensures.values c.in_ok-factor.factor c.multiply_rows.new.cells c.in_ok-factor.ensures.inverse (rw c.size_of.ensures at c.in_ok-multiply_rows.ensures) t l;
+      c.in_ok-evaluate_below.ensures.values c.in_ok-factor.factor c.multiply_rows.new.cells c.in_ok-factor.ensures.inverse (rw c.size_of.ensures at c.in_ok-multiply_rows.ensures.products) t l;
   low = λ t l b. absurd (omega (arith, l, c.if-part-lg.true));
   high = λ t l b. absurd (omega (arith, l, c.if-part-lg.true));
 }
@@ -34,10 +34,10 @@ returns-in_ok-multiply_rows-2 c = record {
       low-factors c.args.lg c.args.part c.args.step c.requires.some c.requires.domain c.args.cells.now c.evaluate_below.new.cells c.args.roots.now c.requires.size c.requires.tree
       c.in_ok-evaluate_below.ensures.values c.in_ok-factor.factor c.squared-power.result c.both_factors-factors.result.0 c.both_factors-factors.result.1
       c.multiply_rows-else-part-lg.new.cells c.in_ok-factor.ensures.inverse c.squared-power.ensures c.both_factors-factors.ensures.first c.both_factors-factors.ensures.second
-      (rw c.size_of-else-part-lg.ensures at c.in_ok-multiply_rows-2.ensures) t l;
+      (rw c.size_of-else-part-lg.ensures at c.in_ok-multiply_rows-2.ensures.products) t l;
   high = λ t e l.
       high-factors c.args.lg c.args.part c.args.step c.requires.some c.requires.domain c.args.cells.now c.evaluate_below.new.cells c.args.roots.now c.requires.size c.requires.tree
       c.in_ok-evaluate_below.ensures.values c.in_ok-factor.factor c.squared-power.result c.both_factors-factors.result.0 c.both_factors-factors.result.1
       c.multiply_rows-else-part-lg.new.cells c.in_ok-factor.ensures.inverse c.squared-power.ensures c.both_factors-factors.ensures.first c.both_factors-factors.ensures.second
-      (rw c.size_of-else-part-lg.ensures at c.in_ok-multiply_rows-2.ensures) t l;
+      (rw c.size_of-else-part-lg.ensures at c.in_ok-multiply_rows-2.ensures.products) t l;
 }

@@ -35,6 +35,6 @@ loop-i-preserved g c =
       factor = rw (add-one, power-suc one product ratio i) (E.transitive _ _ _ c.in_ok-mul_assign.ensures.ok (P.respects _ _ _ _ c.loop-i.invariant.factor (E.reflexive ratio)));
       done = row-done zero (λ j k x. g.F.Object.same x (product (get_or start (j * cols + k) zero) (power one product ratio j))) start cells row i cols n count within long c.loop-i.invariant.done
           (λ k l. rw (← c.loop-i.invariant.rest (i * cols + k) (omega arith), ← read k l)
-          (E.transitive _ _ _ (c.in_ok-multiply_row.ensures k (omega (arith, part))) (P.respects _ _ _ _ (E.reflexive _) c.loop-i.invariant.factor)));
+          (E.transitive _ _ _ (c.in_ok-multiply_row.ensures.products k (omega (arith, part))) (P.respects _ _ _ _ (E.reflexive _) c.loop-i.invariant.factor)));
       rest = row-rest zero (λ j k x. Unit {0}) start cells row i cols n count within long c.loop-i.invariant.rest;
     }

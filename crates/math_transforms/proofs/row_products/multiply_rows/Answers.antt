@@ -26,6 +26,6 @@ loop-i-preserved g c =
     record {
       done = row-done zero (λ j k x. g.F.Object.same x
           (product (get_or start (j * cols + k) zero) (get_or c.args.factors.now j zero))) start cells row i cols n count within long c.loop-i.invariant.done
-          (λ k l. rw (← factor, ← c.loop-i.invariant.rest (i * cols + k) (omega arith), ← read k l) (c.in_ok-multiply_row.ensures k (omega (arith, part))));
+          (λ k l. rw (← factor, ← c.loop-i.invariant.rest (i * cols + k) (omega arith), ← read k l) (c.in_ok-multiply_row.ensures.products k (omega (arith, part))));
       rest = row-rest zero (λ j k x. Unit {0}) start cells row i cols n count within long c.loop-i.invariant.rest;
     }

@@ -11,5 +11,5 @@ returns-clause-values g c =
     values-multiplied R F.Object.equality F.Additive.group F.Multiplicative.commutes F.Ring.ring (g.F.FieldNTT.root c.args.lg)
     (2 ^ c.args.lg) c.args.left.now c.evaluate_rows.new.cells c.args.right.now c.evaluate_rows-2.new.cells
     c.multiply_rows.new.cells c.interpolate_rows.new.cells c.requires.left c.requires.right (omega arith) c.in_ok-evaluate_rows.ensures.values c.in_ok-evaluate_rows-2.ensures.values
-    (rw long at c.in_ok-multiply_rows.ensures)
+    (rw long at c.in_ok-multiply_rows.ensures.products)
     c.in_ok-interpolate_rows.ensures.values

@@ -19,4 +19,4 @@ returns-clause-values g c = λ r.
     value-with_multiple F.Object.equality F.Additive.group F.Multiplicative.commutes F.Ring.ring c.args.factor.now r low copies high c.append.new.self.items (vec_len c.args.low) (search rules)
     (rw written at c.in_ok-append.ensures.items) (omega (arith, long, c.args.low.ok.0)) kept
     (λ j l. AllZip-get_or same copies low j zero zero are_copies (omega (arith, long, c.args.low.ok.0)))
-    (λ j l. rw c.deref_mut.ensures.value at c.in_ok-multiply_row.ensures j l)
+    (λ j l. rw c.deref_mut.ensures.value at c.in_ok-multiply_row.ensures.products j l)

@@ -1,5 +1,6 @@
-use Rattle.std.proofs.Common.{◌≡◌, ◌≢◌, ◌∙◌, ◌^◌, length, arith}
+use Rattle.std.proofs.Common.{◌≡◌, ◌≢◌, ◌∙◌, ◌^◌, length, ap, arith}
 use Rattle.math_base.proofs.Members.{ring_members}
+use Rattle.math_transforms.specs.CountedWork.{WorkOf}
 use Rattle.math_transforms.proofs.SomeCells.{some-cells}
 use Rattle.math_transforms.proofs.TreeEntries.{root-tree, tree-ones}
 use Rattle.math_ntt.proofs.RecoverySteps.{products-on_domain, values-again, values-in_order}
@@ -56,7 +57,7 @@ returns-clause-divided g c =
       divisor = divisor.polynomials;
       divisor_size = size;
       products = products-on_domain R E G P L F.Field.field root lg order c.args.cols v values c.args.cells.now c.reverse_rows.new.cells c.multiply_rows.new.cells moved.polynomials in_order
-          c.reverse_rows.ensures (rw long at c.in_ok-multiply_rows.ensures) moved.values;
+          c.reverse_rows.ensures (rw long at c.in_ok-multiply_rows.ensures.products) moved.values;
       same_values = values-again R E G P L F.Field.field root lg order v values divisor.polynomials size in_order divisor.values;
       quotients = c.in_ok-quotients_from_coset.ensures.quotients moved.polynomials divisor.polynomials size moved.multiples divisor.multiples;
     }
@@ -81,3 +82,9 @@ returns-in_err-start_at-2-clause-refused g c = on-err c.from_residual-in_err-sta
 
 pub returns-in_err-quotients_from_coset-clause-refused : goal.returns-in_err-quotients_from_coset-clause-refused
 returns-in_err-quotients_from_coset-clause-refused g c = on-err c.from_residual-in_err-quotients_from_coset.result (omega (arith, some-cells 1 c.args.lg (let h : 1 ≢ 0 = omega arith in h) (omega arith), c.in_ok-evaluate_below.ensures.counted, c.in_ok-moved_to_coset.ensures.bounded.no_fewer, c.in_err-quotients_from_coset.ensures.bounded.no_fewer))
+
+pub returns-in_err-quotients_from_coset-clause-late : goal.returns-in_err-quotients_from_coset-clause-late
+returns-in_err-quotients_from_coset-clause-late g c = on-err c.from_residual-in_err-quotients_from_coset.result
+    (λ never.
+    let same : c.quotients_from_coset.new.work.butterflies ≡ c.moved_to_coset.new.work.butterflies = ap (λ (w : WorkOf). w.butterflies) (c.in_err-quotients_from_coset.ensures.unbegun never) in
+    omega (arith, c.in_ok-evaluate_below.ensures.counted, c.in_ok-moved_to_coset.ensures.counted, same))

@@ -42,4 +42,4 @@ returns-clause-quotients g c = λ p v e at_cells at_divisors nonzero.
     quotients-on_coset R E G P L F.Field.field root lg order shift (λ l. g.F.Field.inverse (g.F.FieldNTT.root l)) (g.F.Field.inverse shift) c.in_ok-numerator.numerator c.args.cols
     c.args.back.now p v c.args.cells.now divisors c.in_ok-inverses.inverses.items c.multiply_rows.new.cells c.interpolate_below.new.cells c.requires.some e unit
     (F.Field.field.inverts shift F.FieldNTT.roots.shift_is_not_zero) c.requires.back half at_divisors at_cells (λ i l. inverted i (omega (arith, l, long)))
-    (rw (c.deref.ensures.value, many) at c.in_ok-multiply_rows.ensures) c.in_ok-interpolate_below.ensures.values
+    (rw (c.deref.ensures.value, many) at c.in_ok-multiply_rows.ensures.products) c.in_ok-interpolate_below.ensures.values

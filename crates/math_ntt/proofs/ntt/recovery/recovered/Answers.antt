@@ -1,4 +1,4 @@
-use Rattle.std.proofs.Common.{◌≡◌, ◌∙◌, ◌*◌, ◌^◌, length, sym, arith}
+use Rattle.std.proofs.Common.{◌≡◌, ◌∙◌, inl, inr, ◌*◌, ◌^◌, length, refl, sym, arith}
 use Rattle.math_theory.proofs.polynomials.BuiltPolynomials.{value-respects}
 use Rattle.math_theory.proofs.domains.BuiltVanishing.{VanishesAt-respects}
 use Rattle.math_theory.proofs.domains.CarriedDomains.{HasCoset-of_order-same}
@@ -82,6 +82,21 @@ returns-in_err-divided-clause-refused g c = on-err c.from_residual-in_err-divide
     let all = c.in_ok-vanishing.ensures.exact small in
     let bound = c.in_err-divided.ensures.bounded in
     record { no_more = omega (arith, none, bound.no_more); no_more_products = omega (arith, all, bound.root_products); in_order = λ begun. omega (arith, all, bound.root_products) })
+
+pub returns-in_err-evaluation-clause-late : goal.returns-in_err-evaluation-clause-late
+returns-in_err-evaluation-clause-late g c = on-err c.from_residual.result (λ never small. inl refl)
+
+pub returns-in_err-interpolation-clause-late : goal.returns-in_err-interpolation-clause-late
+returns-in_err-interpolation-clause-late g c = on-err c.from_residual-in_err-interpolation.result (λ never small. inl refl)
+
+pub returns-in_err-vanishing-clause-late : goal.returns-in_err-vanishing-clause-late
+returns-in_err-vanishing-clause-late g c = on-err c.from_residual-in_err-vanishing.result (λ never small. inl (c.in_err-vanishing.ensures.butterflies small))
+
+pub returns-in_err-divided-clause-late : goal.returns-in_err-divided-clause-late
+returns-in_err-divided-clause-late g c = on-err c.from_residual-in_err-divided.result (λ never. λ small.
+    let none = c.in_ok-vanishing.ensures.butterflies small in
+    let all = c.in_ok-vanishing.ensures.exact small in
+    inr (omega (arith, none, c.in_err-divided.ensures.late never), omega (arith, all, c.in_err-divided.ensures.bounded.root_products)))
 
 pub returns-clause-no_fewer : goal.returns-clause-no_fewer
 returns-clause-no_fewer g c = omega (arith, c.in_ok-vanishing.ensures.bounded.no_fewer, c.in_ok-divided.ensures.counted)

@@ -122,3 +122,23 @@ returns-in_err-recovered-clause-unbegun g c never h =
       | inl none ↦ absurd (omega (arith, none))
       | inr all ↦ absurd (omega (arith, all, count_both points))
     ]
+
+pub returns-in_err-zeros-clause-late : goal.returns-in_err-zeros-clause-late
+returns-in_err-zeros-clause-late g c = on-err c.from_residual.result (λ never.
+    let filled = c.count_non_vanishing-filled.ensures in
+    λ some missing small. absurd (omega (arith, some)))
+
+pub returns-in_err-interpolated-clause-late : goal.returns-in_err-interpolated-clause-late
+returns-in_err-interpolated-clause-late g c = on-err c.from_residual-in_err-interpolated.result (λ never.
+    let filled = c.count_non_vanishing-filled.ensures in
+    λ some missing small. absurd (omega (arith, some)))
+
+pub returns-in_err-interpolated-2-clause-late : goal.returns-in_err-interpolated-2-clause-late
+returns-in_err-interpolated-2-clause-late g c = on-err c.from_residual-in_err-interpolated-2.result (λ never.
+    let points = c.args.points.now in
+    let filled = c.count_non_vanishing-filled.ensures in
+    let size = c.size_of.ensures in
+    λ some missing small. absurd (omega (arith, missing, count_both points)))
+
+pub returns-in_err-recovered-clause-late : goal.returns-in_err-recovered-clause-late
+returns-in_err-recovered-clause-late g c = on-err c.from_residual-in_err-recovered.result (λ never some missing small. c.in_err-recovered.ensures.late never small)

@@ -12,7 +12,7 @@ returns-clause-each g c =
     let zero = g.F.Additive.zero in
     let kept : length new ≡ length old = c.multiply_rows.auto.cells ∙ ap length c.deref_mut.ensures.value in
     let written : take c.args.items.len (new ++ drop (length new) old) ≡ new = take-written c.args.items.len old new c.args.items.ok.0 kept in
-    let products = rw c.deref_mut.ensures.value at c.in_ok-multiply_rows.ensures in
+    let products = rw c.deref_mut.ensures.value at c.in_ok-multiply_rows.ensures.products in
     rw written
     (λ k l. let place : k * 1 + 0 ≡ k = omega arith in
     subst (λ i. g.F.Object.same (get_or new i zero) (g.F.Multiplicative.product (get_or old i zero) (get_or c.args.factors.now k zero))) place

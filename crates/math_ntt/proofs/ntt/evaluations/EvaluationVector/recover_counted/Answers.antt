@@ -5,7 +5,7 @@ use Rattle.math_base.proofs.WholeWrites.{take-written}
 use Rattle.math_transforms.specs.Matrices.{MatrixOf}
 use Rattle.math_ntt.specs.Evaluations.{EvaluationsOf}
 use Rattle.math_transforms.specs.DomainValues.{matrix_of}
-use Rattle.math_ntt.specs.RecoveredRows.{AreOnlyRecovered, IsExactWork, IsRefusedWork}
+use Rattle.math_ntt.specs.RecoveredRows.{AreOnlyRecovered, IsExactWork, IsLateWork, IsRefusedWork}
 use Rattle.math_ntt.specs.AddedWork.{AddsUpTo}
 use Rattle.math_base.proofs.Members.{ring_members}
 use Rattle.math_ntt.proofs.RecoveredWholes.{evaluations, most-at_any, at_any, only-recovered}
@@ -47,6 +47,15 @@ returns-in_err-recovered_cells-clause-refused g c = on-err c.from_residual.resul
     subst (λ (e : EvaluationsOf g.row.F.Denot). (m : ℕ) → e.matrix.rows ≡ 2 ^ m → IsRefusedWork m e c.args.work.now c.recovered_cells.new.work)
     self_is (at_any (λ m e. IsRefusedWork m e c.args.work.now c.recovered_cells.new.work) inner.rows inner.cols c.lg_of-lg.result inner.cells.items c.self.inside.filled c.lg_of-lg.ensures.value
     (rw c.deref_mut.ensures.value at c.in_err-recovered_cells.ensures.refused)))
+
+pub returns-in_err-recovered_cells-clause-late : goal.returns-in_err-recovered_cells-clause-late
+returns-in_err-recovered_cells-clause-late g c = λ never. on-err c.from_residual.result (
+    let inner = c.matrix.inside in
+    let self_is : evaluations inner.rows inner.cols inner.cells.items c.self.inside.filled ≡ c.args.self =
+    ap (λ m. record { matrix = m; filled = c.self.inside.filled }) c.matrix.view_is ∙ c.self.view_is in
+    subst (λ (e : EvaluationsOf g.row.F.Denot). (m : ℕ) → e.matrix.rows ≡ 2 ^ m → IsLateWork m e c.args.work.now c.recovered_cells.new.work)
+    self_is (at_any (λ m e. IsLateWork m e c.args.work.now c.recovered_cells.new.work) inner.rows inner.cols c.lg_of-lg.result inner.cells.items c.self.inside.filled c.lg_of-lg.ensures.value
+    (c.in_err-recovered_cells.ensures.late never)))
 
 pub returns-in_err-recovered_cells-clause-unbegun : goal.returns-in_err-recovered_cells-clause-unbegun
 returns-in_err-recovered_cells-clause-unbegun g c never h = on-err c.from_residual.result

@@ -6,8 +6,8 @@ use Rattle.math_base.specs.Elements.{number}
 use Rattle.math_splitting.proofs.shards.rooms.FRoom.write.Goals as goal
 use borrow.Rule.Slice.PartMut.{put_mid}
 
-pub returns : goal.returns
-returns c =
+pub returns-clause-written : goal.returns-clause-written
+returns-clause-written c =
     let from = c.args.from in
     let room = c.args.room.now in
     let items = c.args.items.now in
