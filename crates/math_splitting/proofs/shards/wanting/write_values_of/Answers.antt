@@ -37,7 +37,7 @@ loop-t-preserved g c =
     let up : (t + 1) * width ≤ length indices * width = mul-le (t + 1) width (length indices) width (omega (arith, below)) (omega arith) in
     let next : (t + 1) * width ≡ t * width + width = omega arith in
     let inside : t * width + width ≤ length old = omega (arith, up, next, c.requires.cells, c.loop-t.invariant.size) in
-    rw c.write.ensures record {
+    rw c.write.ensures.written record {
       size = size-kept width from n t out element first old has.count c.requires.within inside is ∙ c.loop-t.invariant.size;
       columns = columns-more width from n t out element first old has.count c.requires.within inside is c.loop-t.invariant.columns c.loop-t.invariant.left;
       left = left-more width from n t out element first old has.count c.requires.within inside is c.loop-t.invariant.left;
