@@ -2,7 +2,7 @@
 //! coefficients are recovered from the other three.
 #![deny(unsafe_code)]
 
-use commonware_math::{eval, evaluate, recover, Error, MODULUS};
+use commonware_math_proved::{eval, evaluate, recover, Error, MODULUS};
 
 fn main() -> Result<(), Error> {
     // row i holds coefficient i of both: 4 + 6 X + 8 X^2 and 1 + X^2

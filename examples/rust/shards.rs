@@ -1,7 +1,7 @@
 //! Bytes are split into eight shards, four of them are lost, and the bytes are got back from the others.
 #![deny(unsafe_code)]
 
-use commonware_math::{join_bytes, split_bytes, Error};
+use commonware_math_proved::{join_bytes, split_bytes, Error};
 
 fn main() -> Result<(), Error> {
     // any `min` of `total` shards give the data back

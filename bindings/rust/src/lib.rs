@@ -2,10 +2,10 @@
 //!
 //! ```
 //! let data = b"any three of five shards give these bytes back";
-//! let shards = commonware_math::split_bytes(data, 3, 5)?;
+//! let shards = commonware_math_proved::split_bytes(data, 3, 5)?;
 //! let left = [(4, &shards[4]), (0, &shards[0]), (2, &shards[2])];
-//! assert_eq!(commonware_math::join_bytes(&left, 3, 5)?, data);
-//! # Ok::<(), commonware_math::Error>(())
+//! assert_eq!(commonware_math_proved::join_bytes(&left, 3, 5)?, data);
+//! # Ok::<(), commonware_math_proved::Error>(())
 //! ```
 //!
 //! An element of the field is a whole number below [`MODULUS`], in a `u64`. Cells lie row by row: cell (i, k) is
@@ -85,7 +85,7 @@ impl Error {
     /// Returns the number that the library has for it.
     ///
     /// ```
-    /// assert_eq!(commonware_math::Error::OutOfRange.status(), 2);
+    /// assert_eq!(commonware_math_proved::Error::OutOfRange.status(), 2);
     /// ```
     pub fn status(self) -> u32 {
         match self {
@@ -106,7 +106,7 @@ impl std::error::Error for Error {}
 /// Returns the version of the library: major, minor and patch.
 ///
 /// ```
-/// assert_eq!(commonware_math::version().0, 1);
+/// assert_eq!(commonware_math_proved::version().0, 1);
 /// ```
 pub fn version() -> (u32, u32, u32) {
     let number = library::version();
@@ -133,8 +133,8 @@ fn zeros<T: Clone + Default>(count: usize) -> Result<Vec<T>, Error> {
 ///
 /// ```
 /// // 4 + 6 X + 8 X^2
-/// assert_eq!(commonware_math::eval(&[4, 6, 8], 5)?, 234);
-/// # Ok::<(), commonware_math::Error>(())
+/// assert_eq!(commonware_math_proved::eval(&[4, 6, 8], 5)?, 234);
+/// # Ok::<(), commonware_math_proved::Error>(())
 /// ```
 pub fn eval(coefficients: &[u64], x: u64) -> Result<u64, Error> {
     let mut value = 0;
@@ -149,9 +149,9 @@ pub fn eval(coefficients: &[u64], x: u64) -> Result<u64, Error> {
 ///
 /// ```
 /// let mut cells = [4, 6, 8, 0];
-/// commonware_math::evaluate(&mut cells, 1)?;
+/// commonware_math_proved::evaluate(&mut cells, 1)?;
 /// assert_eq!(cells[0], 4 + 6 + 8);
-/// # Ok::<(), commonware_math::Error>(())
+/// # Ok::<(), commonware_math_proved::Error>(())
 /// ```
 pub fn evaluate(cells: &mut [u64], cols: usize) -> Result<(), Error> {
     library::evaluate(cells, cols)
@@ -161,10 +161,10 @@ pub fn evaluate(cells: &mut [u64], cols: usize) -> Result<(), Error> {
 ///
 /// ```
 /// let mut cells = [4, 6, 8, 0];
-/// commonware_math::evaluate(&mut cells, 1)?;
-/// commonware_math::interpolate(&mut cells, 1)?;
+/// commonware_math_proved::evaluate(&mut cells, 1)?;
+/// commonware_math_proved::interpolate(&mut cells, 1)?;
 /// assert_eq!(cells, [4, 6, 8, 0]);
-/// # Ok::<(), commonware_math::Error>(())
+/// # Ok::<(), commonware_math_proved::Error>(())
 /// ```
 pub fn interpolate(cells: &mut [u64], cols: usize) -> Result<(), Error> {
     library::interpolate(cells, cols)
@@ -176,12 +176,12 @@ pub fn interpolate(cells: &mut [u64], cols: usize) -> Result<(), Error> {
 ///
 /// ```
 /// let mut cells = [4, 6, 0, 0];
-/// commonware_math::evaluate(&mut cells, 1)?;
+/// commonware_math_proved::evaluate(&mut cells, 1)?;
 /// cells[0] = u64::MAX;
 /// cells[3] = u64::MAX;
-/// commonware_math::recover(&mut cells, 1, &[false, true, true, false])?;
+/// commonware_math_proved::recover(&mut cells, 1, &[false, true, true, false])?;
 /// assert_eq!(cells, [4, 6, 0, 0]);
-/// # Ok::<(), commonware_math::Error>(())
+/// # Ok::<(), commonware_math_proved::Error>(())
 /// ```
 pub fn recover(cells: &mut [u64], cols: usize, filled: &[bool]) -> Result<(), Error> {
     library::recover(cells, cols, filled)
@@ -194,11 +194,11 @@ pub fn recover(cells: &mut [u64], cols: usize, filled: &[bool]) -> Result<(), Er
 ///
 /// ```
 /// let mut cells = [4, 6, 0, 0];
-/// commonware_math::evaluate(&mut cells, 1)?;
+/// commonware_math_proved::evaluate(&mut cells, 1)?;
 /// cells[2] += 1;
-/// assert_eq!(commonware_math::correct(&mut cells, 1, &[true; 4], 2)?, [2]);
+/// assert_eq!(commonware_math_proved::correct(&mut cells, 1, &[true; 4], 2)?, [2]);
 /// assert_eq!(cells, [4, 6, 0, 0]);
-/// # Ok::<(), commonware_math::Error>(())
+/// # Ok::<(), commonware_math_proved::Error>(())
 /// ```
 pub fn correct(cells: &mut [u64], cols: usize, filled: &[bool], count: usize) -> Result<Vec<usize>, Error> {
     let mut wrong = zeros(filled.len() / 2)?;
@@ -223,10 +223,10 @@ pub struct Decoded {
 ///
 /// ```
 /// // 1 + 2 X, and one value that is not
-/// let found = commonware_math::decode(&[1, 2, 3, 4], &[3, 5, 8, 9], 2)?;
+/// let found = commonware_math_proved::decode(&[1, 2, 3, 4], &[3, 5, 8, 9], 2)?;
 /// assert_eq!(found.coefficients, [1, 2]);
 /// assert_eq!(found.wrong, [2]);
-/// # Ok::<(), commonware_math::Error>(())
+/// # Ok::<(), commonware_math_proved::Error>(())
 /// ```
 pub fn decode(points: &[u64], values: &[u64], count: usize) -> Result<Decoded, Error> {
     if count > points.len() {
@@ -247,8 +247,8 @@ pub fn decode(points: &[u64], values: &[u64], count: usize) -> Result<Decoded, E
 /// weights are 0.
 ///
 /// ```
-/// assert_eq!(commonware_math::weights(&[1, 2], 3)?, [commonware_math::MODULUS - 1, 2]);
-/// # Ok::<(), commonware_math::Error>(())
+/// assert_eq!(commonware_math_proved::weights(&[1, 2], 3)?, [commonware_math_proved::MODULUS - 1, 2]);
+/// # Ok::<(), commonware_math_proved::Error>(())
 /// ```
 pub fn weights(points: &[u64], x: u64) -> Result<Vec<u64>, Error> {
     let mut found = zeros(points.len())?;
@@ -260,8 +260,8 @@ pub fn weights(points: &[u64], x: u64) -> Result<Vec<u64>, Error> {
 /// domain has `total` points, rounded up to a power of two.
 ///
 /// ```
-/// assert_eq!(commonware_math::weights_at_roots(2, &[0, 1], 1)?, [1, 0]);
-/// # Ok::<(), commonware_math::Error>(())
+/// assert_eq!(commonware_math_proved::weights_at_roots(2, &[0, 1], 1)?, [1, 0]);
+/// # Ok::<(), commonware_math_proved::Error>(())
 /// ```
 pub fn weights_at_roots(total: u32, indices: &[u32], x: u64) -> Result<Vec<u64>, Error> {
     let mut found = zeros(indices.len())?;
@@ -272,9 +272,9 @@ pub fn weights_at_roots(total: u32, indices: &[u32], x: u64) -> Result<Vec<u64>,
 /// Returns the encoding of the polynomial: how many coefficients, then each as 8 bytes, highest first.
 ///
 /// ```
-/// let bytes = commonware_math::encode_poly(&[4, 6])?;
+/// let bytes = commonware_math_proved::encode_poly(&[4, 6])?;
 /// assert_eq!(bytes, [2, 0, 0, 0, 0, 0, 0, 0, 4, 0, 0, 0, 0, 0, 0, 0, 6]);
-/// # Ok::<(), commonware_math::Error>(())
+/// # Ok::<(), commonware_math_proved::Error>(())
 /// ```
 pub fn encode_poly(coefficients: &[u64]) -> Result<Vec<u8>, Error> {
     let mut out = zeros(coefficients.len().saturating_mul(8).saturating_add(5))?;
@@ -287,10 +287,10 @@ pub fn encode_poly(coefficients: &[u64]) -> Result<Vec<u8>, Error> {
 /// Returns the coefficients of the polynomial that the bytes encode. Bytes behind it are [`Error::ExtraData`].
 ///
 /// ```
-/// let bytes = commonware_math::encode_poly(&[4, 6])?;
-/// assert_eq!(commonware_math::decode_poly(&bytes)?, [4, 6]);
-/// assert_eq!(commonware_math::decode_poly(&bytes[..9]), Err(commonware_math::Error::EndOfBuffer));
-/// # Ok::<(), commonware_math::Error>(())
+/// let bytes = commonware_math_proved::encode_poly(&[4, 6])?;
+/// assert_eq!(commonware_math_proved::decode_poly(&bytes)?, [4, 6]);
+/// assert_eq!(commonware_math_proved::decode_poly(&bytes[..9]), Err(commonware_math_proved::Error::EndOfBuffer));
+/// # Ok::<(), commonware_math_proved::Error>(())
 /// ```
 pub fn decode_poly(bytes: &[u8]) -> Result<Vec<u64>, Error> {
     let mut out = zeros(bytes.len() / 8)?;
@@ -303,8 +303,8 @@ pub fn decode_poly(bytes: &[u8]) -> Result<Vec<u64>, Error> {
 /// Returns how many words each of `total` shards of so many words has, of which any `min` give them back.
 ///
 /// ```
-/// assert_eq!(commonware_math::shard_sizes(10, 4, 8)?, 3);
-/// # Ok::<(), commonware_math::Error>(())
+/// assert_eq!(commonware_math_proved::shard_sizes(10, 4, 8)?, 3);
+/// # Ok::<(), commonware_math_proved::Error>(())
 /// ```
 pub fn shard_sizes(words: usize, min: u32, total: u32) -> Result<usize, Error> {
     let mut cells = 0;
@@ -318,10 +318,10 @@ pub fn shard_sizes(words: usize, min: u32, total: u32) -> Result<usize, Error> {
 /// ```
 /// let (min, total) = (4, 8);
 /// let data = [u64::MAX; 10];
-/// let size = commonware_math::shard_sizes(data.len(), min, total)?;
-/// let shards = commonware_math::split(&data, min, total)?;
+/// let size = commonware_math_proved::shard_sizes(data.len(), min, total)?;
+/// let shards = commonware_math_proved::split(&data, min, total)?;
 /// assert_eq!(shards.len(), total as usize * size);
-/// # Ok::<(), commonware_math::Error>(())
+/// # Ok::<(), commonware_math_proved::Error>(())
 /// ```
 pub fn split(data: &[u64], min: u32, total: u32) -> Result<Vec<u64>, Error> {
     let mut cells = zeros(total as usize * shard_sizes(data.len(), min, total)?)?;
@@ -336,10 +336,10 @@ pub fn split(data: &[u64], min: u32, total: u32) -> Result<Vec<u64>, Error> {
 /// someone you do not trust: memory and time grow with them.
 ///
 /// ```
-/// let shards = commonware_math::split(&[7, 8, 9], 1, 2)?;
+/// let shards = commonware_math_proved::split(&[7, 8, 9], 1, 2)?;
 /// let second = &shards[shards.len() / 2..];
-/// assert_eq!(commonware_math::join(&[1], 1, 2, second)?, [7, 8, 9]);
-/// # Ok::<(), commonware_math::Error>(())
+/// assert_eq!(commonware_math_proved::join(&[1], 1, 2, second)?, [7, 8, 9]);
+/// # Ok::<(), commonware_math_proved::Error>(())
 /// ```
 pub fn join(indices: &[u32], min: u32, total: u32, cells: &[u64]) -> Result<Vec<u64>, Error> {
     let cols = cells.len() / indices.len().max(1);
@@ -366,13 +366,13 @@ pub struct Joined {
 /// grows with the square of the number of shards.
 ///
 /// ```
-/// let mut shards = commonware_math::split(&[7, 8, 9], 1, 3)?;
+/// let mut shards = commonware_math_proved::split(&[7, 8, 9], 1, 3)?;
 /// let size = shards.len() / 3;
 /// shards[2 * size] ^= 1;
-/// let found = commonware_math::join_corrected(&[0, 1, 2], 1, 3, &shards)?;
+/// let found = commonware_math_proved::join_corrected(&[0, 1, 2], 1, 3, &shards)?;
 /// assert_eq!(found.data, [7, 8, 9]);
 /// assert_eq!(found.left_out, [2]);
-/// # Ok::<(), commonware_math::Error>(())
+/// # Ok::<(), commonware_math_proved::Error>(())
 /// ```
 pub fn join_corrected(indices: &[u32], min: u32, total: u32, cells: &[u64]) -> Result<Joined, Error> {
     let cols = cells.len() / indices.len().max(1);
@@ -388,8 +388,8 @@ pub fn join_corrected(indices: &[u32], min: u32, total: u32, cells: &[u64]) -> R
 /// Returns how many bytes each of `total` shards of so many bytes has, of which any `min` give them back.
 ///
 /// ```
-/// assert_eq!(commonware_math::shard_bytes_sizes(1000, 4, 6)?, 264);
-/// # Ok::<(), commonware_math::Error>(())
+/// assert_eq!(commonware_math_proved::shard_bytes_sizes(1000, 4, 6)?, 264);
+/// # Ok::<(), commonware_math_proved::Error>(())
 /// ```
 pub fn shard_bytes_sizes(bytes: usize, min: u32, total: u32) -> Result<usize, Error> {
     let mut size = 0;
@@ -404,9 +404,9 @@ pub fn shard_bytes_sizes(bytes: usize, min: u32, total: u32) -> Result<usize, Er
 /// little memory.
 ///
 /// ```
-/// let shards = commonware_math::split_bytes(b"0123456789", 2, 3)?;
+/// let shards = commonware_math_proved::split_bytes(b"0123456789", 2, 3)?;
 /// assert_eq!(shards.iter().map(Vec::len).collect::<Vec<_>>(), [24, 24, 24]);
-/// # Ok::<(), commonware_math::Error>(())
+/// # Ok::<(), commonware_math_proved::Error>(())
 /// ```
 pub fn split_bytes(data: &[u8], min: u32, total: u32) -> Result<Vec<Vec<u8>>, Error> {
     let size = shard_bytes_sizes(data.len(), min, total)?;
@@ -428,7 +428,7 @@ pub fn split_bytes(data: &[u8], min: u32, total: u32) -> Result<Vec<Vec<u8>>, Er
 /// you join shards from someone you do not trust: memory and time grow with them.
 ///
 /// ```
-/// use commonware_math::{join_bytes, split_bytes, Error};
+/// use commonware_math_proved::{join_bytes, split_bytes, Error};
 ///
 /// let shards = split_bytes(b"0123456789", 2, 3)?;
 /// assert_eq!(join_bytes(&[(2, &shards[2]), (0, &shards[0])], 2, 3)?, b"0123456789");
@@ -461,7 +461,7 @@ pub struct JoinedBytes {
 /// the square of the number of shards.
 ///
 /// ```
-/// use commonware_math::{join_bytes_corrected, split_bytes, Error};
+/// use commonware_math_proved::{join_bytes_corrected, split_bytes, Error};
 ///
 /// let mut shards = split_bytes(b"0123456789", 2, 4)?;
 /// shards[2][0] ^= 1;

@@ -1,6 +1,6 @@
 //! Every call, every error, and the answers of the Rust crate.
 
-use commonware_math::*;
+use commonware_math_proved::*;
 
 /// The generator splitmix64.
 struct Words(u64);
