@@ -17,47 +17,75 @@ from __future__ import annotations
 import builtins
 import ctypes
 import math
-import operator
+import sys
 from array import array
-from typing import Any, Iterable, Mapping, Sequence, Union
+from collections import abc
+from mmap import mmap
+from typing import Any, Callable, Iterable, Mapping, Optional, Protocol, SupportsIndex, Union, overload
 
 from . import _library
-from ._library import library as _lib
+from ._library import library as _lib, number as _number
 
+# `eval` is left out, since it would hide the one of Python: it is `commonware_math.eval`.
 __all__ = [
     "MODULUS", "version", "shard_size", "split", "join", "join_corrected", "evaluate", "interpolate", "recover", "correct",
-    "eval", "decode", "weights", "weights_at_roots", "encode_poly", "decode_poly", "Error", "OutOfMemory", "OutOfRange",
-    "WrongSize", "TooFew", "Mismatch", "WrongIndex", "Conflict", "Inconsistent", "EndOfBuffer", "InvalidVarint",
-    "InvalidLength", "ExtraData", "Repeated",
+    "decode", "weights", "weights_at_roots", "encode_poly", "decode_poly", "Error", "OutOfMemory", "OutOfRange", "WrongSize",
+    "TooFew", "Mismatch", "WrongIndex", "Conflict", "Inconsistent", "EndOfBuffer", "InvalidVarint", "InvalidLength",
+    "ExtraData", "Repeated",
 ]
+
+#: The version of this package. ``version()`` is that of the library.
+__version__ = "1.0.0"
 
 #: P, the modulus of the field
 MODULUS = 2**64 - 2**32 + 1
 
-Words = Union[Sequence[int], "array[int]", memoryview, Any]
-Bytes = Union[bytes, bytearray, memoryview, Any]
+
+class _Array(Protocol):
+    """An array of numpy."""
+
+    @property
+    def __array_interface__(self) -> dict[str, Any]: ...
+
+
+class _Buffer(Protocol):
+    """A buffer of any type, as newer Pythons say it."""
+
+    def __buffer__(self, flags: int, /) -> memoryview: ...
+
+
+#: Words that a call writes in place
+Cells = Union["array[int]", memoryview, "ctypes.Array[ctypes.c_uint64]", _Array]
+#: Words that a call only reads
+Words = Union[Iterable[SupportsIndex], Cells]
+Bytes = Union[bytes, bytearray, memoryview, "array[Any]", mmap, "ctypes.Array[Any]", _Array, _Buffer]
+#: Whether each row is filled
+Marks = Union[Iterable[SupportsIndex], Bytes]
 
 
 class Error(Exception):
-    """A call was refused, and wrote nothing. ``status`` is what the library answered.
+    """A call was refused, and wrote nothing. ``status`` is what the library answered, and ``numbers`` the part of the
+    text that says which numbers are wrong.
 
+    >>> import commonware_math
     >>> try:
-    ...     eval([MODULUS], 5)
+    ...     commonware_math.eval([4, MODULUS], 5)
     ... except Error as error:
     ...     print(error.status, error)
-    2 out of range
+    2 out of range: coefficient 1 is 18446744069414584321
     """
 
     status: int = 0
 
-    def __init__(self) -> None:
+    def __init__(self, numbers: str = "") -> None:
         text = ctypes.create_string_buffer(32)
         _lib.cwm_status_text(self.status, text, len(text))
-        super().__init__(text.value.decode())
+        self.numbers = numbers
+        super().__init__(": ".join(filter(None, (text.value.decode(), numbers))))
 
-    def __reduce__(self) -> tuple[type[Error], tuple[()]]:
+    def __reduce__(self) -> tuple[type[Error], tuple[str]]:
         """A refusal crosses to another process: the text is made anew there."""
-        return type(self), ()
+        return type(self), (self.numbers,)
 
 
 class OutOfMemory(Error, MemoryError):
@@ -97,7 +125,8 @@ class WrongIndex(Error, ValueError):
 
 
 class Conflict(Error):
-    """Two shards have one index and unequal words. ``join`` never raises it: a mapping has each index once."""
+    """Two shards have one index and unequal words. The keys of a mapping differ, but two of them may be one number: such
+    as objects with ``__index__`` that do not say that they are equal."""
 
     status = 7
 
@@ -139,50 +168,135 @@ class Repeated(Error, ValueError):
 
 
 _ERRORS = {error.status: error for error in Error.__subclasses__()}
+_Numbers = dict[type[Error], Callable[[], str]]
 
 
-def _done(status: int) -> None:
+def _done(status: int, numbers: _Numbers) -> None:
+    """Raises the refusal, if the call was refused, with its numbers."""
     if status in _ERRORS:
-        raise _ERRORS[status]()
+        error = _ERRORS[status]
+        raise error(numbers[error]() if error in numbers else "")
     if status:
         raise RuntimeError(f"the library answers {status}, which is no status of version {_library.MAJOR}.0")
 
 
-def _number(value: int, bits: int) -> int:
-    """The number, where so many bits hold it: ctypes would cut it off. What is no whole number is a TypeError."""
-    number = operator.index(value)
-    if not 0 <= number < 1 << bits:
-        raise OverflowError(f"{number} is no number of {bits} bits")
-    return number
+def _large(*named: tuple[str, Any, int]) -> str:
+    """The first word that is no element: of lists of words, each with its name and length."""
+    for name, at, count in named:
+        for begin in range(0, count, 4096):
+            for i, word in enumerate(at[begin : builtins.min(count, begin + 4096)], begin):
+                if word >= MODULUS:
+                    return f"{name} {i} is {word}"
+    return ""
 
 
-def _indices(values: Iterable[int]) -> tuple[Any, int]:
+def _indices(values: Iterable[SupportsIndex]) -> tuple[Any, int]:
     numbers = [_number(value, 32) for value in values]
     return (ctypes.c_uint32 * max(1, len(numbers)))(*numbers), len(numbers)
 
 
-def _rows(shards: Mapping[int, Bytes]) -> tuple[Any, int, Any, int]:
-    """The indices of the shards and how many they are, and their bytes, one behind the other, and how many these are."""
-    indices, count = _indices(shards)
-    rows = [memoryview(shard) for shard in shards.values()]
-    if any(row.nbytes != rows[0].nbytes for row in rows):
-        raise Mismatch()
-    return indices, count, *_library.read_bytes(b"".join(rows))
+class _Shards:
+    """What a join is handed: the indices of the shards and how many they are, and their bytes, one behind the other."""
+
+    def __init__(self, shards: Mapping[int, Bytes], min: SupportsIndex, total: SupportsIndex) -> None:
+        self.min, self.total = _number(min, 32), _number(total, 32)
+        if not isinstance(shards, abc.Mapping):
+            raise TypeError(
+                "shards are a mapping, each under its index, such as {0: .., 2: ..}, or dict(enumerate(shards)) for all of "
+                f"them in their order: not a {type(shards).__name__}"
+            )
+        self.indices, self.count = _indices(shards)
+        rows = [_library.row_of_bytes(shard) for shard in shards.values()]
+        sizes = [row.nbytes for row in rows]
+        for index, size in zip(self.indices, sizes):
+            if size != sizes[0]:
+                raise Mismatch(f"shard {self.indices[0]} has {sizes[0]} bytes, and shard {index} has {size}")
+        self.size = sizes[0] if sizes else 0
+        self.bytes = b"".join(rows)
+        self.at, self.length = _library.read_bytes(self.bytes)
+        # No more come back.
+        self.room = builtins.min(self.min, self.count) * self.size
+
+    def numbers(self) -> _Numbers:
+        of_split = f"min {self.min}, total {self.total}"
+        return {
+            OutOfRange: self._large,
+            WrongSize: lambda: f"shards of {self.size} bytes, which 8 does not divide" if self.size % 8 else "",
+            TooFew: lambda: f"{self._settled()} of {self.min} shards",
+            Mismatch: lambda: of_split,
+            WrongIndex: lambda: f"index {max(self.indices[: self.count])}, total {self.total}",
+            Conflict: lambda: f"index {[index for index, rows in self._rows().items() if len(rows) > 1][0]}",
+            Inconsistent: lambda: f"{self._settled()} shards, {of_split}",
+        }
+
+    def _rows(self) -> dict[int, set[bytes]]:
+        """The different shards of each index."""
+        rows: dict[int, set[bytes]] = {}
+        for i, index in enumerate(self.indices[: self.count]):
+            rows.setdefault(index, set()).add(self.bytes[i * self.size : (i + 1) * self.size])
+        return rows
+
+    def _settled(self) -> int:
+        """How many indices have a shard, and no two different ones."""
+        return sum(len(rows) == 1 for rows in self._rows().values())
+
+    def _large(self) -> str:
+        """The first word of a shard that is no element."""
+        words = array("Q", self.bytes[: self.length // 8 * 8])
+        if sys.byteorder == "little":
+            words.byteswap()
+        cols = self.size // 8
+        for i in range(self.count):
+            found = _large(("word", words[i * cols : (i + 1) * cols], cols))
+            if found:
+                return f"{found} in shard {self.indices[i]}"
+        return ""
 
 
-def _room(count: int, length: int, min: int) -> int:
-    """How many bytes at most come back from so many shards that have so many bytes together."""
-    return builtins.min(min, count) * (length // count if count else 0)
+class _Cells:
+    """Cells that a call writes in place, how many they are, and how many a row has: as many as ``cols`` says, or as a row of the
+    buffer itself."""
+
+    def __init__(self, cells: Cells, cols: Optional[SupportsIndex]) -> None:
+        self.at, self.count = _library.borrowed(cells)
+        shape = _library.shape(cells)
+        of_buffer = math.prod(shape[1:]) if len(shape) > 1 else None
+        self.cols = _number(cols, 64) if cols is not None else 1 if of_buffer is None else of_buffer
+        if of_buffer not in (None, self.cols):
+            raise WrongSize(f"rows of {of_buffer}, and cols is {self.cols}")
+
+    def numbers(self) -> _Numbers:
+        return {
+            OutOfRange: lambda: _large(("cell", self.at, self.count)),
+            WrongSize: lambda: f"{self.count} cells in rows of {self.cols}",
+        }
 
 
-def _cells(cells: Words, cols: int) -> tuple[Any, int, int]:
-    """Cells that a call writes in place, how many they are, and how many a row has. A buffer of rows has to have rows of so many."""
-    cols = _number(cols, 64)
-    at, count = _library.borrowed(cells)
-    shape = memoryview(cells).shape
-    if len(shape) > 1 and math.prod(shape[1:]) != cols:
-        raise WrongSize()
-    return at, count, cols
+class _Rows(_Cells):
+    """Cells, and a byte for each row, which says whether it is filled."""
+
+    def __init__(self, cells: Cells, cols: Optional[SupportsIndex], filled: Marks) -> None:
+        super().__init__(cells, cols)
+        self.marks, self.rows = _marks(filled)
+
+    def numbers(self) -> _Numbers:
+        sizes = f"{self.count} cells in rows of {self.cols}, {self.rows} rows marked"
+        return {OutOfRange: self._large, WrongSize: lambda: sizes}
+
+    def filled(self) -> int:
+        """How many rows are filled."""
+        return sum(self.marks[: self.rows])
+
+    def _large(self) -> str:
+        """The first mark that is none, or the first cell of a filled row that is no element."""
+        for i, mark in enumerate(self.marks[: self.rows]):
+            if mark > 1:
+                return f"mark {i} is {mark}"
+        for i, mark in enumerate(self.marks[: self.rows]):
+            for k in range(i * self.cols, (i + 1) * self.cols) if mark else ():
+                if self.at[k] >= MODULUS:
+                    return f"cell {k} is {self.at[k]}"
+        return ""
 
 
 def _marks(filled: Any) -> tuple[Any, int]:
@@ -215,18 +329,22 @@ def version() -> tuple[int, int, int]:
     return number // 10000, number // 100 % 100, number % 100
 
 
-def shard_size(length: int, min: int, total: int) -> int:
+def shard_size(length: SupportsIndex, min: SupportsIndex, total: SupportsIndex) -> int:
     """Returns how many bytes each of ``total`` shards of so many bytes has, of which any ``min`` give them back.
 
     >>> shard_size(1000, 4, 6)
     264
     """
+    length, min, total = _number(length, 64), _number(min, 32), _number(total, 32)
     size = ctypes.c_size_t()
-    _done(_lib.cwm_shard_bytes_sizes(_number(length, 64), _number(min, 32), _number(total, 32), ctypes.byref(size)))
+    _done(
+        _lib.cwm_shard_bytes_sizes(length, min, total, ctypes.byref(size)),
+        {Mismatch: lambda: f"min {min}, total {total}", WrongSize: lambda: f"{length} bytes, min {min}, total {total}"},
+    )
     return size.value
 
 
-def split(data: Bytes, min: int, total: int) -> list[bytes]:
+def split(data: Bytes, min: SupportsIndex, total: SupportsIndex) -> list[bytes]:
     """Cuts the bytes into shards: ``total`` of one length, of which any ``min`` give the bytes back.
 
     Keep the index of each beside it, and ``min`` and ``total``. The shards hide nothing of the data. Cut large data
@@ -240,12 +358,12 @@ def split(data: Bytes, min: int, total: int) -> list[bytes]:
     at, count = _library.read_bytes(data)
     size = shard_size(count, min, total)
     out = _library.bytes_of(total * size)
-    _done(_lib.cwm_split_bytes(at, count, min, total, out, total * size))
+    _done(_lib.cwm_split_bytes(at, count, min, total, out, total * size), {})
     view = memoryview(out).cast("B")
     return [bytes(view[i * size : (i + 1) * size]) for i in range(total)]
 
 
-def join(shards: Mapping[int, Bytes], min: int, total: int) -> bytes:
+def join(shards: Mapping[int, Bytes], min: SupportsIndex, total: SupportsIndex) -> bytes:
     """Returns the bytes that the shards, each under its index, give back: ``min`` of them or more.
 
     If there are more than ``min``, damage to one is sure to raise ``Inconsistent`` or ``OutOfRange``. If there are
@@ -257,17 +375,22 @@ def join(shards: Mapping[int, Bytes], min: int, total: int) -> bytes:
     b'0123456789'
     >>> join({2: shards[2]}, 2, 3)
     Traceback (most recent call last):
-    commonware_math.TooFew: too few
+    commonware_math.TooFew: too few: 1 of 2 shards
     """
-    min, total = _number(min, 32), _number(total, 32)
-    indices, count, at, length = _rows(shards)
-    room = _room(count, length, min)
-    out, written = _library.bytes_of(room), ctypes.c_size_t()
-    _done(_lib.cwm_join_bytes(indices, count, min, total, at, length, out, room, ctypes.byref(written)))
+    of = _Shards(shards, min, total)
+    out, written = _library.bytes_of(of.room), ctypes.c_size_t()
+    _done(
+        _lib.cwm_join_bytes(
+            of.indices, of.count, of.min, of.total, of.at, of.length, out, of.room, ctypes.byref(written)
+        ),
+        of.numbers(),
+    )
     return bytes(memoryview(out).cast("B")[: written.value])
 
 
-def join_corrected(shards: Mapping[int, Bytes], min: int, total: int) -> tuple[bytes, list[int]]:
+def join_corrected(
+    shards: Mapping[int, Bytes], min: SupportsIndex, total: SupportsIndex
+) -> tuple[bytes, list[int]]:
     """Does what ``join`` does though some of the shards are wrong: returns the bytes, and the indices of these shards.
 
     Of n shards at most (n - min) / 2 may be wrong. If no bytes are so near, it raises ``Inconsistent``.
@@ -276,35 +399,36 @@ def join_corrected(shards: Mapping[int, Bytes], min: int, total: int) -> tuple[b
     >>> join_corrected({0: shards[0], 1: shards[1], 2: shards[0], 3: shards[3]}, 2, 4)
     (b'0123456789', [2])
     """
-    min, total = _number(min, 32), _number(total, 32)
-    indices, count, at, length = _rows(shards)
-    room = _room(count, length, min)
-    out, written, many = _library.bytes_of(room), ctypes.c_size_t(), ctypes.c_size_t()
-    wrong = (ctypes.c_size_t * builtins.max(1, count))()
+    of = _Shards(shards, min, total)
+    out, written, many = _library.bytes_of(of.room), ctypes.c_size_t(), ctypes.c_size_t()
+    wrong = (ctypes.c_size_t * builtins.max(1, of.count))()
     _done(
         _lib.cwm_join_bytes_corrected(
-            indices, count, min, total, at, length, out, room, ctypes.byref(written), wrong, count, ctypes.byref(many)
-        )
+            of.indices, of.count, of.min, of.total, of.at, of.length, out, of.room, ctypes.byref(written), wrong,
+            of.count, ctypes.byref(many),
+        ),
+        of.numbers(),
     )
-    return bytes(memoryview(out).cast("B")[: written.value]), sorted(indices[i] for i in wrong[: many.value])
+    return bytes(memoryview(out).cast("B")[: written.value]), sorted(of.indices[i] for i in wrong[: many.value])
 
 
-def evaluate(cells: Words, cols: int = 1) -> None:
+def evaluate(cells: Cells, cols: Optional[SupportsIndex] = None) -> None:
     """Puts the values at all points of a domain in place of the coefficients, in each column.
 
     Cell (i, k) is ``cells[i * cols + k]``. There are N rows, a power of two; row i holds coefficient i of each
     polynomial, and gets the values at point i, power i of the root of order N. A buffer that has rows of its own, such
-    as an array of numpy with two dimensions, has to have rows of ``cols``.
+    as an array of numpy with two dimensions, gives ``cols`` itself; of others it is 1, unless you say it.
 
     >>> cells = array("Q", [4, 6, 8, 0])
     >>> evaluate(cells)
     >>> cells[0] == 4 + 6 + 8
     True
     """
-    _done(_lib.cwm_evaluate(*_cells(cells, cols)))
+    of = _Cells(cells, cols)
+    _done(_lib.cwm_evaluate(of.at, of.count, of.cols), of.numbers())
 
 
-def interpolate(cells: Words, cols: int = 1) -> None:
+def interpolate(cells: Cells, cols: Optional[SupportsIndex] = None) -> None:
     """Goes the way back from ``evaluate``: puts the coefficients in place of the values, in each column.
 
     >>> cells = array("Q", [4, 6, 8, 0])
@@ -313,10 +437,11 @@ def interpolate(cells: Words, cols: int = 1) -> None:
     >>> list(cells)
     [4, 6, 8, 0]
     """
-    _done(_lib.cwm_interpolate(*_cells(cells, cols)))
+    of = _Cells(cells, cols)
+    _done(_lib.cwm_interpolate(of.at, of.count, of.cols), of.numbers())
 
 
-def recover(cells: Words, filled: Any, cols: int = 1) -> None:
+def recover(cells: Cells, filled: Marks, cols: Optional[SupportsIndex] = None) -> None:
     """Puts the coefficients in place of the values of the rows that are filled; the other rows may hold anything.
 
     ``filled`` has one item a row. Polynomials of at most m coefficients come back from any m rows.
@@ -328,11 +453,13 @@ def recover(cells: Words, filled: Any, cols: int = 1) -> None:
     >>> list(cells)
     [4, 6, 0, 0]
     """
-    marks, rows = _marks(filled)
-    _done(_lib.cwm_recover(*_cells(cells, cols), marks, rows))
+    of = _Rows(cells, cols, filled)
+    _done(_lib.cwm_recover(of.at, of.count, of.cols, of.marks, of.rows), of.numbers())
 
 
-def correct(cells: Words, filled: Any, count: int, cols: int = 1) -> list[int]:
+def correct(
+    cells: Cells, filled: Marks, count: SupportsIndex, cols: Optional[SupportsIndex] = None
+) -> list[int]:
     """Does what ``recover`` does though some of the filled rows are wrong, and returns which, by rising number.
 
     The polynomials have at most ``count`` coefficients; of m filled rows at most (m - count) / 2 may be wrong. If no
@@ -344,26 +471,53 @@ def correct(cells: Words, filled: Any, count: int, cols: int = 1) -> list[int]:
     >>> correct(cells, [True] * 4, 2), list(cells)
     ([2], [4, 6, 0, 0])
     """
-    marks, rows = _marks(filled)
-    room = rows // 2
+    of, count = _Rows(cells, cols, filled), _number(count, 64)
+    room = of.rows // 2
     wrong, written = (ctypes.c_size_t * builtins.max(1, room))(), ctypes.c_size_t()
-    _done(_lib.cwm_correct(*_cells(cells, cols), marks, rows, _number(count, 64), wrong, room, ctypes.byref(written)))
+    _done(
+        _lib.cwm_correct(
+            of.at, of.count, of.cols, of.marks, of.rows, count, wrong, room, ctypes.byref(written)
+        ),
+        {
+            **of.numbers(),
+            TooFew: lambda: f"{of.filled()} of {count} filled rows",
+            Inconsistent: lambda: f"{of.filled()} filled rows, {count} coefficients",
+        },
+    )
     return list(wrong[: written.value])
 
 
-def eval(coefficients: Words, x: int) -> int:
-    """Returns the value at x of the polynomial with these coefficients, from the constant upwards.
+@overload
+def eval(coefficients: Words, x: Iterable[SupportsIndex]) -> list[int]: ...
+@overload
+def eval(coefficients: Words, x: SupportsIndex) -> int: ...
+def eval(coefficients: Words, x: Union[SupportsIndex, Iterable[SupportsIndex]]) -> Union[int, list[int]]:
+    """Returns the value at x of the polynomial with these coefficients, from the constant upwards. If x is several points,
+    returns the list of the values there. For all points of a domain ``evaluate`` is faster.
 
-    >>> eval([4, 6, 8], 5)
+    >>> import commonware_math
+    >>> commonware_math.eval([4, 6, 8], 5)
     234
+    >>> commonware_math.eval([4, 6, 8], [0, 1, 5])
+    [4, 18, 234]
     """
     at, count = _library.read(coefficients)
-    value = ctypes.c_uint64()
-    _done(_lib.cwm_eval(at, count, _number(x, 64), ctypes.byref(value)))
-    return value.value
+    points, several = _library.one_or_more(x)
+    values, value = [], ctypes.c_uint64()
+    for i, point in enumerate(points):
+        _done(
+            _lib.cwm_eval(at, count, point, ctypes.byref(value)),
+            {
+                OutOfRange: lambda: _large(("coefficient", at, count))
+                or (f"point {i} is {point}" if several else f"x is {point}"),
+                WrongSize: lambda: f"{count} coefficients",
+            },
+        )
+        values.append(value.value)
+    return values if several else values[0]
 
 
-def decode(points: Words, values: Words, count: int) -> tuple["array[int]", list[int]]:
+def decode(points: Words, values: Words, count: SupportsIndex) -> tuple["array[int]", list[int]]:
     """Finds the only polynomial of ``count`` coefficients that has all n values but at most (n - count) / 2.
 
     Returns its coefficients, and the places of the wrong values.
@@ -374,15 +528,34 @@ def decode(points: Words, values: Words, count: int) -> tuple["array[int]", list
     """
     points_at, n = _library.read(points)
     values_at, m = _library.read(values)
-    count = builtins.min(_number(count, 64), n + 1)
-    room = builtins.max(0, n - count) // 2
-    found = _library.words(count)
+    wanted = _number(count, 64)
+    # One too many is refused as more are.
+    k = builtins.min(wanted, n + 1)
+    room = builtins.max(0, n - k) // 2
+    found = _library.words(k)
     wrong, written = (ctypes.c_size_t * builtins.max(1, room))(), ctypes.c_size_t()
-    _done(_lib.cwm_decode(points_at, n, values_at, m, found, count, wrong, room, ctypes.byref(written)))
-    return _array(found, count), list(wrong[: written.value])
+
+    def twice() -> str:
+        """The first point that was there before."""
+        seen: dict[int, int] = {}
+        for i, point in enumerate(points_at[:n]):
+            if seen.setdefault(point, i) != i:
+                return f"points {seen[point]} and {i} are {point}"
+        return ""
+
+    _done(
+        _lib.cwm_decode(points_at, n, values_at, m, found, k, wrong, room, ctypes.byref(written)),
+        {
+            OutOfRange: lambda: _large(("point", points_at, n), ("value", values_at, m)),
+            WrongSize: lambda: f"{n} points, {m} values, {wanted} coefficients",
+            Inconsistent: lambda: f"{n} values, {wanted} coefficients",
+            Repeated: twice,
+        },
+    )
+    return _array(found, k), list(wrong[: written.value])
 
 
-def weights(points: Words, x: int) -> "array[int]":
+def weights(points: Words, x: SupportsIndex) -> "array[int]":
     """Returns a weight for each of n points: the values at the points, each times its weight, add up to the value at x,
     for every polynomial of at most n coefficients.
 
@@ -390,12 +563,15 @@ def weights(points: Words, x: int) -> "array[int]":
     True
     """
     at, count = _library.read(points)
-    found = _library.words(count)
-    _done(_lib.cwm_weights(at, count, _number(x, 64), found, count))
+    found, x = _library.words(count), _number(x, 64)
+    _done(
+        _lib.cwm_weights(at, count, x, found, count),
+        {OutOfRange: lambda: _large(("point", at, count)) or f"x is {x}"},
+    )
     return _array(found, count)
 
 
-def weights_at_roots(total: int, indices: Iterable[int], x: int) -> "array[int]":
+def weights_at_roots(total: SupportsIndex, indices: Iterable[SupportsIndex], x: SupportsIndex) -> "array[int]":
     """Returns the same weights for the points of a domain that have these indices, which rise and are below ``total``.
     The domain has ``total`` points, rounded up to a power of two.
 
@@ -403,8 +579,21 @@ def weights_at_roots(total: int, indices: Iterable[int], x: int) -> "array[int]"
     [1, 0]
     """
     at, count = _indices(indices)
-    found = _library.words(count)
-    _done(_lib.cwm_weights_at_roots(_number(total, 32), at, count, _number(x, 64), found, count))
+    found, total, x = _library.words(count), _number(total, 32), _number(x, 64)
+
+    def wrong() -> str:
+        """The first index that is too large, or does not rise."""
+        for i in range(count):
+            if at[i] >= total:
+                return f"index {at[i]}, total {total}"
+            if i and at[i] <= at[i - 1]:
+                return f"index {at[i]} after {at[i - 1]}"
+        return ""
+
+    _done(
+        _lib.cwm_weights_at_roots(total, at, count, x, found, count),
+        {WrongIndex: wrong, WrongSize: lambda: f"total {total}", OutOfRange: lambda: f"x is {x}"},
+    )
     return _array(found, count)
 
 
@@ -416,7 +605,10 @@ def encode_poly(coefficients: Words) -> bytes:
     """
     at, count = _library.read(coefficients)
     out, written = _library.bytes_of(8 * count + 5), ctypes.c_size_t()
-    _done(_lib.cwm_encode_poly(at, count, out, 8 * count + 5, ctypes.byref(written)))
+    _done(
+        _lib.cwm_encode_poly(at, count, out, 8 * count + 5, ctypes.byref(written)),
+        {OutOfRange: lambda: _large(("coefficient", at, count)), WrongSize: lambda: f"{count} coefficients"},
+    )
     return bytes(out[: written.value])
 
 
@@ -428,5 +620,29 @@ def decode_poly(encoded: Bytes) -> "array[int]":
     """
     at, count = _library.read_bytes(encoded)
     found, written = _library.words(count // 8), ctypes.c_size_t()
-    _done(_lib.cwm_decode_poly(at, count, found, count // 8, ctypes.byref(written)))
+
+    def length() -> tuple[int, int]:
+        """How many coefficients there are, and where the first of them begins."""
+        number = place = 0
+        while place < count:
+            number |= (at[place] & 127) << 7 * place
+            place += 1
+            if at[place - 1] < 128:
+                break
+        return number, place
+
+    def large() -> str:
+        number, begin = length()
+        words = [int.from_bytes(bytes(at[begin + 8 * i : begin + 8 * i + 8]), "big") for i in range(number)]
+        return _large(("coefficient", words, number))
+
+    def behind() -> str:
+        number, begin = length()
+        return f"{count} bytes, and {number} coefficients take {begin + 8 * number}"
+
+    _done(
+        _lib.cwm_decode_poly(at, count, found, count // 8, ctypes.byref(written)),
+        {EndOfBuffer: lambda: f"{count} bytes", OutOfRange: large, ExtraData: behind},
+    )
     return _array(found, written.value)
+

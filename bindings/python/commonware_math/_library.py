@@ -13,7 +13,7 @@ import re
 import subprocess
 import sys
 from pathlib import Path
-from typing import Any, Iterator
+from typing import Any, Iterable, Iterator, Optional
 
 MAJOR = 1
 NAME = f"libcommonware_math.so.{MAJOR}"
@@ -105,8 +105,21 @@ for _name, _arguments in _SIGNATURES.items():
 if library.cwm_version() // 10000 != MAJOR:
     raise ImportError(f"commonware_math: the library is of another version: {library.cwm_version()}")
 
-# No pointer may be null: where a length is zero, this one is handed over.
+# Where a length is zero, this is handed over, which is not null.
 NOWHERE = (_u64 * 1)()
+
+# What words are.
+WORDS = "a buffer of unsigned 64-bit words is wanted, such as array('Q') or an array of numpy with dtype=numpy.uint64"
+
+
+def number(value: Any, bits: int) -> int:
+    """The number, where so many bits hold it: ctypes would cut it off. What is no whole number is a TypeError."""
+    found = operator.index(value)
+    if not 0 <= found < 1 << bits:
+        # Python refuses to print numbers of thousands of digits.
+        told = str(found) if found.bit_length() <= 128 else f"a number of {found.bit_length()} bits"
+        raise OverflowError(f"{told} is not from 0 to 2**{bits} - 1")
+    return found
 
 
 def words(count: int) -> Any:
@@ -119,17 +132,39 @@ def bytes_of(count: int) -> Any:
     return (ctypes.c_uint8 * count)() if count else NOWHERE
 
 
-def _view(value: Any) -> memoryview:
-    """The words as they lie in memory, without a copy."""
-    view = memoryview(value)
-    if view.itemsize != 8 or view.format.lstrip("@=<") not in ("Q", "L") or not view.c_contiguous:
-        raise TypeError("not a contiguous buffer of unsigned 64-bit words, such as array('Q')")
+def _contiguous(view: memoryview) -> memoryview:
+    """The view, whose items have to lie one behind the other."""
+    if not view.c_contiguous:
+        raise TypeError("not a contiguous buffer")
     return view
+
+
+def _buffer(value: Any) -> Optional[memoryview]:
+    """The buffer, if the value has one."""
+    try:
+        return memoryview(value)
+    except TypeError:
+        return None
+
+
+def _view(view: memoryview) -> memoryview:
+    """The view, whose items have to be words."""
+    if view.itemsize != 8 or view.format.lstrip("@=<") not in ("Q", "L"):
+        raise TypeError(f"{WORDS}: not one with items of format '{view.format}', {view.itemsize} bytes each")
+    return _contiguous(view)
+
+
+def shape(value: Any) -> tuple[int, ...]:
+    """The dimensions of a buffer."""
+    return memoryview(value).shape or ()
 
 
 def borrowed(value: Any) -> tuple[Any, int]:
     """The caller's words, which a call writes in place, and how many they are."""
-    view = _view(value)
+    view = _buffer(value)
+    if view is None:
+        raise TypeError(f"{WORDS}, since the call writes in place: not a {type(value).__name__}")
+    view = _view(view)
     if view.readonly:
         raise TypeError("the words are written in place, and the buffer is read-only")
     if view.nbytes == 0:
@@ -142,13 +177,9 @@ def borrowed(value: Any) -> tuple[Any, int]:
 
 def read(value: Any) -> tuple[Any, int]:
     """Words that a call reads: a buffer of words as it is, where it can be written, and else a copy; or numbers."""
-    try:
-        view = memoryview(value)
-    except TypeError:
-        numbers = [operator.index(n) for n in value]
-        if not all(0 <= n < 1 << 64 for n in numbers):
-            raise OverflowError("a word is not a number from 0 to 2**64 - 1") from None
-        return ((_u64 * len(numbers))(*numbers), len(numbers)) if numbers else (NOWHERE, 0)
+    view = _buffer(value)
+    if view is None:
+        return _read_numbers(value)
     view = _view(view)
     count = view.nbytes // 8
     if count == 0:
@@ -160,13 +191,35 @@ def read(value: Any) -> tuple[Any, int]:
     return (_u64 * count).from_buffer_copy(view), count
 
 
+def _read_numbers(values: Any) -> tuple[Any, int]:
+    """Numbers, as words of their own."""
+    numbers = [operator.index(n) for n in values]
+    for n in numbers:
+        if not 0 <= n < 1 << 64:
+            number(n, 64)
+    return ((_u64 * len(numbers))(*numbers), len(numbers)) if numbers else (NOWHERE, 0)
+
+
+def one_or_more(value: Any) -> tuple[list[int], bool]:
+    """One word, or several, and whether these are several."""
+    try:
+        return [number(operator.index(value), 64)], False
+    except TypeError:
+        if not isinstance(value, Iterable):
+            raise
+    return [number(n, 64) for n in value], True
+
+
+def row_of_bytes(value: Any) -> memoryview:
+    """The bytes as they lie in memory, without a copy."""
+    return _contiguous(memoryview(value))
+
+
 def read_bytes(value: Any) -> tuple[Any, int]:
     """Bytes that a call reads: without a copy, unless they are a read-only view."""
     if isinstance(value, bytes):
         return (value, len(value)) if value else (NOWHERE, 0)
-    view = memoryview(value)
-    if not view.c_contiguous:
-        raise TypeError("not a contiguous buffer")
+    view = row_of_bytes(value)
     if view.nbytes == 0:
         return NOWHERE, 0
     if view.readonly:

@@ -1,5 +1,6 @@
 """The calls against plain Python over random input, their errors, the examples of their documentation, and threads."""
 
+import builtins
 import doctest
 import os
 import pickle
@@ -8,6 +9,7 @@ import time
 import unittest
 from array import array
 from concurrent.futures import ThreadPoolExecutor
+from pathlib import Path
 
 import commonware_math as cm
 from commonware_math import MODULUS as P
@@ -159,6 +161,28 @@ class Counted(unittest.TestCase):
         self.assertEqual((list(found), places), (coefficients, wrong))
 
 
+class Number:
+    """A whole number of a type of its own, which is equal to no other."""
+
+    def __init__(self, value):
+        self.value = value
+
+    def __index__(self):
+        return self.value
+
+
+class Names(unittest.TestCase):
+    def test_all_names(self):
+        there = {}
+        exec("from commonware_math import *", there)
+        self.assertEqual(there["split"], cm.split)
+        self.assertEqual([name for name in there if hasattr(builtins, name)], [])
+        self.assertEqual(cm.eval([4, 6, 8], 5), 234)
+
+    def test_version(self):
+        self.assertEqual(cm.__version__, Path(__file__).resolve().parents[3].joinpath("VERSION").read_text().strip())
+
+
 class Refusals(unittest.TestCase):
     def test_each_by_name(self):
         four = array("Q", [1, 2, 3, 4])
@@ -211,6 +235,11 @@ class Refusals(unittest.TestCase):
             (TypeError, cm.evaluate, memoryview(bytearray(15))[7:].cast("Q")),
             (TypeError, cm.evaluate, array("I", [1, 2])),
             (TypeError, cm.evaluate, memoryview(four)[::2]),
+            (TypeError, cm.evaluate, [1, 2]),
+            (TypeError, cm.eval, [1], "2"),
+            (TypeError, cm.eval, [1], [2.0]),
+            (TypeError, cm.split, "text", 1, 1),
+            (TypeError, cm.join, {0: "text"}, 1, 1),
         ]:
             with self.subTest(function=function.__name__, arguments=arguments):
                 with self.assertRaises(error):
@@ -224,8 +253,105 @@ class Refusals(unittest.TestCase):
 
     def test_other_processes(self):
         for error in cm.Error.__subclasses__():
-            again = pickle.loads(pickle.dumps(error()))
-            self.assertEqual((type(again), str(again)), (error, str(error())))
+            for numbers in ("", "1 of 2"):
+                again = pickle.loads(pickle.dumps(error(numbers)))
+                self.assertEqual((type(again), str(again), again.numbers), (error, str(error(numbers)), numbers))
+                self.assertTrue(str(again).endswith(numbers))
+
+    def refused(self, error, text, function, *arguments):
+        """The call has to be refused so, with a text that has this in it."""
+        with self.subTest(function=function.__name__, text=text):
+            with self.assertRaises(error) as raised:
+                function(*arguments)
+            self.assertIn(text, str(raised.exception))
+
+    def test_numbers(self):
+        shards = dict(enumerate(cm.split(b"0123456789", 2, 3)))
+        large = {0: shards[0], 2: b"\xff" * 8 + shards[2][8:]}
+        cells = array("Q", range(8))
+        for function in (cm.join, cm.join_corrected):
+            for error, text, *arguments in [
+                (cm.TooFew, "too few: 1 of 2 shards", {1: shards[1]}, 2, 3),
+                (cm.TooFew, "too few: 0 of 1 shards", {}, 1, 1),
+                (cm.Mismatch, "mismatch: min 3, total 2", shards, 3, 2),
+                (cm.Mismatch, "shard 0 has 24 bytes, and shard 1 has 8", {0: shards[0], 1: shards[1][:8]}, 2, 3),
+                (cm.WrongIndex, "wrong index: index 2, total 2", shards, 2, 2),
+                (cm.WrongSize, "wrong size: shards of 3 bytes", {0: b"123", 1: b"456"}, 2, 3),
+                (cm.OutOfRange, "word 0 is 18446744073709551615 in shard 2", large, 2, 3),
+                (cm.Inconsistent, "nothing fits: 3 shards, min 2, total 3", {i: shards[0] for i in range(3)}, 2, 3),
+            ]:
+                self.refused(error, text, function, *arguments)
+        for error, text, function, *arguments in [
+            (cm.Mismatch, "mismatch: min 2, total 1", cm.split, b"1", 2, 1),
+            (cm.WrongSize, f"wrong size: {2**62} bytes, min 1, total 1", cm.shard_size, 2**62, 1, 1),
+            (cm.WrongSize, "8 cells in rows of 3", cm.evaluate, cells, 3),
+            (cm.WrongSize, "8 cells in rows of 0", cm.interpolate, cells, 0),
+            (cm.WrongSize, "8 cells in rows of 2, 3 rows marked", cm.recover, cells, [True] * 3, 2),
+            (cm.OutOfRange, f"cell 1 is {P}", cm.evaluate, array("Q", [0, P])),
+            (cm.OutOfRange, f"cell 3 is {P}", cm.recover, array("Q", [P, P, 1, P]), [False, True], 2),
+            (cm.OutOfRange, "mark 1 is 2", cm.recover, cells, bytes([1, 2, 1, 1]), 2),
+            (cm.TooFew, "too few: 1 of 2 filled rows", cm.correct, cells, [True, False, False, False], 2, 2),
+            (cm.Inconsistent, "4 filled rows, 2 coefficients", cm.correct, array("Q", [1, 2, 3, 4]), [True] * 4, 2),
+            (cm.WrongSize, "0 coefficients", cm.eval, [], 5),
+            (cm.OutOfRange, f"coefficient 1 is {P}", cm.eval, [1, P], P),
+            (cm.OutOfRange, f"x is {P}", cm.eval, [1], P),
+            (cm.OutOfRange, f"point 2 is {P}", cm.eval, [1], [3, 2, P]),
+            (cm.WrongSize, "1 points, 2 values, 1 coefficients", cm.decode, [1], [2, 3], 1),
+            (cm.WrongSize, f"1 points, 1 values, {2**63} coefficients", cm.decode, [1], [2], 2**63),
+            (cm.OutOfRange, f"value 1 is {P}", cm.decode, [1, 2], [3, P], 1),
+            (cm.Repeated, "points 1 and 3 are 6", cm.decode, [5, 6, 7, 6], [1, 1, 1, 1], 1),
+            (cm.Inconsistent, "3 values, 2 coefficients", cm.decode, [1, 2, 3], [1, 2, 4], 2),
+            (cm.OutOfRange, f"point 0 is {P}", cm.weights, [P], 0),
+            (cm.OutOfRange, f"x is {P}", cm.weights, [1], P),
+            (cm.WrongIndex, "index 4, total 4", cm.weights_at_roots, 4, [1, 4], 0),
+            (cm.WrongIndex, "index 1 after 2", cm.weights_at_roots, 4, [2, 1], 0),
+            (cm.WrongSize, "total 0", cm.weights_at_roots, 0, [], 0),
+            (cm.OutOfRange, f"x is {P}", cm.weights_at_roots, 4, [1], P),
+            (cm.OutOfRange, f"coefficient 0 is {P}", cm.encode_poly, [P]),
+            (cm.EndOfBuffer, "8 bytes", cm.decode_poly, b"\x01" + bytes(7)),
+            (cm.ExtraData, "10 bytes, and 1 coefficients take 9", cm.decode_poly, b"\x01" + bytes(9)),
+            (cm.OutOfRange, f"coefficient 1 is {2**64 - 1}", cm.decode_poly, b"\x02" + bytes(8) + b"\xff" * 8),
+        ]:
+            self.refused(error, text, function, *arguments)
+        self.assertEqual(cells, array("Q", range(8)))
+
+    def test_two_keys_of_one_number(self):
+        shards = cm.split(b"0123456789", 2, 3)
+        some = {Number(1): shards[1], Number(1): shards[0], 2: shards[2]}
+        self.refused(cm.Conflict, "unequal shards of one index: index 1", cm.join, some, 2, 3)
+        self.refused(cm.TooFew, "1 of 2 shards", cm.join, {Number(1): shards[1], Number(1): shards[1]}, 2, 3)
+        # Neither of the two counts.
+        self.refused(cm.TooFew, "1 of 2 shards", cm.join_corrected, some, 2, 3)
+
+    def test_numbers_of_many_digits(self):
+        for many in (10**5000, -(10**5000)):
+            for function, *arguments in [
+                (cm.eval, [1], many),
+                (cm.eval, [1], [1, many]),
+                (cm.eval, [1, many], 1),
+                (cm.split, b"", 1, many),
+                (cm.join, {many: b""}, 1, 1),
+                (cm.evaluate, array("Q", [1]), many),
+                (cm.weights_at_roots, 4, [many], 0),
+            ]:
+                with self.subTest(function=function.__name__):
+                    with self.assertRaises(OverflowError) as raised:
+                        function(*arguments)
+                    self.assertLess(len(str(raised.exception)), 100)
+        self.refused(OverflowError, "-1 is not from 0 to 2**64 - 1", cm.eval, [1], -1)
+        self.refused(OverflowError, f"{2**64} is not from 0 to 2**64 - 1", cm.eval, [2**64], 1)
+
+    def test_what_is_wanted(self):
+        shards = cm.split(b"0123456789", 2, 3)
+        for function in (cm.join, cm.join_corrected):
+            self.refused(TypeError, "dict(enumerate(shards))", function, shards, 2, 3)
+            self.refused(TypeError, "not a list", function, shards, 2, 3)
+            self.refused(TypeError, "not a contiguous buffer", function, {0: memoryview(shards[0])[::2]}, 1, 1)
+        self.refused(TypeError, "not a contiguous buffer", cm.split, memoryview(shards[0])[::2], 1, 1)
+        self.refused(TypeError, "not a contiguous buffer", cm.evaluate, memoryview(array("Q", [1, 2, 3]))[::2])
+        for call in (cm.evaluate, lambda words: cm.eval(words, 5)):
+            self.refused(TypeError, "dtype=numpy.uint64", call, array("q", [1, 2]))
+        self.refused(TypeError, "in place: not a list", cm.evaluate, [1, 2])
 
 
 class Buffers(unittest.TestCase):
@@ -240,6 +366,9 @@ class Buffers(unittest.TestCase):
         words = array("Q", [4, 6, 8])
         for given in (words, memoryview(words), memoryview(words.tobytes()).cast("Q"), [4, 6, 8], (4, 6, 8), iter([4, 6, 8])):
             self.assertEqual(cm.eval(given, 5), 234)
+        for points in ([0, 1, 5], (0, 1, 5), array("Q", [0, 1, 5]), iter([Number(0), 1, 5]), range(0)):
+            expected = [] if points == range(0) else [4, 18, 234]
+            self.assertEqual(cm.eval([4, 6, 8], points), expected)
         # an address that 8 does not divide
         self.assertEqual(cm.eval(memoryview(bytearray(7) + words.tobytes() + bytes(1))[7:31].cast("Q"), 5), 234)
 
@@ -254,22 +383,33 @@ class Buffers(unittest.TestCase):
         self.assertEqual(cm.join({i: s for i, s in enumerate(cm.split(b"", 1, 2))}, 1, 2), b"")
 
     def test_rows_of_a_buffer(self):
-        rows = memoryview(bytearray(array("Q", [4, 1, 6, 0]).tobytes())).cast("B").cast("Q", (2, 2))
-        cm.evaluate(rows, 2)
-        self.assertEqual(rows.tolist(), [[10, 1], [cm.MODULUS - 2, 1]])
-        for call in (lambda: cm.evaluate(rows), lambda: cm.interpolate(rows), lambda: cm.recover(rows, [True] * 4), lambda: cm.correct(rows, [True] * 4, 4)):
-            with self.assertRaises(cm.WrongSize):
-                call()
-        self.assertEqual(rows.tolist(), [[10, 1], [cm.MODULUS - 2, 1]])
+        old, values = [[4, 1], [6, 0]], [[10, 1], [cm.MODULUS - 2, 1]]
+        rows = memoryview(bytearray(array("Q", sum(old, [])).tobytes())).cast("B").cast("Q", (2, 2))
+        for cols in (2, None):
+            cm.evaluate(rows, cols)
+            self.assertEqual(rows.tolist(), values)
+            cm.interpolate(rows, cols)
+            self.assertEqual(rows.tolist(), old)
+        # The rows say themselves how long they are.
+        cm.evaluate(rows)
+        self.assertEqual(rows.tolist(), values)
+        cm.recover(rows, [True] * 2)
+        self.assertEqual(rows.tolist(), old)
+        cm.evaluate(rows)
+        self.assertEqual(cm.correct(rows, [True] * 2, 2), [])
+        cm.evaluate(rows)
+        for call, *arguments in [(cm.evaluate,), (cm.interpolate,), (cm.recover, [True] * 4), (cm.correct, [True] * 4, 4)]:
+            for cols in (1, 4):
+                with self.assertRaises(cm.WrongSize) as raised:
+                    call(rows, *arguments, cols)
+                self.assertIn(f"rows of 2, and cols is {cols}", str(raised.exception))
+        self.assertEqual(rows.tolist(), values)
+        # Planes of rows count as rows of all their cells.
+        planes = memoryview(bytearray(rows.tobytes() * 2)).cast("B").cast("Q", (2, 2, 2))
+        cm.interpolate(planes)
+        self.assertEqual(planes.tolist(), [values, [[0, 0], [0, 0]]])
 
     def test_numbers_of_other_types(self):
-        class Number:
-            def __init__(self, value):
-                self.value = value
-
-            def __index__(self):
-                return self.value
-
         data = bytes(range(100))
         two, four, five = Number(2), Number(4), Number(5)
         shards = cm.split(data, two, four)
@@ -290,8 +430,11 @@ class Buffers(unittest.TestCase):
         cm.recover(cells, numpy.array([False, True, True, True]))
         self.assertEqual(list(cells), [4, 6, 8, 0])
         self.assertEqual(cm.eval([numpy.uint64(4), numpy.uint64(6), numpy.uint64(8)], numpy.uint64(5)), 234)
+        self.assertEqual(cm.eval(cells, numpy.array([0, 1, 5], dtype=numpy.uint64)), [4, 18, 234])
+        with self.assertRaisesRegex(TypeError, "dtype=numpy.uint64"):
+            cm.evaluate(numpy.array([4, 6, 8, 0]))
         rows = numpy.array([[4, 1], [6, 0]], dtype=numpy.uint64)
-        cm.evaluate(rows, 2)
+        cm.evaluate(rows)
         self.assertEqual(rows.tolist(), [[10, 1], [cm.MODULUS - 2, 1]])
         for cols in (1, 4):
             with self.assertRaises(cm.WrongSize):
