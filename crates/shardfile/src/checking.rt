@@ -1,6 +1,8 @@
 //! Whether shard files fit.
 
-ghost use Rattle.std.specs.Prelude.{◌≤◌};
+ghost use Rattle.std.specs.Prelude.{◌≡◌, ◌≤◌, ◌↔◌, false, IsTrue, IfSome};
+ghost use Rattle.shardfile.specs.Statuses.{judged};
+ghost use Rattle.shardfile.specs.declared.status.Status.TheVariants.{Lost};
 
 use crate::blocks::{Block, Look, RecordRoom, block_in, check_block};
 use crate::fault::Fault;
@@ -138,7 +140,10 @@ pub fn check(rt: &HostRuntime, wanted: &Wanted, compares_all: bool) -> Result<Ch
 fn is_of_headers(fault: &Fault) -> bool {
     match fault {
         Fault::Folder(_, error) => !is_want_of_room(error),
-        fault => matches!(fault, Fault::NoShard(_) | Fault::Tie(..) | Fault::Length(_)),
+        fault => matches!(
+            fault,
+            Fault::NoShard(_) | Fault::IsShard(..) | Fault::Tie(..) | Fault::Length(_)
+        ),
     }
 }
 
@@ -167,15 +172,24 @@ fn check_split(
     let mut text = String::new(rt.alloc());
     list(rt, wanted, split.total, files, &mut text)?;
     let is_restored = write_findings(rt, wanted, split, files, &findings, &mut text)?;
-    let is_whole = is_restored
-        && count_there(files) == split.total as usize
+    let is_whole = count_there(files) == split.total as usize
         && files.iter().all(|shard| shard.is_sound());
-    let fault = if is_whole {
-        None
-    } else {
-        Some(Fault::Unsound(owned(rt, wanted.label())?))
-    };
+    let fault = fault_of(owned(rt, wanted.label())?, is_restored, is_whole);
     Ok(Checked { text, fault })
+}
+
+/// The fault of shard files, by this name, that do not give the file, or are not whole.
+fn fault_of(label: String, is_restored: bool, is_whole: bool) -> Option<Fault>
+    ensures whole { result ≡ None ↔ (IsTrue is_restored × IsTrue is_whole) }
+    ensures lost { IfSome result (λ fault. judged fault ≡ Lost ↔ is_restored ≡ false) }
+{
+    if !is_restored {
+        Some(Fault::Lost(label))
+    } else if !is_whole {
+        Some(Fault::Unsound(label))
+    } else {
+        None
+    }
 }
 
 /// Two lines: what the split is, and what `join` does; between them one where not all blocks were

@@ -1,5 +1,9 @@
 //! Why the work was not done.
 
+ghost use Rattle.std.specs.Prelude.{◌≡◌, true, false};
+ghost use Rattle.shardfile.specs.Statuses.{judged, refused};
+
+use crate::status::Status;
 use std::alloc::{AllocError, AllocFailed};
 use std::io;
 use thiserror::Error;
@@ -17,6 +21,12 @@ pub enum WrongWord {
     OptionOf(&'static str, &'static str),
     #[error("{0}: no {1} is given after it")]
     NoWord(&'static str, &'static str),
+    #[error("{0}: is given twice")]
+    Twice(&'static str),
+    #[error("{0}: more words stand after it than it takes")]
+    NoMore(String),
+    #[error("{0}: no file can have this name: its last part is empty, or . or ..")]
+    Name(String),
     #[error("-: --name NAME says what its shard files are called")]
     NoName,
     #[error("--name: goes with - alone, which is standard input")]
@@ -29,6 +39,8 @@ pub enum WrongWord {
     Empty,
     #[error("{1} words are given where {0} are wanted")]
     Count(&'static str, usize),
+    #[error("{1} words are given where {0} are wanted: give {2}, without a number, or --shards {3}")]
+    Shards(&'static str, usize, String, &'static str),
     #[error("{1}: {0} is a number from 1 to 65536")]
     Number(&'static str, String),
     #[error("MIN is {0}, and TOTAL is {1}: MIN is TOTAL at most")]
@@ -38,7 +50,7 @@ pub enum WrongWord {
 /// Why the work was not done. Texts name the file or the block that is meant.
 #[derive(Debug, Drop, Error)]
 pub enum Fault {
-    #[error("{0}\nusage: shardfile split [--force] [--to FOLDER] MIN TOTAL FILE | split [--force] [--to FOLDER] --name NAME MIN TOTAL - | join [--force] [--all] [--partial] FILE OUT | join [--force] [--all] [--partial] --shards OUT SHARD .. | repair [--force] [--all] [--only N,M] FILE | repair [--force] [--all] [--only N,M] --shards NAME SHARD .. | check [--all] FILE | check [--all] --shards SHARD .. | clean FOLDER | --help | --version")]
+    #[error("{0}")]
     Usage(WrongWord),
     #[error("refused: a word is no UTF-8 text: give the file such a name, or a link to it (ln -s), and call it by this")]
     Words,
@@ -67,6 +79,9 @@ pub enum Fault {
     Beyond(String),
     #[error("refused: {0}: no shard is there")]
     NoShard(String),
+    /// The name of a shard file in place of the file's, and what is to be given in its place.
+    #[error("refused: {0}: no shard is there: give {1}")]
+    IsShard(String, String),
     #[error("refused: {0}: equally many shards of two splits are there: {1} is of the one, and {2} of the other")]
     Tie(String, String, String),
     #[error("refused: {0}: no shard file has the length that its header says")]
@@ -77,12 +92,16 @@ pub enum Fault {
     Block(u64, shard_blocks::Error),
     #[error("refused: {0}: not all shards are there and fit")]
     Unsound(String),
+    #[error("refused: {0}: the file cannot be restored")]
+    Lost(String),
     #[error("refused: {0}: shard files that do not fit stay: repair --force replaces them")]
     Stays(String),
     #[error("refused: {0}: some blocks cannot be restored, and are zeros")]
     Holes(String),
     #[error("refused: {0} is no number of a shard: there are {1}, from 0 on")]
     NoNumber(u32, u32),
+    #[error("refused: {0}: the file system holds no file of that length")]
+    TooLong(String),
     #[error("refused: a shard with too many cells")]
     Cells,
     #[error("refused: the system gives no random words that can be keys")]
@@ -90,11 +109,19 @@ pub enum Fault {
 }
 
 impl Fault {
-    /// The status that the program ends with: 2 for a usage error, 1 otherwise.
-    pub fn status(&self) -> u8 {
+    /// The status of a run that it ends. One that judges shard files, as `check` and `repair` do,
+    /// has others than other runs.
+    pub fn status(&self, is_judging: bool) -> Status
+        ensures judged { is_judging ≡ true → result ≡ judged self.now }
+        ensures refused { is_judging ≡ false → result ≡ refused self.now }
+    {
         match self {
-            Fault::Usage(_) => 2,
-            _ => 1,
+            Fault::Usage(_) => Status::Usage,
+            _ if !is_judging => Status::Refused,
+            Fault::Unsound(_) | Fault::Stays(_) => Status::Refused,
+            Fault::NoShard(_) | Fault::IsShard(..) | Fault::Length(_) => Status::Lost,
+            Fault::TooFew(..) | Fault::Block(..) | Fault::Lost(_) => Status::Lost,
+            _ => Status::Unknown,
         }
     }
 }

@@ -16,6 +16,9 @@ use std::fs;
 /// The name that stands for standard output.
 pub const STANDARD_OUTPUT: &str = "-";
 
+/// The most bytes of a file that the system can count, whatever the file system.
+const MOST_BYTES: u64 = i64::MAX as u64;
+
 /// What is to be joined.
 #[derive(Drop)]
 pub struct Order<'a> {
@@ -138,6 +141,9 @@ fn begun(
 {
     if order.out == STANDARD_OUTPUT {
         return Ok(Restored::to_standard_output(length));
+    }
+    if length > MOST_BYTES {
+        return Err(Fault::TooLong(owned(rt, order.out)?));
     }
     let how = Manner::new(rt, order.force, first_rights(files))?;
     Restored::create(rt, owned(rt, order.out)?, &how, length)

@@ -6,11 +6,12 @@
 //! they fit; `shardfile clean FOLDER` removes what stopped and refused runs left.
 #![tactic(auto)]
 
-ghost use Rattle.std.specs.Prelude.{◌≤◌, IfOk};
+ghost use Rattle.std.specs.Prelude.{◌≡◌, ◌≤◌, IfOk, None, OnOk};
 
 mod blocks;
 mod checking;
 mod cleaning;
+mod command;
 mod fault;
 mod joining;
 mod listing;
@@ -20,14 +21,17 @@ mod progress;
 mod repairing;
 mod sources;
 mod splitting;
+mod status;
 mod vain;
 
 use checking::Checked;
+use command::{Command, print_usage};
 use fault::{Fault, WrongWord};
-use names::Wanted;
+use names::{Wanted, can_be_file, name_before_number, number_written};
 use output::owned;
 use shard_format::header::MOST_SHARDS;
-use std::env;
+use status::Status;
+use std::env::{self, Env};
 use std::io::ErrorKind;
 use std::process::ExitCode;
 
@@ -37,7 +41,6 @@ const VERSION: &str = "shardfile 1.0.0\n";
 /// What `--help` prints.
 const HELP: &str = "\
 shardfile: a file in TOTAL shard files, any MIN of which give it back
-
   shardfile split [--force] [--to FOLDER] MIN TOTAL FILE
       writes FILE.0, FILE.1 and on, TOTAL in all, beside FILE or into FOLDER
   shardfile join [--force] [--all] [--partial] FILE OUT
@@ -54,14 +57,44 @@ shardfile: a file in TOTAL shard files, any MIN of which give it back
   --partial writes zeros for blocks that are lost, and prints where they are
   --shards  takes shard files with any names, after OUT (join) or NAME (repair)
   -         standard input, as FILE of split --name NAME; or as OUT, standard output
-  --        a name that begins so is written ./--name
+  --        ends the options: each word after it is a name
 
 For example, any 6 of the 16 files photos.tar.0 to photos.tar.15 may be lost:
   shardfile split 10 16 photos.tar
   shardfile join photos.tar restored.tar
-Status: 0 done (check: all shards are there and fit), 1 refused, 2 usage error.
+Status: 0 done, 1 refused, 2 usage error. Of check and repair: 0 all fits, 1 not all
+fits, but it can be restored, 3 it cannot be restored, 4 nothing could be judged.
 Nothing is hidden, and nothing is signed: who can write shards can forge them.
 ";
+
+/// An option that wants a word after it.
+#[derive(Clone, Copy)]
+enum Wanting {
+    Folder,
+    Name,
+    Numbers,
+}
+
+impl Wanting {
+    /// The one that the word is.
+    fn named(word: &str) -> Option<Wanting> {
+        match word {
+            "--to" => Some(Wanting::Folder),
+            "--name" => Some(Wanting::Name),
+            "--only" => Some(Wanting::Numbers),
+            _ => None,
+        }
+    }
+
+    /// The fault that no word follows it.
+    fn without_word(self) -> WrongWord {
+        match self {
+            Wanting::Folder => WrongWord::NoWord("--to", "folder"),
+            Wanting::Name => WrongWord::NoWord("--name", "name"),
+            Wanting::Numbers => WrongWord::NoWord("--only", "number"),
+        }
+    }
+}
 
 /// What the words after the command ask for.
 #[derive(Drop)]
@@ -74,56 +107,99 @@ struct Options<'a> {
     partial: bool,
     to: Option<&'a str>,
     name: Option<&'a str>,
-    only: Option<&'a str>,
+    /// The lists of numbers, which add up.
+    only: Vec<&'a str>,
     help: bool,
 }
 
-/// Sorts the words. It refuses an option that is none, an empty word, and an option with no word
-/// after it that wants one.
-fn read_options<'a>(rt: &HostRuntime, words: &'a [String]) -> Result<Options<'a>, Fault> {
-    let mut options = Options {
-        words: Vec::new(rt.alloc()),
-        force: false,
-        all: false,
-        shards: false,
-        partial: false,
-        to: None,
-        name: None,
-        only: None,
-        help: false,
-    };
-    let mut before = "";
-    for word in words {
-        let word = word.as_str();
-        match (before, word) {
-            (_, "") => return Err(Fault::Usage(WrongWord::Empty)),
-            ("--to", _) => options.to = Some(word),
-            ("--name", _) => options.name = Some(word),
-            ("--only", _) => options.only = Some(word),
-            (_, "--force") => options.force = true,
-            (_, "--all") => options.all = true,
-            (_, "--shards") => options.shards = true,
-            (_, "--partial") => options.partial = true,
-            (_, "--help") => options.help = true,
-            (_, "--to" | "--name" | "--only") => {}
-            _ if word.starts_with("--") => {
-                return Err(Fault::Usage(WrongWord::Option(owned(rt, word)?)));
-            }
-            _ => options.words.push(word)?,
+impl<'a> Options<'a> {
+    /// None, and no word.
+    fn new(rt: &HostRuntime) -> Options<'a> {
+        Options {
+            words: Vec::new(rt.alloc()),
+            force: false,
+            all: false,
+            shards: false,
+            partial: false,
+            to: None,
+            name: None,
+            only: Vec::new(rt.alloc()),
+            help: false,
         }
-        before = if takes_word(before) { "" } else { word };
     }
-    match before {
-        "--to" => Err(Fault::Usage(WrongWord::NoWord("--to", "folder"))),
-        "--name" => Err(Fault::Usage(WrongWord::NoWord("--name", "name"))),
-        "--only" => Err(Fault::Usage(WrongWord::NoWord("--only", "number"))),
-        _ => Ok(options),
+
+    /// Takes the word after an option that wants one.
+    fn take(&mut self, option: Wanting, word: &'a str) -> Result<(), Fault> {
+        match option {
+            Wanting::Folder => self.to = Some(only_one(self.to, "--to", word)?),
+            Wanting::Name => self.name = Some(only_one(self.name, "--name", word)?),
+            Wanting::Numbers => self.only.push(word)?,
+        }
+        Ok(())
+    }
+
+    /// Takes an option that wants no word. It refuses one that is none.
+    fn set(&mut self, rt: &HostRuntime, option: &str) -> Result<(), Fault> {
+        match option {
+            "--force" => self.force = true,
+            "--all" => self.all = true,
+            "--shards" => self.shards = true,
+            "--partial" => self.partial = true,
+            "--help" | "-h" => self.help = true,
+            _ => return Err(Fault::Usage(WrongWord::Option(owned(rt, option)?))),
+        }
+        Ok(())
     }
 }
 
-/// Whether the word is an option that wants a word after it.
-fn takes_word(word: &str) -> bool {
-    matches!(word, "--to" | "--name" | "--only")
+/// The word after an option, which has none before.
+fn only_one<'a>(
+    before: Option<&'a str>,
+    option: &'static str,
+    word: &'a str,
+) -> Result<&'a str, Fault>
+    ensures { OnOk result (before.entry ≡ None) }
+{
+    match before {
+        None => Ok(word),
+        Some(_) => Err(Fault::Usage(WrongWord::Twice(option))),
+    }
+}
+
+/// Sorts the words. It refuses an option that is none, an empty word, and an option that wants a
+/// word and has none, or has two. After `--` no word is an option.
+fn read_options<'a>(rt: &HostRuntime, words: &'a [String]) -> Result<Options<'a>, Fault> {
+    let mut options = Options::new(rt);
+    let mut wanting = None;
+    let mut have_ended = false;
+    for word in words {
+        let word = word.as_str();
+        if word.is_empty() {
+            return Err(Fault::Usage(WrongWord::Empty));
+        }
+        if let Some(option) = wanting {
+            options.take(option, word)?;
+            wanting = None;
+        } else if have_ended || !is_option(word) {
+            options.words.push(word)?;
+        } else if word == "--" {
+            have_ended = true;
+        } else {
+            wanting = Wanting::named(word);
+            if wanting.is_none() {
+                options.set(rt, word)?;
+            }
+        }
+    }
+    match wanting {
+        Some(option) => Err(Fault::Usage(option.without_word())),
+        None => Ok(options),
+    }
+}
+
+/// Whether a word is an option, where it does not stand behind `--`.
+fn is_option(word: &str) -> bool {
+    word.starts_with("--") || word == "-h"
 }
 
 /// Refuses an option that is given, and that the command does not take.
@@ -139,7 +215,7 @@ fn check_options(
         (options.partial, "--partial"),
         (options.to.is_some(), "--to"),
         (options.name.is_some(), "--name"),
-        (options.only.is_some(), "--only"),
+        (!options.only.is_empty(), "--only"),
     ];
     for (is_given, option) in &given {
         if *is_given && !taken.contains(option) {
@@ -153,25 +229,33 @@ fn check_options(
 fn number(rt: &HostRuntime, name: &'static str, word: &str) -> Result<u32, Fault>
     ensures { IfOk result (λ number. 1 ≤ number) }
 {
-    match word.parse::<u32>() {
-        Ok(number) if number >= 1 && number <= MOST_SHARDS => Ok(number),
+    match number_written(rt, word)? {
+        Some(number) if number >= 1 && number <= MOST_SHARDS => Ok(number),
         _ => Err(Fault::Usage(WrongWord::Number(name, owned(rt, word)?))),
     }
 }
 
-/// The numbers that the word after `--only` lists, with commas between them, where it is given.
+/// The numbers that the words after `--only` list, where it is given.
 fn numbers(rt: &HostRuntime, options: &Options) -> Result<Option<Vec<u32>>, Fault> {
-    let Some(word) = options.only else {
+    if options.only.is_empty() {
         return Ok(None);
-    };
+    }
     let mut numbers = Vec::new(rt.alloc());
-    for part in word.split(',') {
-        match part.parse::<u32>() {
-            Ok(number) if number < MOST_SHARDS => numbers.push(number)?,
-            _ => return Err(Fault::Usage(WrongWord::Only(owned(rt, word)?))),
-        }
+    for list in &options.only {
+        add_numbers(rt, list, &mut numbers)?;
     }
     Ok(Some(numbers))
+}
+
+/// Adds the numbers that the word lists, with commas between them.
+fn add_numbers(rt: &HostRuntime, list: &str, numbers: &mut Vec<u32>) -> Result<(), Fault> {
+    for part in list.split(',') {
+        match number_written(rt, part)? {
+            Some(number) if number < MOST_SHARDS => numbers.push(number)?,
+            _ => return Err(Fault::Usage(WrongWord::Only(owned(rt, list)?))),
+        }
+    }
+    Ok(())
 }
 
 /// `MIN TOTAL FILE`: the shard files of the file, or of standard input.
@@ -187,6 +271,7 @@ fn split(rt: &HostRuntime, options: &Options) -> Result<(), Fault> {
     }
     match (*file, options.name) {
         ("-", Some(name)) => {
+            check_name(rt, name)?;
             splitting::split_stream(rt, min, total, name, options.to, options.force)
         }
         ("-", None) => Err(Fault::Usage(WrongWord::NoName)),
@@ -195,9 +280,42 @@ fn split(rt: &HostRuntime, options: &Options) -> Result<(), Fault> {
     }
 }
 
+/// Refuses a name before the numbers of shard files that no file can have.
+fn check_name(rt: &HostRuntime, name: &str) -> Result<(), Fault> {
+    if can_be_file(name) {
+        return Ok(());
+    }
+    Err(Fault::Usage(WrongWord::Name(owned(rt, name)?)))
+}
+
 /// The fault of words that are not as many as are wanted.
 fn wrong_count(wanted: &'static str, options: &Options) -> Fault {
     Fault::Usage(WrongWord::Count(wanted, options.words.len()))
+}
+
+/// The fault of words that are not as many as are wanted, or as `--shards` wants. Where the first
+/// is named as a shard file, in place of the file, it says what is to be given.
+fn wrong_files(
+    rt: &HostRuntime,
+    wanted: &'static str,
+    with_shards: &'static str,
+    options: &Options,
+) -> Result<Fault, Fault> {
+    if options.shards {
+        return Ok(wrong_count(with_shards, options));
+    }
+    let Some(first) = options.words.first() else {
+        return Ok(wrong_count(wanted, options));
+    };
+    match name_before_number(rt, first)? {
+        Some(file) => Ok(Fault::Usage(WrongWord::Shards(
+            wanted,
+            options.words.len(),
+            owned(rt, file)?,
+            with_shards,
+        ))),
+        None => Ok(wrong_count(wanted, options)),
+    }
 }
 
 /// The shard files that the words mean: those beside the one file, or with these names. There is
@@ -219,16 +337,16 @@ fn join(rt: &HostRuntime, options: &Options) -> Result<(), Fault> {
         &["--force", "--all", "--shards", "--partial"],
     )?;
     let words = options.words.as_slice();
-    let (split_off, names) = if options.shards {
-        (words.split_first(), "OUT SHARD ..")
+    let split_off = if options.shards {
+        words.split_first()
     } else {
-        (words.split_last(), "FILE OUT")
+        words.split_last()
     };
     let Some((out, rest)) = split_off else {
-        return Err(wrong_count(names, options));
+        return Err(wrong_files(rt, "FILE OUT", "OUT SHARD ..", options)?);
     };
     let Some(wanted) = wanted_of(rest, options.shards) else {
-        return Err(wrong_count(names, options));
+        return Err(wrong_files(rt, "FILE OUT", "OUT SHARD ..", options)?);
     };
     if options.partial && *out == joining::STANDARD_OUTPUT {
         return Err(Fault::Usage(WrongWord::PartialStream));
@@ -263,13 +381,11 @@ fn repair(rt: &HostRuntime, options: &Options) -> Result<(), Fault> {
         &["--force", "--all", "--shards", "--only"],
     )?;
     let Some((name, wanted)) = repaired(options.words.as_slice(), options.shards) else {
-        let names = if options.shards {
-            "NAME SHARD .."
-        } else {
-            "FILE"
-        };
-        return Err(wrong_count(names, options));
+        return Err(wrong_files(rt, "FILE", "NAME SHARD ..", options)?);
     };
+    if options.shards {
+        check_name(rt, name)?;
+    }
     let only = numbers(rt, options)?;
     let order = repairing::Order {
         wanted,
@@ -285,9 +401,8 @@ fn repair(rt: &HostRuntime, options: &Options) -> Result<(), Fault> {
 /// where not all are there and fit.
 fn check(rt: &HostRuntime, options: &Options) -> Result<(), Fault> {
     check_options(options, "check", &["--all", "--shards"])?;
-    let names = if options.shards { "SHARD .." } else { "FILE" };
     let Some(wanted) = wanted_of(options.words.as_slice(), options.shards) else {
-        return Err(wrong_count(names, options));
+        return Err(wrong_files(rt, "FILE", "SHARD ..", options)?);
     };
     let Checked { text, fault } = checking::check(rt, &wanted, options.all)?;
     print(rt, text.as_str())?;
@@ -321,32 +436,82 @@ fn words_given(rt: &HostRuntime) -> Result<Vec<String>, Fault> {
     }
 }
 
-/// Does what the words ask for. Options may stand anywhere after the first.
-fn run(rt: &HostRuntime) -> Result<(), Fault> {
-    let words = words_given(rt)?;
-    let Some((command, rest)) = words.split_first() else {
-        return Err(Fault::Usage(WrongWord::NoCommand));
-    };
-    let options = read_options(rt, rest)?;
-    match command.as_str() {
-        "--help" => print(rt, HELP),
-        "--version" => print(rt, VERSION),
-        "split" | "join" | "repair" | "check" | "clean" if options.help => print(rt, HELP),
-        "split" => split(rt, &options),
-        "join" => join(rt, &options),
-        "repair" => repair(rt, &options),
-        "check" => check(rt, &options),
-        "clean" => clean(rt, &options),
-        word => Err(Fault::Usage(WrongWord::Command(owned(rt, word)?))),
+/// The command that the first word names, where it names one. No memory is taken.
+fn command_given(rt: &HostRuntime) -> Option<Command> {
+    let mut room = [0u8; 8];
+    match rt.arg(1, &mut room) {
+        Ok(length) => Command::named(&room[..length]),
+        Err(_) => None,
     }
 }
 
-fn main(rt: HostRuntime) -> ExitCode {
-    match run(&rt) {
-        Ok(()) => ExitCode::SUCCESS,
-        Err(fault) => {
-            let _told = eprintln!(rt; "{fault}");
-            ExitCode::from(fault.status())
-        }
+/// Does what the words ask for, of which the first names this command, or none.
+fn run(rt: &HostRuntime, command: Option<Command>) -> Result<(), Fault> {
+    let words = words_given(rt)?;
+    let Some((first, rest)) = words.split_first() else {
+        return Err(Fault::Usage(WrongWord::NoCommand));
+    };
+    match command {
+        Some(command) => run_command(rt, command, rest),
+        None => answer(rt, first.as_str(), rest),
     }
+}
+
+/// Does what the command asks for. Options may stand anywhere among the words.
+fn run_command(rt: &HostRuntime, command: Command, words: &[String]) -> Result<(), Fault> {
+    let options = read_options(rt, words)?;
+    if options.help {
+        return print(rt, HELP);
+    }
+    match command {
+        Command::Split => split(rt, &options),
+        Command::Join => join(rt, &options),
+        Command::Repair => repair(rt, &options),
+        Command::Check => check(rt, &options),
+        Command::Clean => clean(rt, &options),
+    }
+}
+
+/// Answers a first word that is no command: it asks what the program is, or how it is used.
+fn answer(rt: &HostRuntime, word: &str, rest: &[String]) -> Result<(), Fault> {
+    match (word, rest) {
+        ("help" | "--help" | "-h", []) => print(rt, HELP),
+        ("--version" | "-V", []) => print(rt, VERSION),
+        ("help", [name]) => explain(rt, name.as_str()),
+        ("help" | "--help" | "-h" | "--version" | "-V", _) => {
+            Err(Fault::Usage(WrongWord::NoMore(owned(rt, word)?)))
+        }
+        _ => Err(Fault::Usage(WrongWord::Command(owned(rt, word)?))),
+    }
+}
+
+/// Says how the command with this name is used.
+fn explain(rt: &HostRuntime, name: &str) -> Result<(), Fault> {
+    match Command::named(name.as_bytes()) {
+        Some(command) => {
+            print!(rt; "usage: {}", command.usage())?;
+            Ok(())
+        }
+        None => Err(Fault::Usage(WrongWord::Command(owned(rt, name)?))),
+    }
+}
+
+/// Says on standard error why the work was not done, and where the words are wrong how the program
+/// is used; and gives the status.
+fn refuse(rt: &HostRuntime, fault: &Fault, command: Option<Command>) -> Status {
+    let _told = eprintln!(rt; "{fault}");
+    let status = fault.status(command.is_some_and(|command| command.is_judging()));
+    if status == Status::Usage {
+        print_usage(rt, command);
+    }
+    status
+}
+
+fn main(rt: HostRuntime) -> ExitCode {
+    let command = command_given(&rt);
+    let status = match run(&rt, command) {
+        Ok(()) => Status::Done,
+        Err(fault) => refuse(&rt, &fault, command),
+    };
+    ExitCode::from(status.code())
 }

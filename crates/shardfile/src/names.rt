@@ -1,5 +1,8 @@
 //! The names of shard files.
 
+ghost use Rattle.std.specs.Prelude.{◌≡◌, IfOk, IfSome};
+ghost use Rattle.std.specs.Fmt.{decimal};
+
 use crate::fault::Fault;
 use crate::output::{Identity, owned};
 use shard_format::header::MOST_SHARDS;
@@ -47,11 +50,36 @@ pub fn number_in(rt: &HostRuntime, file: &str, name: &str) -> Result<Option<u32>
     let Some(digits) = rest.strip_prefix('.') else {
         return Ok(None);
     };
-    let Ok(number) = digits.parse::<u32>() else {
+    Ok(number_written(rt, digits)?.filter(|number| *number < MOST_SHARDS))
+}
+
+/// The number that a word is in decimal digits, with no sign before them and no needless zero.
+pub fn number_written(rt: &HostRuntime, word: &str) -> Result<Option<u32>, Fault>
+    ensures { IfOk result (λ answer. IfSome answer (λ number. word.now ≡ decimal number)) }
+{
+    let Ok(number) = word.parse::<u32>() else {
         return Ok(None);
     };
-    let is_so_written = shard_name(rt, file, number)?.as_str() == name;
-    Ok((is_so_written && number < MOST_SHARDS).then_some(number))
+    let digits = format!(in rt.alloc(); "{number}")?;
+    Ok((digits.as_str() == word).then_some(number))
+}
+
+/// What a name has before a point and the number of a shard, where it ends with these.
+pub fn name_before_number<'a>(rt: &HostRuntime, name: &'a str) -> Result<Option<&'a str>, Fault> {
+    let Some((file, _)) = name.rsplit_once('.') else {
+        return Ok(None);
+    };
+    let is_numbered = number_in(rt, file, name)?.is_some();
+    Ok((is_numbered && can_be_file(file)).then_some(file))
+}
+
+/// Whether a file can have the name: its last part is there, and neither `.` nor `..`.
+pub fn can_be_file(name: &str) -> bool {
+    let last = match name.rsplit_once('/') {
+        Some((_, last)) => last,
+        None => name,
+    };
+    !matches!(last, "" | "." | "..")
 }
 
 /// Whether the name is that of a shard of the file, in the file's folder, however each is spelled.

@@ -195,6 +195,9 @@ impl Partial {
         };
         match passed {
             Ok(()) => Ok(()),
+            Err(error) if error.kind() == ErrorKind::InvalidInput => {
+                Err(Fault::TooLong(owned(rt, self.path.as_str())?))
+            }
             Err(error) => Err(self.fault(rt, error)?),
         }
     }

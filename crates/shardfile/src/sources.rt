@@ -4,7 +4,7 @@ ghost use Rattle.std.specs.Prelude.{◌≤◌, IfOk, IfSome};
 ghost use Rattle.shard_format.specs.Splits.{IsPossible};
 
 use crate::fault::Fault;
-use crate::names::{Wanted, numbers_there, shard_name};
+use crate::names::{Wanted, name_before_number, numbers_there, shard_name};
 use crate::output::{MOST_KEPT_OPEN, owned, rights_of};
 use math_codec::codec;
 use shard_blocks::cells_for;
@@ -309,9 +309,41 @@ fn split_of(rt: &HostRuntime, wanted: &Wanted, files: &[ShardFile]) -> Result<He
         )),
         Choice::None => match most_common(&headers) {
             Some(split) => Ok(split),
-            None => Err(Fault::NoShard(owned(rt, wanted.label())?)),
+            None => Err(no_shard(rt, wanted)?),
         },
     }
+}
+
+/// The fault of files of which none counts. Where the name that is meant is that of a shard file,
+/// it says what is to be given in its place.
+fn no_shard(rt: &HostRuntime, wanted: &Wanted) -> Result<Fault, Fault> {
+    let label = owned(rt, wanted.label())?;
+    let Wanted::Beside(name) = wanted else {
+        return Ok(Fault::NoShard(label));
+    };
+    if let Some(file) = file_of_shard(rt, name)? {
+        let named = format!(in rt.alloc();
+            "{file}, without a number, or --shards and shard files"
+        )?;
+        return Ok(Fault::IsShard(label, named));
+    }
+    if is_shard_file(rt, name)? {
+        return Ok(Fault::IsShard(label, owned(rt, "--shards and shard files")?));
+    }
+    Ok(Fault::NoShard(label))
+}
+
+/// What a name has before the number of a shard, where a shard file of that is there.
+fn file_of_shard(rt: &HostRuntime, name: &str) -> Result<Option<String>, Fault> {
+    let Some(file) = name_before_number(rt, name)? else {
+        return Ok(None);
+    };
+    for number in &numbers_there(rt, file)? {
+        if is_shard_file(rt, shard_name(rt, file, *number)?.as_str())? {
+            return Ok(Some(owned(rt, file)?));
+        }
+    }
+    Ok(None)
 }
 
 /// The name of the first file of this split.

@@ -28,7 +28,7 @@ returns c =
     let long : length rest ≡ 8 * length cells = length-take-le k (drop from old) (omega (arith, all)) ∙ omega (arith, c.requires) in
     let size : length room ≡ 8 * length cells = c.write.auto.room ∙ long in
     let none : drop (length cells) (spelled_words rest) ≡ [] = drop_all (length cells) (spelled_words rest) (omega (arith, length-spelled rest, long)) in
-    let words : spelled_words room ≡ map number cells = c.write.ensures ∙ ap (λ (xs : List ℕ). map number cells ++ xs) none ∙ append-nil (map number cells) in
+    let words : spelled_words room ≡ map number cells = c.write.ensures.written ∙ ap (λ (xs : List ℕ). map number cells ++ xs) none ∙ append-nil (map number cells) in
     let parts : put_mid from k old room ≡ take from old ++ room =
     ap (λ (xs : List ℕ). take from old ++ (room ++ xs)) (drop_all k (drop from old) (omega (arith, all))) ∙ ap (λ (xs : List ℕ). take from old ++ xs) (append-nil room) in
     let back : drop from (put_mid from k old room) ≡ room =
