@@ -1,12 +1,12 @@
-// Loaded before the C library, this looks at the calls by which files are opened, locked, written to the device and named, and
-// refuses one of them or does something before it. `.ci/shardfile` builds and loads it. Environment variables say what:
+// Loaded before the C library, this looks at the calls by which files are opened, looked at, locked, written to the device, named and
+// removed, and refuses some of them or does something before one. `.ci/shardfile` builds and loads it. Environment variables say what:
 //
 // CALLS=FILE            a line for each of these calls: its name, and the name of its file
 // REFUSED=CALL WHICH N  the call that this means fails with the error N
 // BEFORE=CALL WHICH     before the call that this means the shell does what DO says
 //
-// CALL is open, lock, sync or name (both link and rename); WHICH is a number, from 1 on, of the call among those of its kind, or
-// the name that ends that of its file.
+// CALL is open, stat, lock, sync, name (both link and rename) or unlink; WHICH is a number, from 1 on, of the call among those of its
+// kind, a number with + for this call and all after it, or the name that ends that of its file.
 typedef unsigned long size_t;
 extern char *getenv(const char *), *strtok_r(char *, const char *, char **), *strdup(const char *);
 extern int unsetenv(const char *), fork(void), execl(const char *, const char *, ...), waitpid(int, int *, int), strcmp(const char *, const char *), atoi(const char *);
@@ -16,8 +16,8 @@ extern long readlink(const char *, char *, size_t);
 extern void *dlsym(void *, const char *), free(void *), _exit(int);
 extern int *__errno_location(void);
 
-enum { OPEN, LOCK, SYNC, NAME, KINDS };
-static const char *const KIND[KINDS] = {"open", "lock", "sync", "name"};
+enum { OPEN, STAT, LOCK, SYNC, NAME, UNLINK, KINDS };
+static const char *const KIND[KINDS] = {"open", "stat", "lock", "sync", "name", "unlink"};
 static int made[KINDS];
 
 // The next function of this name: -1 is RTLD_NEXT.
@@ -38,7 +38,7 @@ static int is_meant(const char *variable, int kind, const char *path, int *numbe
     int meant = 0;
     if (!value || !*value || !(copy = strdup(value))) return 0;
     if (strcmp(strtok_r(copy, " ", &rest), KIND[kind]) == 0 && (which = strtok_r(0, " ", &rest))) {
-        meant = atoi(which) > 0 ? atoi(which) == made[kind] : ends_with(path, which);
+        meant = atoi(which) > 0 ? atoi(which) == made[kind] || (atoi(which) < made[kind] && ends_with(which, "+")) : ends_with(path, which);
         third = strtok_r(0, " ", &rest);
         if (third) *number = atoi(third);
     }
@@ -89,6 +89,10 @@ int open(const char *path, int flags, ...) {
     __builtin_va_end(rest);
     return is_refused(OPEN, path) ? -1 : really_open(path, flags, mode);
 }
+int statx(int fd, const char *path, int flags, unsigned mask, void *to) {
+    int refused = *path ? is_refused(STAT, path) : is_refused_of(STAT, fd);
+    return refused ? -1 : ((int (*)(int, const char *, int, unsigned, void *))next("statx"))(fd, path, flags, mask, to);
+}
 int flock(int fd, int how) { return is_refused_of(LOCK, fd) ? -1 : ((int (*)(int, int))next("flock"))(fd, how); }
 int fsync(int fd) { return is_refused_of(SYNC, fd) ? -1 : ((int (*)(int))next("fsync"))(fd); }
 int link(const char *from, const char *to) {
@@ -97,3 +101,4 @@ int link(const char *from, const char *to) {
 int rename(const char *from, const char *to) {
     return is_refused(NAME, to) ? -1 : ((int (*)(const char *, const char *))next("rename"))(from, to);
 }
+int unlink(const char *path) { return is_refused(UNLINK, path) ? -1 : ((int (*)(const char *))next("unlink"))(path); }

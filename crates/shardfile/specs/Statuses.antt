@@ -19,6 +19,7 @@ abbrev pub judged : Fault → Status
 judged (faults.Usage _) = Usage
 judged (faults.Unsound _) = Refused
 judged (faults.Stays _) = Refused
+judged (faults.Strays _) = Refused
 judged (faults.NoShard _) = Lost
 judged (faults.IsShard _ _) = Lost
 judged (faults.Length _) = Lost

@@ -2,15 +2,19 @@
 
 use crate::fault::Fault;
 use crate::output::{first_of_run, is_partial_name, owned};
-use std::fs;
 use std::fs::{TryLockError, read_dir};
 use std::io::ErrorKind;
+use std::{fs, io};
+
+/// What the system answers where the file system has no locks: none, no such call, or not of such a
+/// file.
+const NO_LOCKS: [i32; 3] = [37, 38, 95];
 
 /// Removes the partial files in the folder that belong to no run that goes on, and names each on
 /// standard output; so it names those that stay.
 ///
 /// A run holds a lock on its first partial file as long as it has one. It refuses where the file
-/// system has no locks.
+/// system has no locks, or does not say whether there is one.
 pub fn clean(rt: &HostRuntime, folder: &str) -> Result<(), Fault> {
     for name in &partial_names(rt, folder)? {
         let path = format!(in rt.alloc(); "{folder}/{name}")?;
@@ -68,8 +72,18 @@ fn is_free(rt: &HostRuntime, path: &str) -> Result<bool, Fault> {
     match file.try_lock() {
         Ok(()) => Ok(true),
         Err(TryLockError::WouldBlock) => Ok(false),
-        Err(TryLockError::Error(error)) => Err(Fault::NoLock(owned(rt, path)?, error)),
+        Err(TryLockError::Error(error)) if has_no_locks(&error) => {
+            Err(Fault::NoLock(owned(rt, path)?, error))
+        }
+        Err(TryLockError::Error(error)) => Err(Fault::File(owned(rt, path)?, error)),
     }
+}
+
+/// Whether the error says that the file system has no locks.
+fn has_no_locks(error: &io::Error) -> bool {
+    error
+        .raw_os_error()
+        .is_some_and(|code| NO_LOCKS.contains(&code))
 }
 
 /// Removes the file, where another run has not.

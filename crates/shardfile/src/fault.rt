@@ -71,6 +71,10 @@ pub enum Fault {
     Busy(String),
     #[error("refused: {0}: the file system has no locks, by which files of runs that go on are told: {1}")]
     NoLock(String, io::Error),
+    #[error("refused: all files have their names, but second names of them could not be removed: {0}")]
+    SecondNames(io::Error),
+    #[error("refused: more than 65536 files are to be written")]
+    TooManyFiles,
     #[error("refused: {0}: not a regular file")]
     NotRegular(String),
     #[error("refused: {0}: changed while it was read")]
@@ -96,6 +100,8 @@ pub enum Fault {
     Lost(String),
     #[error("refused: {0}: shard files that do not fit stay: repair --force replaces them")]
     Stays(String),
+    #[error("refused: {0}: files that do not fit stay, and repair --force replaces none of them")]
+    Strays(String),
     #[error("refused: {0}: some blocks cannot be restored, and are zeros")]
     Holes(String),
     #[error("refused: {0} is no number of a shard: there are {1}, from 0 on")]
@@ -118,7 +124,7 @@ impl Fault {
         match self {
             Fault::Usage(_) => Status::Usage,
             _ if !is_judging => Status::Refused,
-            Fault::Unsound(_) | Fault::Stays(_) => Status::Refused,
+            Fault::Unsound(_) | Fault::Stays(_) | Fault::Strays(_) => Status::Refused,
             Fault::NoShard(_) | Fault::IsShard(..) | Fault::Length(_) => Status::Lost,
             Fault::TooFew(..) | Fault::Block(..) | Fault::Lost(_) => Status::Lost,
             _ => Status::Unknown,

@@ -6,6 +6,7 @@ ghost use Rattle.std.specs.Fmt.{decimal};
 use crate::fault::Fault;
 use crate::output::{Identity, owned};
 use shard_format::header::MOST_SHARDS;
+use std::collections::BTreeSet;
 use std::fs;
 use std::fs::read_dir;
 use std::io::ErrorKind;
@@ -104,6 +105,24 @@ pub fn folder_and_name(rt: &HostRuntime, file: &str) -> Result<(String, String),
         Some((folder, name)) => Ok((format!(in rt.alloc(); "{folder}/")?, owned(rt, name)?)),
         None => Ok((owned(rt, "./")?, owned(rt, file)?)),
     }
+}
+
+/// The names, in their order, but those of files that names before them have: the same last names in
+/// one folder, however that is spelled. Files that are linked are several.
+pub fn distinct<'a>(rt: &HostRuntime, names: &[&'a str]) -> Result<Vec<&'a str>, Fault> {
+    let mut seen = BTreeSet::new(rt.alloc());
+    let mut kept = Vec::new(rt.alloc());
+    for name in names {
+        let (folder, last) = folder_and_name(rt, name)?;
+        let is_new = match fs::metadata(rt, folder.as_str()) {
+            Ok(metadata) => seen.insert((Identity::new(&metadata), last))?,
+            Err(_) => true,
+        };
+        if is_new {
+            kept.push(*name)?;
+        }
+    }
+    Ok(kept)
 }
 
 /// The numbers of the shards that lie beside the file, in rising order. Other files are passed

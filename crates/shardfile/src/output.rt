@@ -8,23 +8,29 @@ use crate::fault::Fault;
 use crate::names::folder_and_name;
 use math_base::fields::goldilocks::F;
 use shard_blocks::{cells_for, split_block_rows_at};
-use shard_format::header::{HEADER_SIZE, Header, header_bytes};
+use shard_format::header::{HEADER_SIZE, Header, MOST_SHARDS, header_bytes};
 use shard_format::records::write_record;
 use std::alloc::Global;
-use std::fs;
 use std::fs::{File, Metadata, OpenOptions, Permissions};
 use std::io::{self, ErrorKind, Seek};
 use std::os::unix::fs::{FileExt, MetadataExt, OpenOptionsExt, PermissionsExt};
 use std::random::RandomSource;
+use std::{fs, slice};
 
 /// How many shard files are kept open at once, at most. Others are opened again for each block.
 pub const MOST_KEPT_OPEN: usize = 24;
+
+/// How many files a run writes at most.
+const MOST_FILES: u32 = MOST_SHARDS;
 
 /// The rights that a file can give: to read, write and run it, for its owner, its group and all.
 const ALL_RIGHTS: u32 = 0o777;
 
 /// Those that the program itself needs to write a file.
 const OWN_RIGHTS: u32 = 0o600;
+
+/// The right that a file that is written gives in any case: to its owner, to read it.
+const OWNER_READS: u32 = 0o400;
 
 /// The text, as one that an error can carry.
 pub fn owned(rt: &HostRuntime, text: &str) -> Result<String, Fault> {
@@ -37,7 +43,7 @@ pub fn rights_of(metadata: &Metadata) -> u32 {
 }
 
 /// Which file of the system it is.
-#[derive(Clone, Copy, PartialEq, Eq)]
+#[derive(Clone, Copy, PartialEq, Eq, PartialOrd, Ord)]
 pub struct Identity {
     device: u64,
     node: u64,
@@ -112,15 +118,26 @@ fn parts_of_name(name: &str) -> Option<(&str, &str)> {
     inner.split_once('-')
 }
 
-/// Whether the name is one that partial files have.
+/// Whether the name is one that partial files have, as `name_beside` writes it.
 pub fn is_partial_name(name: &str) -> bool {
     let Some((token, number)) = parts_of_name(name) else {
         return false;
     };
     token.len() == 16
-        && token.bytes().all(|byte| byte.is_ascii_hexdigit())
-        && !number.is_empty()
-        && number.bytes().all(|byte| byte.is_ascii_digit())
+        && token
+            .bytes()
+            .all(|byte| matches!(byte, b'0'..=b'9' | b'a'..=b'f'))
+        && is_partial_number(number)
+}
+
+/// Whether the digits are a number of one of the files of a run, as it is written: with no zero
+/// before it.
+fn is_partial_number(digits: &str) -> bool {
+    digits.bytes().all(|byte| byte.is_ascii_digit())
+        && (digits == "0" || !digits.starts_with('0'))
+        && digits
+            .parse::<u32>()
+            .is_ok_and(|number| number < MOST_FILES)
 }
 
 /// The name, in the folder, of the first partial file of the run that the one with this name is of.
@@ -256,20 +273,30 @@ impl Partial {
 
     /// Gives the file its final name. Where none may be replaced, this is by a second name, which
     /// the system gives only where nothing is there; by renaming only where it gives no second
-    /// names.
+    /// names. The fault is `SecondNames` where the file has its final name, and the other one too.
     fn take_name(&self, rt: &HostRuntime) -> Result<(), Fault> {
         if self.force {
             return self.rename(rt);
         }
         match fs::hard_link(rt, self.beside.as_str(), self.path.as_str()) {
-            Ok(()) => {
-                self.remove(rt);
-                Ok(())
-            }
+            Ok(()) => self.remove_second_name(rt),
             Err(error) if error.kind() == ErrorKind::AlreadyExists => {
                 Err(Fault::Exists(owned(rt, self.path.as_str())?))
             }
             Err(_) => self.rename(rt),
+        }
+    }
+
+    /// Takes from the file that has its final name the one that it had before, or says on standard
+    /// error that this stays. No memory is taken.
+    fn remove_second_name(&self, rt: &HostRuntime) -> Result<(), Fault> {
+        match fs::remove_file(rt, self.beside.as_str()) {
+            Err(error) if error.kind() != ErrorKind::NotFound => {
+                let (beside, path) = (self.beside.as_str(), self.path.as_str());
+                let _told = eprintln!(rt; "{beside}: stays, a second name of {path}");
+                Err(Fault::SecondNames(error))
+            }
+            _ => Ok(()),
         }
     }
 
@@ -302,11 +329,13 @@ fn write_first_to(rt: &HostRuntime, path: &str, bytes: &[u8]) -> io::Result<()> 
     file.write_all_at(bytes, 0)
 }
 
-/// Has the system write all of the file to the device, and takes away each right but these.
+/// Has the system write all of the file to the device, and takes away each right but these, and but
+/// that of its owner to read it.
 fn settle_file(file: &File, rights: u32) -> io::Result<()> {
     let given = rights_of(&file.metadata()?);
-    if given & rights != given {
-        file.set_permissions(Permissions::from_mode(given & rights))?;
+    let kept = (given & rights) | OWNER_READS;
+    if kept != given {
+        file.set_permissions(Permissions::from_mode(kept))?;
     }
     file.sync_all()
 }
@@ -398,11 +427,13 @@ impl Restored {
         let Some(partial) = &self.partial else {
             return Ok(());
         };
-        let done = named(rt, partial, self.length);
-        if done.is_err() {
-            partial.remove(rt);
+        match settled(rt, partial, self.length) {
+            Ok(folders) => all_named(rt, slice::from_ref(partial), folders),
+            Err(fault) => {
+                partial.remove(rt);
+                Err(fault)
+            }
         }
-        done
     }
 
     /// Removes what was written.
@@ -413,13 +444,12 @@ impl Restored {
     }
 }
 
-/// Gives a file of this length its final name. No memory is taken once it has it.
-fn named(rt: &HostRuntime, partial: &Partial, length: u64) -> Result<(), Fault> {
+/// Gives a file this length, and has the system write it to the device. It answers its folder, as
+/// `all_settled` does.
+fn settled(rt: &HostRuntime, partial: &Partial, length: u64) -> Result<Vec<String>, Fault> {
     partial.lengthen(rt, length)?;
     partial.settle(rt)?;
-    let (folder, _) = folder_and_name(rt, partial.path.as_str())?;
-    partial.take_name(rt)?;
-    sync_folder(rt, folder)
+    folders_of(rt, slice::from_ref(partial))
 }
 
 /// Shard files of one split that are being written. Their headers are written last.
@@ -457,7 +487,8 @@ impl ShardFiles {
         }
     }
 
-    /// Adds a file for the shards with this index. Its header is zeros.
+    /// Adds a file for the shards with this index. Its header is zeros. It refuses where there are as
+    /// many as a run writes.
     pub fn add(
         &mut self,
         rt: &HostRuntime,
@@ -467,13 +498,17 @@ impl ShardFiles {
     ) -> Result<(), Fault>
         requires index { index < self.old.split.total }
         requires below { All (λ i. i < self.old.split.total) self.old.indices.items }
+        ensures few { OnOk result (length self.new.indices.items ≤ 65536) }
         ensures left { self.new.left ≡ self.old.left }
         ensures split { self.new.split ≡ self.old.split }
         ensures below { All (λ i. i < self.new.split.total) self.new.indices.items }
     {
+        let number = self.indices.len();
+        if number >= MOST_FILES as usize {
+            return Err(Fault::TooManyFiles);
+        }
         self.partials.reserve(1)?;
         self.indices.push(index)?;
-        let number = self.partials.len();
         let mut partial = Partial::create(rt, path, how, number)?;
         let written = partial.append(rt, &[0; HEADER_SIZE]);
         if number >= MOST_KEPT_OPEN {
@@ -551,6 +586,7 @@ impl ShardFiles {
     ///
     /// Where it refuses before a file has its name, what was written is removed. Later all of it stays,
     /// under final names or not: files that were replaced are gone, and these may be all there is.
+    /// Where all have their names, and some a second one too, it refuses at the end.
     pub fn finish(self, rt: &HostRuntime) -> Result<(), Fault>
         requires { self.left ≡ 0 }
     {
@@ -677,30 +713,43 @@ fn all_settled(
 
 /// Gives the files their final names, the first one last, and has the system write their folders to
 /// the device. Where a name cannot be given, and no file has its own yet, all are removed; else
-/// those without one are told on standard error.
+/// those without one are told on standard error. Where second names stay it refuses at the end.
 fn all_named(rt: &HostRuntime, partials: &[Partial], folders: Vec<String>) -> Result<(), Fault> {
+    let mut done = Ok(());
     for place in (0..partials.len()).rev() {
-        if let Err(fault) = partials[place].take_name(rt) {
-            if place + 1 == partials.len() {
-                remove_all(rt, partials);
-            } else {
-                print_unnamed(rt, &partials[..place + 1]);
+        match partials[place].take_name(rt) {
+            Ok(()) => {}
+            Err(Fault::SecondNames(error)) => done = Err(Fault::SecondNames(error)),
+            Err(fault) => {
+                if place + 1 == partials.len() {
+                    remove_all(rt, partials);
+                } else {
+                    print_unnamed(rt, &partials[..place + 1]);
+                }
+                return Err(fault);
             }
-            return Err(fault);
         }
     }
     for folder in folders {
         sync_folder(rt, folder)?;
     }
-    Ok(())
+    done
 }
 
-/// Says on standard error of each file that is there which final name it has not.
+/// Says on standard error of each file which final name it has not, but where it is gone.
 fn print_unnamed(rt: &HostRuntime, partials: &[Partial]) {
     for partial in partials {
         let (beside, path) = (partial.beside.as_str(), partial.path.as_str());
-        if fs::symlink_metadata(rt, beside).is_ok() {
+        if !is_gone(rt, beside) {
             let _told = eprintln!(rt; "{beside}: is {path}, without its name");
         }
+    }
+}
+
+/// Whether the system says that nothing has the name.
+fn is_gone(rt: &HostRuntime, path: &str) -> bool {
+    match fs::symlink_metadata(rt, path) {
+        Ok(_) => false,
+        Err(error) => error.kind() == ErrorKind::NotFound,
     }
 }

@@ -40,20 +40,12 @@ impl<'a> Order<'a> {
         }
     }
 
-    /// Whether the file has the place of a shard with this number, so that none is missing.
-    fn has_place(&self, file: &ShardFile) -> bool {
-        match self.wanted {
-            Wanted::Beside(_) => true,
-            Wanted::Named(_) => file.is_used(),
-        }
-    }
-
     /// The number of the shards that are written in place of the file: none where it is sound, or
     /// where it has the place of no shard that is meant.
     fn number_to_replace(&self, file: &ShardFile, total: u32) -> Option<u32>
         ensures { IfSome result (λ number. number < total) }
     {
-        if file.is_sound() || !self.has_place(file) {
+        if file.is_sound() {
             return None;
         }
         let number = file.number?;
@@ -68,6 +60,11 @@ impl<'a> Order<'a> {
         };
         is_meant && !file.is_sound() && !file.is_replaced
     }
+
+    /// Whether the file is unsound and stays, and would be replaced where unsound files may be.
+    fn is_spared(&self, file: &ShardFile, total: u32) -> bool {
+        !file.is_replaced && self.number_to_replace(file, total).is_some()
+    }
 }
 
 /// Writes the shard files that are missing, and where unsound ones may be replaced, these; names on
@@ -80,7 +77,7 @@ pub fn repair(rt: &HostRuntime, order: &Order) -> Result<(), Fault> {
     let mut names = Vec::new(rt.alloc());
     let done = repair_files(rt, order, &mut files, &mut names);
     print_unsound_files(rt, &files)?;
-    done?;
+    let total = done?;
     names.sort_by_key(|named: &(u32, String)| named.0)?;
     for (_, name) in &names {
         let _told = eprintln!(rt; "{name}: written");
@@ -89,32 +86,33 @@ pub fn repair(rt: &HostRuntime, order: &Order) -> Result<(), Fault> {
         return Ok(());
     }
     let label = owned(rt, order.wanted.label())?;
-    if order.force {
-        Err(Fault::Unsound(label))
-    } else {
+    if files.iter().any(|file| order.is_spared(file, total)) {
         Err(Fault::Stays(label))
+    } else {
+        Err(Fault::Strays(label))
     }
 }
 
-/// Writes the files, and lists them by number and name.
+/// Writes the files, and lists them by number and name. It answers how many shards there are.
 fn repair_files(
     rt: &HostRuntime,
     order: &Order,
     files: &mut Vec<ShardFile>,
     names: &mut Vec<(u32, String)>,
-) -> Result<(), Fault> {
+) -> Result<u32, Fault> {
     let split = gather(rt, &order.wanted, files, false)?;
     check_count(rt, &order.wanted, &split, files)?;
     check_numbers(order, split.total)?;
     let how = Manner::new(rt, order.force, first_rights(files))?;
     let mut new = ShardFiles::new(rt.alloc(), &split);
     match write_files(rt, order, &split, files, &how, &mut new, names) {
-        Ok(()) => new.finish(rt),
+        Ok(()) => new.finish(rt)?,
         Err(fault) => {
             new.discard(rt);
-            Err(fault)
+            return Err(fault);
         }
     }
+    Ok(split.total)
 }
 
 /// Refuses where a number is given that no shard has.
@@ -151,10 +149,8 @@ fn missing_numbers(
     let mut next = 0u32;
     for file in files {
         if let Some(number) = file.number {
-            if order.has_place(file) {
-                add_numbers(order, next, number.min(total), &mut missing)?;
-                next = number.saturating_add(1);
-            }
+            add_numbers(order, next, number.min(total), &mut missing)?;
+            next = number.saturating_add(1);
         }
     }
     add_numbers(order, next, total, &mut missing)?;

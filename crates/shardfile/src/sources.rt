@@ -4,7 +4,7 @@ ghost use Rattle.std.specs.Prelude.{◌≤◌, IfOk, IfSome};
 ghost use Rattle.shard_format.specs.Splits.{IsPossible};
 
 use crate::fault::Fault;
-use crate::names::{Wanted, name_before_number, numbers_there, shard_name};
+use crate::names::{Wanted, distinct, name_before_number, numbers_there, shard_name};
 use crate::output::{MOST_KEPT_OPEN, owned, rights_of};
 use math_codec::codec;
 use shard_blocks::cells_for;
@@ -27,6 +27,8 @@ const ANOTHER_FINGERPRINT: &str = "has a header that does not fit its fingerprin
 
 const DAMAGED_HEADER: &str = "has a damaged header";
 
+const IMPOSSIBLE_HEADER: &str = "has a header with numbers of no split";
+
 /// A file that can be read, and what is known of it.
 #[derive(Drop)]
 pub struct Source {
@@ -39,7 +41,7 @@ pub struct Source {
 /// A file that may hold shards.
 #[derive(Drop)]
 pub struct ShardFile {
-    /// The number in its name; where any name is taken, that of its header, where it has one.
+    /// The number in its name; where any name is taken, that of its header, where this is of the split.
     pub number: Option<u32>,
     /// Its name.
     pub name: String,
@@ -169,7 +171,10 @@ fn open_source(
 pub fn is_shard_file(rt: &HostRuntime, name: &str) -> Result<bool, Fault> {
     match open_source(rt, name, false)? {
         Ok(_) => Ok(true),
-        Err(why) => Ok(matches!(why, ANOTHER_VERSION | ANOTHER_FINGERPRINT | DAMAGED_HEADER)),
+        Err(why) => Ok(matches!(
+            why,
+            ANOTHER_VERSION | ANOTHER_FINGERPRINT | DAMAGED_HEADER | IMPOSSIBLE_HEADER
+        )),
     }
 }
 
@@ -181,6 +186,7 @@ fn read_header(alloc: Global, bytes: &[u8]) -> Result<Result<Header, &'static st
         Err(codec::Error::EndOfBuffer) => Ok(Err("has no whole header")),
         Err(codec::Error::Invalid(_, "mark")) => Ok(Err("has no header of a shard file")),
         Err(codec::Error::Invalid(_, "version")) => Ok(Err(ANOTHER_VERSION)),
+        Err(codec::Error::Invalid(_, "number")) => Ok(Err(IMPOSSIBLE_HEADER)),
         Err(codec::Error::Invalid(_, "fingerprint")) => Ok(Err(ANOTHER_FINGERPRINT)),
         Err(_) => Ok(Err(DAMAGED_HEADER)),
     }
@@ -228,9 +234,9 @@ fn open_beside(rt: &HostRuntime, file: &str, files: &mut Vec<ShardFile>) -> Resu
     Ok(())
 }
 
-/// Adds the files with these names.
+/// Adds the files with these names, each once.
 fn open_named(rt: &HostRuntime, names: &[&str], files: &mut Vec<ShardFile>) -> Result<(), Fault> {
-    for name in names {
+    for name in &distinct(rt, names)? {
         let is_kept = files.len() < MOST_KEPT_OPEN;
         files.push(shard_file(rt, owned(rt, name)?, None, is_kept)?)?;
     }
@@ -255,7 +261,7 @@ fn leave_out_others(file: &mut ShardFile, split: &Header) {
     let number = file.number.unwrap_or(source.header.index);
     match source.header.judged(number, split) {
         Verdict::Fits => {}
-        Verdict::Impossible => file.leave_out("has a header with numbers of no split"),
+        Verdict::Impossible => file.leave_out(IMPOSSIBLE_HEADER),
         Verdict::OtherIndex => file.leave_out("has the header of a shard with another number"),
         Verdict::OtherSplit => file.leave_out("has a header of another split"),
     }
@@ -267,8 +273,8 @@ fn leave_out_others(file: &mut ShardFile, split: &Header) {
 /// Of the splits of which MIN shards or more are there, each number counted once, it is that of
 /// which the most are there, and where there is none such, one of which the most are there. It
 /// refuses where no shard is there, where equally many of two such splits are, and, unless the last
-/// blocks may be missing, where no file of the split is as long as its header says or longer: then
-/// its last block is in none.
+/// blocks may be missing or fewer than MIN shards are there, where no file of the split is as long as
+/// its header says or longer: then its last block is in none.
 pub fn gather(
     rt: &HostRuntime,
     wanted: &Wanted,
@@ -284,12 +290,15 @@ pub fn gather(
     let split = split_of(rt, wanted, files)?;
     for shard in files.iter_mut() {
         leave_out_others(shard, &split);
+        if matches!(wanted, Wanted::Named(_)) && !shard.is_used() {
+            shard.number = None;
+        }
     }
     let is_long = may_end_before || files.iter().any(|shard| is_whole(shard));
     for shard in files.iter_mut() {
         note_length(shard, is_long);
     }
-    if !is_long {
+    if !is_long && count_there(files) >= split.min as usize {
         return Err(Fault::Length(owned(rt, wanted.label())?));
     }
     Ok(split)
