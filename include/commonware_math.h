@@ -9,6 +9,8 @@
  * order N, which is 0xee41f5320c4ea145 to the power 2^(32 - lg).
  *
  * Each function but cwm_version and cwm_status_name answers a status. If it is not CWM_DONE, the call wrote nothing.
+ * A text names statuses in their order: if several apply, the call answers the first of them. If malloc gives no memory,
+ * CWM_OUT_OF_MEMORY may come in place of each but the first.
  *
  * The library keeps nothing between calls, so calls on buffers of their own may run at the same time, in any threads.
  *
@@ -16,7 +18,7 @@
  * measured, with an allocator that copies a block that grows.
  *
  * The caller has to see to what no function can test:
- * - a pointer is not null, also where its length is 0, and is aligned for what it points to;
+ * - a pointer is aligned for what it points to, and is not null; only if its length is 0, it may be null;
  * - the length behind it is true, and below 2^63 bytes;
  * - what is written does not overlap with anything else that is handed in;
  * - malloc, realloc and free are the C library's, or keep its promises;
@@ -98,14 +100,14 @@ static inline const char *cwm_status_name(uint32_t status) {
 uint32_t cwm_status_text(uint32_t status, char *text, size_t m);
 
 /* Writes the value at x of the polynomial with these n coefficients into *out.
- * n is 1 to 2^32 - 1, else CWM_WRONG_SIZE. A word of P or more: CWM_OUT_OF_RANGE. Takes memory for 512 words at
+ * n is 1 to 2^32 - 1, else CWM_WRONG_SIZE. A word of P or more, x too: CWM_OUT_OF_RANGE. Takes memory for 512 words at
  * most, and for 2,048 if n is 2^17 or more. */
 CWM_MUST_USE uint32_t cwm_eval(const uint64_t *coefficients, size_t n, uint64_t x, uint64_t *out);
 
 /* Evaluates polynomials at all points of a domain: row i of the cells holds coefficient i of each polynomial, and gets
  * the values at point i.
- * n cells in rows of `cols`: cols is 1 or more and n is cols times a power of two, 2^32 at most, else CWM_WRONG_SIZE. A
- * word of P or more: CWM_OUT_OF_RANGE. Takes memory for n words, one more a row, and 64. */
+ * n cells in rows of `cols`: cols is 1 or more, n is cols times the number of rows, and that is a power of two, 2^32 at
+ * most, else CWM_WRONG_SIZE. A word of P or more: CWM_OUT_OF_RANGE. Takes memory for n words, one more a row, and 64. */
 CWM_MUST_USE uint32_t cwm_evaluate(uint64_t *cells, size_t n, size_t cols);
 
 /* Goes the way back: row i holds the values at point i, and gets coefficient i of each polynomial.
@@ -125,21 +127,21 @@ CWM_MUST_USE uint32_t cwm_recover(uint64_t *cells, size_t n, size_t cols, const 
  * cells is. Let m rows be filled. Puts in place of the cells the coefficients of polynomials of at most `count`
  * coefficients that have the values of all filled rows but at most (m - count) / 2, rounded down. They are the only such
  * polynomials. Writes the numbers of the wrong rows, rising, over the first of the `room` places of `wrong`, and how many
- * they are into *written. If there are no such polynomials: CWM_INCONSISTENT. If more rows are wrong than that, they may
- * fit other polynomials, and the call then gives these.
- * n, cols, rows and words as for cwm_recover: a row that is not filled is not read. room is rows / 2 or more, else
- * CWM_WRONG_SIZE. count is at most the number of filled rows, else CWM_TOO_FEW. With no wrong row it takes the time of
- * cwm_recover; with some, time grows with their number and with m^2. Takes three times the memory of cwm_recover. */
+ * they are into *written. If more rows are wrong than that, they may fit other polynomials, and the call then gives these.
+ * n, cols and rows are as for cwm_recover, and room is rows / 2 or more, else CWM_WRONG_SIZE. The bytes of `filled` and the
+ * words of filled rows are as for cwm_recover, else CWM_OUT_OF_RANGE; a row that is not filled is not read. count is at most
+ * m, else CWM_TOO_FEW. No such polynomials: CWM_INCONSISTENT. With no wrong row it takes the time of cwm_recover; with some,
+ * time grows with their number and with m^2. Takes three times the memory of cwm_recover. */
 CWM_MUST_USE uint32_t cwm_correct(uint64_t *cells, size_t n, size_t cols, const uint8_t *filled, size_t rows, size_t count,
                                   size_t *wrong, size_t room, size_t *written);
 
 /* Finds the polynomial of k coefficients from its values at n points though some values are wrong, and says which. It
  * has all of the values but at most (n - k) / 2, rounded down, and is the only such polynomial. Writes its coefficients.
  * Writes the places of the wrong values, rising, over the first of the `room` places of `wrong`, and how many they are
- * into *written. If there is no such polynomial: CWM_INCONSISTENT. If more values are wrong than that, they may fit
- * another one.
+ * into *written. If more values are wrong than that, they may fit another polynomial.
  * m is n, k is at most n, and room is (n - k) / 2 or more, else CWM_WRONG_SIZE. A word of P or more:
- * CWM_OUT_OF_RANGE. A point that is there twice: CWM_REPEATED. Time grows with n^2. Takes memory for 9 n words. */
+ * CWM_OUT_OF_RANGE. A point that is there twice: CWM_REPEATED. No such polynomial: CWM_INCONSISTENT. Time grows with n^2.
+ * Takes memory for 9 n words. */
 CWM_MUST_USE uint32_t cwm_decode(const uint64_t *points, size_t n, const uint64_t *values, size_t m, uint64_t *coefficients,
                                  size_t k, size_t *wrong, size_t room, size_t *written);
 
@@ -151,8 +153,9 @@ CWM_MUST_USE uint32_t cwm_weights(const uint64_t *points, size_t n, uint64_t x, 
 
 /* Writes the same weights for the points of a domain that have these n indices; N is `total` rounded up
  * to a power of two. total is 1 or more and m is n, else CWM_WRONG_SIZE. x of P or more: CWM_OUT_OF_RANGE. The indices
- * strictly rise and are below total, else CWM_WRONG_INDEX. Time grows with N lg N if x is zero, and with N lg^2 N at most.
- * Takes memory for 7 N words. */
+ * strictly rise and are below total, else CWM_WRONG_INDEX. If n^2 is at most N lg N, time grows with n^2, and it takes
+ * memory for 4 n words. Else time grows with N lg N if x is zero, and with N lg^2 N at most, and it takes memory for
+ * 7 N words. */
 CWM_MUST_USE uint32_t cwm_weights_at_roots(uint32_t total, const uint32_t *indices, size_t n, uint64_t x, uint64_t *weights,
                                            size_t m);
 
@@ -164,9 +167,9 @@ CWM_MUST_USE uint32_t cwm_weights_at_roots(uint32_t total, const uint32_t *indic
 CWM_MUST_USE uint32_t cwm_encode_poly(const uint64_t *coefficients, size_t n, uint8_t *out, size_t m, size_t *written);
 
 /* Writes the coefficients of the polynomial that the n bytes encode over the first of the m words of out,
- * and their number into *count. n / 8 words are enough; too little room: CWM_WRONG_SIZE. Bytes that
- * are no encoding give their first fault: CWM_INVALID_VARINT, CWM_INVALID_LENGTH, CWM_END_OF_BUFFER,
- * CWM_OUT_OF_RANGE for a word of P or more, CWM_EXTRA_DATA. Takes no memory. */
+ * and their number into *count. Bytes that are no encoding give the fault that comes first in them, whichever it is:
+ * CWM_INVALID_VARINT, CWM_INVALID_LENGTH, CWM_END_OF_BUFFER, CWM_OUT_OF_RANGE for a word of P or more, CWM_EXTRA_DATA.
+ * After these, too little room: CWM_WRONG_SIZE; n / 8 words are enough. Takes no memory. */
 CWM_MUST_USE uint32_t cwm_decode_poly(const uint8_t *bytes, size_t n, uint64_t *out, size_t m, size_t *count);
 
 /* The calls for shards split data of n words, each any uint64_t, into `total` shards, any `min` of which give them back.
@@ -197,20 +200,21 @@ CWM_MUST_USE uint32_t cwm_split(const uint64_t *data, size_t n, uint32_t min, ui
  * forged shard among just `min` changes what comes back. Keep a hash of the data to compare.
  * N is `total` rounded up to a power of two. Takes memory for `min` times the words of a shard, for 9 times N rows of 64
  * words and of the lesser of `min` and the words of a shard, for 3 words for each of the k rows, and for 16,384. A refusal
- * may also take it for N words and one shard. So limit `total` before you join shards from someone you do not trust. */
+ * may also take it for 2 words for each row and one shard. If there are fewer than `min` distinct indices, memory does not
+ * grow with `total`. Else it does: limit `total` before you join shards from someone you do not trust. */
 CWM_MUST_USE uint32_t cwm_join(const uint32_t *indices, size_t k, uint32_t min, uint32_t total, const uint64_t *cells, size_t n,
                                uint64_t *data, size_t m, size_t *written);
 
 /* Does what cwm_join does though some of the shards are wrong, and says which. An index whose shards have unequal cells
  * counts as missing. Let i distinct indices remain. The call finds the only data that at most (i - min) / 2 of them,
  * rounded down, contradict. Writes the positions of the shards that are not shards of the data, rising, over the first
- * of the `room` places of `left_out`, and how many they are into *many. The position of a shard is its row. If there are
- * no such data: CWM_INCONSISTENT. If more shards are wrong than that, they may have other data, and the call then gives
- * these.
- * Sizes, words and statuses as for cwm_join; but there is no CWM_CONFLICT, and CWM_TOO_FEW says that i is below min. room
- * is k or more, else CWM_WRONG_SIZE. With no wrong shard it takes time and memory as cwm_join. Else time grows with k^2 and
- * with the number of wrong shards, and it takes memory for the k rows and 8 words more each, and for 9 times N rows of a
- * shard's words and of 64 more: limit `total` and k. */
+ * of the `room` places of `left_out`, and how many they are into *many. The position of a shard is its row. If more shards
+ * are wrong than that, they may have other data, and the call then gives these.
+ * n is as for cwm_join, and room is k or more, else CWM_WRONG_SIZE. The other statuses are those of cwm_join, in the same
+ * order; but there is no CWM_CONFLICT, CWM_TOO_FEW says that i is below min, and CWM_INCONSISTENT that there are no such data.
+ * With no wrong shard it takes time and memory as cwm_join. Else time grows with k^2 and with the number of wrong shards, and
+ * it takes memory for the k rows and 8 words more each, and, unless i is below min, for 9 times N rows of a shard's words and
+ * of 64 more: limit `total` and k. */
 CWM_MUST_USE uint32_t cwm_join_corrected(const uint32_t *indices, size_t k, uint32_t min, uint32_t total, const uint64_t *cells,
                                          size_t n, uint64_t *data, size_t m, size_t *written, size_t *left_out, size_t room,
                                          size_t *many);
@@ -243,8 +247,9 @@ CWM_MUST_USE uint32_t cwm_join_bytes(const uint32_t *indices, size_t k, uint32_t
  * (i - min) / 2 of them, rounded down, contradict. Writes the positions of the shards that are not shards of the data,
  * rising, over the first of the `room` places of `left_out`, and how many they are into *many. The position of a shard is
  * its row. If more shards are wrong than that, they may have other data, and the call then gives these.
- * Sizes, words and statuses as for cwm_join_bytes; but there is no CWM_CONFLICT, and CWM_TOO_FEW says that i is below min.
- * room is k or more, else CWM_WRONG_SIZE. Takes time and memory as cwm_join_corrected does: limit `total` and k. */
+ * n is as for cwm_join_bytes, and room is k or more, else CWM_WRONG_SIZE. The other statuses are those of cwm_join_bytes, in
+ * the same order; but there is no CWM_CONFLICT, CWM_TOO_FEW says that i is below min, and CWM_INCONSISTENT that there are no
+ * such data. Takes time and memory as cwm_join_corrected does: limit `total` and k. */
 CWM_MUST_USE uint32_t cwm_join_bytes_corrected(const uint32_t *indices, size_t k, uint32_t min, uint32_t total,
                                                const uint8_t *shards, size_t n, uint8_t *data, size_t m, size_t *written,
                                                size_t *left_out, size_t room, size_t *many);

@@ -1,11 +1,33 @@
-/* A claim of 2^32 - 1 shards, which no memory has rows for, is refused at once and not after all memory was filled. Its status is
- * 0 where it is refused; it is run with 16 GiB at most, and ends in three seconds. */
+/* Claims of 2^32 - 1 points or shards, for which no memory has room, are answered at once and not after all memory was filled: what can
+ * be told from what is handed in is told, and the rest is refused. Its status is 0 where all answered as they have to. It is run with
+ * 16 GiB at most, and ends in three seconds. */
 #include "commonware_math.h"
 
+enum { SOME = 2000 };
+
+static uint32_t rising[SOME];
+static uint64_t weights[SOME];
+
 int main(void) {
-  static const uint32_t indices[2] = {0, 1};
+  static const uint32_t indices[2] = {0, 1}, same[2] = {4294967294u, 4294967294u}, opposite[2] = {0, 2147483648u};
   static const uint8_t shards[48];
+  static const uint64_t words[6];
+  const uint32_t total = 4294967295u;
   uint8_t data[48];
-  size_t written = 7;
-  return cwm_join_bytes(indices, 2, 2, 4294967295u, shards, sizeof shards, data, sizeof data, &written) != CWM_OUT_OF_MEMORY;
+  uint64_t back[6], sum = 0;
+  size_t written = 7, wrong[2], many = 7;
+  if (cwm_join_bytes(indices, 2, 2, total, shards, sizeof shards, data, sizeof data, &written) != CWM_OUT_OF_MEMORY) return 1;
+  if (cwm_join_bytes(indices, 1, total, total, shards, 24, data, sizeof data, &written) != CWM_TOO_FEW) return 2;
+  if (cwm_join(indices, 1, total, total, words, 3, back, 6, &written) != CWM_TOO_FEW) return 3;
+  if (cwm_join_corrected(indices, 1, total, total, words, 3, back, 6, &written, wrong, 2, &many) != CWM_TOO_FEW) return 4;
+  if (cwm_join(same, 2, 2, total, words, 6, back, 6, &written) != CWM_TOO_FEW) return 5;
+  if (cwm_join_corrected(same, 2, 2, total, words, 6, back, 6, &written, wrong, 2, &many) != CWM_TOO_FEW) return 6;
+
+  /* between the points 1 and -1 the value at 5 is three times the one, less twice the other */
+  if (cwm_weights_at_roots(total, opposite, 2, 5, weights, 2) != CWM_DONE) return 7;
+  if (weights[0] != 3 || weights[1] != CWM_MODULUS - 2) return 8;
+  /* the weights of any points add up to one */
+  for (uint32_t i = 0; i < SOME; i++) rising[i] = 2147483 * i + 1;
+  if (cwm_weights_at_roots(total, rising, SOME, 5, weights, SOME) != CWM_DONE) return 9;
+  return cwm_eval(weights, SOME, 1, &sum) == CWM_DONE && sum == 1 ? 0 : 10;
 }

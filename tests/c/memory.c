@@ -148,27 +148,27 @@ static void shards(uint32_t min, uint32_t total) {
   count("cwm_split", cwm_split(a, BLOCK / 8, min, total, cells, total * cols), 1, rows * (cols < strip ? cols : strip) + rows);
   count("cwm_split_bytes", cwm_split_bytes(back, BLOCK, min, total, bytes, total * size), 1, rows * (size / 8 < strip ? size / 8 : strip) + rows);
   /* one list as long as the data, the weights or the tables, a strip of the transforms and of a coset, and the rows as they stand */
-  size_t most = min * cols + 9 * (rows * (min < cols ? min : cols) + 64 * rows) + 16384, refused = most + rows + cols;
+  size_t most = min * cols + 9 * (rows * (min < cols ? min : cols) + 64 * rows) + 16384, refused = most + cols;
   for (uint32_t k = min; k <= total; k += total > min ? total - min : 1) {
     count("cwm_join", cwm_join(indices, k, min, total, cells, k * cols, b, CELLS, &written), 1, most + 3 * k);
     count("cwm_join_bytes", cwm_join_bytes(indices, k, min, total, bytes, k * size, back, ROOM, &written), 1, most + 3 * k);
   }
   /* too few; then the first shard a hundred times more */
-  count_of("cwm_join, refused", CWM_TOO_FEW, cwm_join(indices, min - 1, min, total, cells, (min - 1) * cols, b, CELLS, &written), 1, refused + 3 * min);
+  count_of("cwm_join, refused", CWM_TOO_FEW, cwm_join(indices, min - 1, min, total, cells, (min - 1) * cols, b, CELLS, &written), 1, refused + 5 * min);
   size_t k = total + 100;
   for (size_t i = total; i < k; i++) indices[i] = 0, memcpy(cells + i * cols, cells, 8 * cols), memcpy(bytes + i * size, bytes, size);
   count("cwm_join, copies", cwm_join(indices, k, min, total, cells, k * cols, b, CELLS, &written), 1, most + 3 * k);
   count("cwm_join_bytes, copies", cwm_join_bytes(indices, k, min, total, bytes, k * size, back, ROOM, &written), 1, most + 3 * k);
   /* half of the copies wrong: the first index counts as missing */
   for (size_t i = total; i < k; i += 2) cells[i * cols] ^= 1, bytes[i * size + 7] ^= 1;
-  count_of("cwm_join, refused", CWM_CONFLICT, cwm_join(indices, k, min, total, cells, k * cols, b, CELLS, &written), 1, refused + 3 * k);
-  count_of("cwm_join_bytes, refused", CWM_CONFLICT, cwm_join_bytes(indices, k, min, total, bytes, k * size, back, ROOM, &written), 1, refused + 3 * k);
+  count_of("cwm_join, refused", CWM_CONFLICT, cwm_join(indices, k, min, total, cells, k * cols, b, CELLS, &written), 1, refused + 5 * k);
+  count_of("cwm_join_bytes, refused", CWM_CONFLICT, cwm_join_bytes(indices, k, min, total, bytes, k * size, back, ROOM, &written), 1, refused + 5 * k);
   if (min < total) {
     count("cwm_join_corrected, copies", cwm_join_corrected(indices, k, min, total, cells, k * cols, b, CELLS, &written, wrong, k, &many), 1, 9 * words + k * (cols + 8));
     count("cwm_join_bytes_corrected, copies", cwm_join_bytes_corrected(indices, k, min, total, bytes, k * size, back, ROOM, &written, wrong, k, &many), 1, 9 * words + k * (size / 8 + 8));
     cells[0] ^= 1, bytes[7] ^= 1;
-    count_of("cwm_join, refused", CWM_INCONSISTENT, cwm_join(indices, total, min, total, cells, total * cols, b, CELLS, &written), 1, refused + 3 * total);
-    count_of("cwm_join_bytes, refused", CWM_INCONSISTENT, cwm_join_bytes(indices, total, min, total, bytes, total * size, back, ROOM, &written), 1, refused + 3 * total);
+    count_of("cwm_join, refused", CWM_INCONSISTENT, cwm_join(indices, total, min, total, cells, total * cols, b, CELLS, &written), 1, refused + 5 * total);
+    count_of("cwm_join_bytes, refused", CWM_INCONSISTENT, cwm_join_bytes(indices, total, min, total, bytes, total * size, back, ROOM, &written), 1, refused + 5 * total);
     cells[0] ^= 1, bytes[7] ^= 1;
   }
   for (size_t i = total; i < k; i++) indices[i] = i;
@@ -197,6 +197,30 @@ static void large(void) {
   __real_free(data), __real_free(bytes);
 }
 
+/* What claims to be of 2^32 - 1 points or shards takes memory for what is handed in: few weights, and shards of too few distinct
+ * indices, in one copy or in many. */
+static void claims(void) {
+  const uint32_t total = 4294967295u;
+  size_t many, k = 100;
+  for (uint32_t x = 0; x < 2; x++)
+    for (size_t n = 64; n <= ROWS; n *= 4)
+      count("cwm_weights_at_roots, few", cwm_weights_at_roots(total, indices, n, 5 * x, b, n), 4, n);
+  fill(a, 3 * k);
+  count_of("cwm_join, one of 2^32 - 1", CWM_TOO_FEW, cwm_join(indices, 1, total, total, a, 3, b, CELLS, &written), 1, 64);
+  count_of("cwm_join_corrected, one of 2^32 - 1", CWM_TOO_FEW,
+           cwm_join_corrected(indices, 1, total, total, a, 3, b, CELLS, &written, wrong, 1, &many), 1, 64);
+  count_of("cwm_join_bytes, one of 2^32 - 1", CWM_TOO_FEW,
+           cwm_join_bytes(indices, 1, total, total, filled, 24, (uint8_t *)b, CELLS, &written), 1, 64);
+  count_of("cwm_join_bytes_corrected, one of 2^32 - 1", CWM_TOO_FEW,
+           cwm_join_bytes_corrected(indices, 1, total, total, filled, 24, (uint8_t *)b, CELLS, &written, wrong, 1, &many), 1, 64);
+  /* as many rows as are wanted, all copies of the last of 2^32 - 1 */
+  for (size_t i = 0; i < k; i++) indices[i] = total - 1, memcpy(a + 3 * i, a, 24);
+  count_of("cwm_join, copies of one of 2^32 - 1", CWM_TOO_FEW, cwm_join(indices, k, 2, total, a, 3 * k, b, CELLS, &written), 1, 5 * k + 64);
+  count_of("cwm_join_corrected, copies of one", CWM_TOO_FEW,
+           cwm_join_corrected(indices, k, 2, total, a, 3 * k, b, CELLS, &written, wrong, k, &many), 1, 11 * k + 64);
+  for (size_t i = 0; i < k; i++) indices[i] = i;
+}
+
 int main(void) {
   static const uint32_t splits[][2] = {{1, 1}, {1, 2}, {1, 16}, {2, 3}, {10, 16}, {9, 17}, {20, 40}, {129, 200}, {200, 200}, {100, 1000}, {500, 1000}, {1000, 2000}};
   a = block(8 * CELLS), b = block(8 * CELLS), c = block(8 * CELLS), filled = block(ROWS);
@@ -204,10 +228,11 @@ int main(void) {
   for (uint32_t i = 0; i < ROWS; i++) indices[i] = i;
   domains();
   points();
+  claims();
   for (size_t i = 0; i < sizeof splits / sizeof *splits; i++) shards(splits[i][0], splits[i][1]);
   large();
   for (int i = 0; calls[i].name != NULL; i++) {
-    printf("%-34s %5.2f of %5.2f%s\n", calls[i].name, calls[i].taken, calls[i].most, calls[i].taken > calls[i].most ? ", FAILED" : "");
+    printf("%-42s %5.2f of %5.2f%s\n", calls[i].name, calls[i].taken, calls[i].most, calls[i].taken > calls[i].most ? ", FAILED" : "");
     failed |= calls[i].taken > calls[i].most;
   }
   return failed;

@@ -30,6 +30,8 @@ static uint32_t interpolate(void) { return cwm_interpolate(now.cells, ROWS * COL
 static uint32_t recover(void) { return cwm_recover(now.cells, ROWS * COLS, COLS, now.filled, ROWS); }
 static uint32_t weights(void) { return cwm_weights(now.points, POINTS, 5, now.weights, POINTS); }
 static uint32_t weights_at_roots(void) { return cwm_weights_at_roots(ROWS, now.indices, POINTS, 5, now.weights, POINTS); }
+/* so many that all points of the domain are taken */
+static uint32_t weights_at_many(void) { return cwm_weights_at_roots(SMALL, now.indices, SMALL, 5, now.weights, SMALL); }
 static uint32_t encode_poly(void) { return cwm_encode_poly(now.points, POINTS, now.bytes, sizeof now.bytes, &now.count); }
 static uint32_t decode_poly(void) { return cwm_decode_poly(now.bytes, 8 * 3 + 1, now.weights, POINTS, &now.count); }
 static uint32_t split(void) { return cwm_split(now.data, WORDS, MIN, TOTAL, now.shards, TOTAL * SHARD); }
@@ -66,6 +68,7 @@ static const struct {
     {"cwm_decode_poly", decode_poly, 0}, {"cwm_decode", decode, 1},     {"cwm_correct", correct, 1},
     {"cwm_join_corrected", join_corrected, 1}, {"cwm_join_bytes_corrected", join_bytes_corrected, 1},
     {"cwm_split_bytes", split_bytes, 1}, {"cwm_join_bytes", join_bytes, 1}, {"cwm_shard_bytes_sizes", shard_bytes_sizes, 0},
+    {"cwm_weights_at_roots, many", weights_at_many, 1},
 };
 
 /* Words below P, a third of the rows missing, three coefficients in bytes, shards of words and of bytes with rising indices,

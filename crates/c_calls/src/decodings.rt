@@ -46,6 +46,8 @@ pub fn decode_words(
         × (count.new ≡ count.old)) }
     ensures repeated { IfOk result (λ status. status ≡ Repeated
         → ¬ (AreApart same (elements points.now))) }
+    ensures distinct { IfOk result (λ status. status ≡ Inconsistent
+        → AreApart same (elements points.now)) }
     ensures none { IfOk result (λ status. status ≡ Inconsistent
         → ¬ (HasNearWords points.now values.now (length coefficients.old))) }
     ensures statuses { IfOk result

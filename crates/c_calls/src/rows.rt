@@ -45,6 +45,7 @@ fn lg_of(n: usize) -> Option<u8>
 /// domain.
 pub fn lg_of_rows(n: usize, cols: usize) -> Option<u8>
     ensures lg { IfSome result (λ lg. (lg ≤ 32) × HasRowsFor n cols (2 ^ lg)) }
+    ensures rows { IfSome result (λ _. HasRows n cols) }
     ensures some { HasRows n cols → IsSome result }
 {
     if cols == 0 || n % cols != 0 {

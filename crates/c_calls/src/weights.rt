@@ -1,16 +1,20 @@
 //! Weights by which values at some points give the value elsewhere, as words.
 
-ghost use Rattle.std.specs.Prelude.{◌≡◌, ◌↔◌, ◌<◌, ◌^◌, IsTrue, IfOk, OnOk, OnErr, length};
+ghost use Rattle.std.specs.Prelude.{◌≡◌, ◌↔◌, ◌<◌, ◌≤◌, ◌^◌, IsTrue, IfOk, OnOk, OnErr, length};
+ghost use Rattle.std.specs.Int.{IsNextPowerOfTwo};
 ghost use Rattle.std.specs.Map.{values_of};
 ghost use Rattle.math_numbers.specs.Goldilocks.{P};
-ghost use Rattle.c_calls.specs.WordElements.{AreElements};
+ghost use Rattle.math_base.specs.Elements.{root_of};
+ghost use Rattle.math_transforms.specs.RootWeights.{powers_at};
+ghost use Rattle.c_calls.specs.WordElements.{AreElements, goldilocks};
 ghost use Rattle.c_calls.specs.WordWeights.{AreRising, AreWordWeights, AreWordWeightsAtRoots};
 
 use crate::elements::{elements, write_numbers};
-use commonware_math::algebra::Mem;
+use commonware_math::algebra::{Mem, Ring};
 use commonware_math::fields::goldilocks::F;
 use commonware_math::ntt::lagrange_coefficients_at;
 use commonware_math::poly::weights_at;
+use math_transforms::transform::lg_of;
 use std::alloc::Global;
 use std::num::NonZeroU32;
 
@@ -64,9 +68,60 @@ fn copied(alloc: Global, indices: &[u32]) -> Mem<Vec<u32>>
     Ok(out)
 }
 
+/// The lg of the number of points of the domain: `total` rounded up to a power of two.
+fn lg_of_total(total: NonZeroU32) -> u8
+    ensures power { IsNextPowerOfTwo total.value (2 ^ result) }
+    ensures small { result ≤ 32 }
+{
+    lg_of((total.get() as usize).next_power_of_two())
+}
+
+/// The powers of the root of order 2^lg with these exponents. Each is found by itself.
+fn points_at(alloc: Global, lg: u8, indices: &[u32]) -> Mem<Vec<F>>
+    requires { lg ≤ 32 }
+    ensures { IfOk result (λ v. v.items ≡ powers_at goldilocks (root_of lg) indices.now) }
+{
+    let Some(root) = F::root_of_unity(lg) else {
+        unreachable!()
+    };
+    let mut out = Vec::with_capacity(alloc, indices.len())?;
+    for index in indices {
+        out.push(root.exp(alloc, &[u64::from(*index)])?)?;
+    }
+    Ok(out)
+}
+
+/// Whether so few points take less time by themselves than among all of a domain of 2^lg points: a
+/// product for each pair of them, or one for each point of the domain and level of a transform.
+fn are_few(count: usize, lg: u8) -> bool
+    requires { lg ≤ 32 }
+{
+    count.saturating_mul(count) <= (lg as usize) << lg
+}
+
 /// Writes the weights for the value at x over the powers, with these exponents, of the root whose
-/// order is `total` rounded up to a power of two.
-pub fn write_weights_at_roots(
+/// order is `total` rounded up to a power of two: from these powers alone.
+fn write_weights_at_powers(
+    alloc: Global,
+    total: NonZeroU32,
+    indices: &[u32],
+    x: u64,
+    weights: &mut [u64],
+) -> Mem<()>
+    requires count { length weights.old ≡ length indices.now }
+    requires rising { AreRising total.value indices.now }
+    requires x_below { x < P }
+    ensures ok { OnOk result (AreWordWeightsAtRoots x total.value indices.now weights.new) }
+    ensures err { OnErr result (weights.new ≡ weights.old) }
+{
+    let points = points_at(alloc, lg_of_total(total), indices)?;
+    let found = weights_at(alloc, &points, &F::from(x))?;
+    write_numbers(weights, &found);
+    Ok(())
+}
+
+/// Writes the same weights from all points of the domain.
+fn write_weights_in_domain(
     alloc: Global,
     total: NonZeroU32,
     indices: &[u32],
@@ -82,5 +137,31 @@ pub fn write_weights_at_roots(
     let found = lagrange_coefficients_at(alloc, total, copied(alloc, indices)?, &F::from(x))?;
     let found = values(alloc, found)?;
     write_numbers(weights, &found);
+    Ok(())
+}
+
+/// Writes the weights for the value at x over the powers, with these exponents, of the root whose
+/// order is `total` rounded up to a power of two.
+///
+/// Few points of a large domain are taken by themselves, so that time and memory do not grow with
+/// `total`.
+pub fn write_weights_at_roots(
+    alloc: Global,
+    total: NonZeroU32,
+    indices: &[u32],
+    x: u64,
+    weights: &mut [u64],
+) -> Mem<()>
+    requires count { length weights.old ≡ length indices.now }
+    requires rising { AreRising total.value indices.now }
+    requires x_below { x < P }
+    ensures ok { OnOk result (AreWordWeightsAtRoots x total.value indices.now weights.new) }
+    ensures err { OnErr result (weights.new ≡ weights.old) }
+{
+    if are_few(indices.len(), lg_of_total(total)) {
+        write_weights_at_powers(alloc, total, indices, x, weights)?;
+    } else {
+        write_weights_in_domain(alloc, total, indices, x, weights)?;
+    }
     Ok(())
 }

@@ -7,7 +7,7 @@
 //! arguments.
 #![tactic(auto)]
 
-ghost use Rattle.std.specs.Prelude.{◌≡◌, ◌≢◌, ◌<◌, ◌≤◌, ◌-◌, ◌+◌, ◌*◌, ◌++◌, ◌⊎◌, ℕ, List, length, replicate, All};
+ghost use Rattle.std.specs.Prelude.{◌≡◌, ◌≢◌, ◌↔◌, ◌<◌, ◌≤◌, ◌-◌, ◌+◌, ◌*◌, ◌++◌, ◌⊎◌, ℕ, List, length, replicate, All};
 ghost use Rattle.math_numbers.specs.Goldilocks.{P};
 ghost use Rattle.math_theory.specs.Interpolation.{AreApart};
 ghost use Rattle.math_theory.specs.Recovery.{count_true};
@@ -47,7 +47,8 @@ pub extern "C" fn cwm_eval(alloc: Global, coefficients: &[u64], x: u64, out: &mu
         → IsCoefficientCount (length coefficients.now) × AreElements coefficients.now × (x < P) }
     ensures kept { result ≢ done → out.new ≡ out.old }
     ensures range { result ≡ out_of_range → ¬ (AreElements coefficients.now × (x < P)) }
-    ensures size { result ≡ wrong_size → ¬ (IsCoefficientCount (length coefficients.now)) }
+    ensures first { IsCoefficientCount (length coefficients.now) → P ≤ x → result ≡ out_of_range }
+    ensures size { result ≡ wrong_size ↔ ¬ (IsCoefficientCount (length coefficients.now)) }
     ensures statuses { result ≤ wrong_size }
 {
     if !is_coefficient_count(coefficients.len()) {
@@ -72,7 +73,7 @@ pub extern "C" fn cwm_evaluate(alloc: Global, cells: &mut [u64], cols: usize) ->
     ensures values { result ≡ done → AreWordValues cols cells.old cells.new }
     ensures kept { result ≢ done → cells.new ≡ cells.old }
     ensures range { result ≡ out_of_range → ¬ (AreElements cells.old) }
-    ensures size { result ≡ wrong_size → ¬ (HasRows (length cells.old) cols) }
+    ensures size { result ≡ wrong_size ↔ ¬ (HasRows (length cells.old) cols) }
     ensures statuses { result ≤ wrong_size }
 {
     let Some(lg) = lg_of_rows(cells.len(), cols) else {
@@ -95,7 +96,7 @@ pub extern "C" fn cwm_interpolate(alloc: Global, cells: &mut [u64], cols: usize)
     ensures values { result ≡ done → AreWordValues cols cells.new cells.old }
     ensures kept { result ≢ done → cells.new ≡ cells.old }
     ensures range { result ≡ out_of_range → ¬ (AreElements cells.old) }
-    ensures size { result ≡ wrong_size → ¬ (HasRows (length cells.old) cols) }
+    ensures size { result ≡ wrong_size ↔ ¬ (HasRows (length cells.old) cols) }
     ensures statuses { result ≤ wrong_size }
 {
     let Some(lg) = lg_of_rows(cells.len(), cols) else {
@@ -118,10 +119,10 @@ pub extern "C" fn cwm_interpolate(alloc: Global, cells: &mut [u64], cols: usize)
 pub extern "C" fn cwm_recover(alloc: Global, cells: &mut [u64], cols: usize, filled: &[u8]) -> u32
     ensures recovered { result ≡ done → AreRecoveredWords cols cells.old filled.now cells.new }
     ensures kept { result ≢ done → cells.new ≡ cells.old }
-    ensures range { result ≡ out_of_range
-        → ¬ (All (λ b. b ≤ 1) filled.now × AreFilledElements cols cells.old filled.now) }
+    ensures range { result ≡ out_of_range ↔ HasRowsFor (length cells.old) cols (length filled.now)
+        × ¬ (All (λ b. b ≤ 1) filled.now × AreFilledElements cols cells.old filled.now) }
     ensures size { result ≡ wrong_size
-        → ¬ (HasRowsFor (length cells.old) cols (length filled.now)) }
+        ↔ ¬ (HasRowsFor (length cells.old) cols (length filled.now)) }
     ensures statuses { result ≤ wrong_size }
 {
     let Some(lg) = lg_of_these_rows(cells.len(), cols, filled.len()) else {
@@ -155,9 +156,10 @@ pub extern "C" fn cwm_correct(
     ensures none { result ≡ inconsistent → ¬ (HaveNearRows cols count cells.old filled.now) }
     ensures few { result ≡ too_few → count_true (truth filled.now) < count }
     ensures enough { result ≡ inconsistent → count ≤ count_true (truth filled.now) }
-    ensures range { result ≡ out_of_range
-        → ¬ (All (λ b. b ≤ 1) filled.now × AreFilledElements cols cells.old filled.now) }
-    ensures size { result ≡ wrong_size → ¬ (HasRowsFor (length cells.old) cols (length filled.now)
+    ensures range { result ≡ out_of_range ↔ (HasRowsFor (length cells.old) cols (length filled.now)
+        × (length filled.now ≤ 2 * length wrong.old + 1))
+        × ¬ (All (λ b. b ≤ 1) filled.now × AreFilledElements cols cells.old filled.now) }
+    ensures size { result ≡ wrong_size ↔ ¬ (HasRowsFor (length cells.old) cols (length filled.now)
         × (length filled.now ≤ 2 * length wrong.old + 1)) }
     ensures statuses { (result ≤ too_few) ⊎ (result ≡ inconsistent) }
 {
@@ -181,8 +183,9 @@ pub extern "C" fn cwm_correct(
 pub extern "C" fn cwm_weights(alloc: Global, points: &[u64], x: u64, weights: &mut [u64]) -> u32
     ensures weights { result ≡ done → AreWordWeights x points.now weights.new }
     ensures kept { result ≢ done → weights.new ≡ weights.old }
-    ensures range { result ≡ out_of_range → ¬ (AreElements points.now × (x < P)) }
-    ensures size { result ≡ wrong_size → length weights.old ≢ length points.now }
+    ensures range { result ≡ out_of_range ↔ (length weights.old ≡ length points.now)
+        × ¬ (AreElements points.now × (x < P)) }
+    ensures size { result ≡ wrong_size ↔ length weights.old ≢ length points.now }
     ensures statuses { result ≤ wrong_size }
 {
     if weights.len() != points.len() {
@@ -208,10 +211,13 @@ pub extern "C" fn cwm_weights_at_roots(
 ) -> u32
     ensures weights { result ≡ done → AreWordWeightsAtRoots x total indices.now weights.new }
     ensures kept { result ≢ done → weights.new ≡ weights.old }
-    ensures range { result ≡ out_of_range → P ≤ x }
+    ensures range { result ≡ out_of_range
+        ↔ ((0 < total) × (length weights.old ≡ length indices.now)) × (P ≤ x) }
     ensures size { result ≡ wrong_size
-        → ¬ ((0 < total) × (length weights.old ≡ length indices.now)) }
-    ensures index { result ≡ wrong_index → ¬ (AreRising total indices.now) }
+        ↔ ¬ ((0 < total) × (length weights.old ≡ length indices.now)) }
+    ensures index { result ≡ wrong_index
+        ↔ ((0 < total) × (length weights.old ≡ length indices.now)) × (x < P)
+        × ¬ (AreRising total indices.now) }
     ensures statuses { (result ≤ wrong_size) ⊎ (result ≡ wrong_index) }
 {
     let Some(nonzero) = NonZeroU32::new(total) else {
@@ -251,8 +257,12 @@ pub extern "C" fn cwm_decode(
     ensures none { result ≡ inconsistent
         → ¬ (HasNearWords points.now values.now (length coefficients.old)) }
     ensures repeated { result ≡ repeated → ¬ (AreApart same (elements points.now)) }
-    ensures range { result ≡ out_of_range → ¬ (AreElements points.now × AreElements values.now) }
-    ensures size { result ≡ wrong_size → ¬ (HasDecodingSizes (length points.now) (length values.now)
+    ensures distinct { result ≡ inconsistent → AreApart same (elements points.now) }
+    ensures range { result ≡ out_of_range
+        ↔ HasDecodingSizes (length points.now) (length values.now)
+        (length coefficients.old) (length wrong.old)
+        × ¬ (AreElements points.now × AreElements values.now) }
+    ensures size { result ≡ wrong_size ↔ ¬ (HasDecodingSizes (length points.now) (length values.now)
         (length coefficients.old) (length wrong.old)) }
     ensures statuses { (result ≤ wrong_size) ⊎ ((result ≡ inconsistent) ⊎ (result ≡ repeated)) }
 {
@@ -282,7 +292,9 @@ pub extern "C" fn cwm_encode_poly(
     ensures taken { result ≡ done
         → IsCoefficientCount (length coefficients.now) × AreElements coefficients.now }
     ensures kept { result ≢ done → (out.new ≡ out.old) × (written.new ≡ written.old) }
-    ensures range { result ≡ out_of_range → ¬ (AreElements coefficients.now) }
+    ensures first { ¬ (IsCoefficientCount (length coefficients.now)) → result ≡ wrong_size }
+    ensures range { result ≡ out_of_range
+        ↔ IsCoefficientCount (length coefficients.now) × ¬ (AreElements coefficients.now) }
     ensures size { result ≡ wrong_size → ¬ (IsCoefficientCount (length coefficients.now)
         × (length (polynomial_spelling coefficients.now) ≤ length out.old)) }
     ensures statuses { result ≤ wrong_size }
@@ -338,8 +350,9 @@ pub extern "C" fn cwm_decode_poly(
 pub extern "C" fn cwm_shard_sizes(words: usize, min: u32, total: u32, cells: &mut usize) -> u32
     ensures sizes { result ≡ done → IsSplit min total × HaveShardSizes words min total cells.new }
     ensures kept { result ≢ done → cells.new ≡ cells.old }
-    ensures size { result ≡ wrong_size → (n : ℕ) → ¬ (HaveShardSizes words min total n) }
-    ensures mismatch { result ≡ mismatch → ¬ (IsSplit min total) }
+    ensures size { result ≡ wrong_size
+        ↔ IsSplit min total × ((n : ℕ) → ¬ (HaveShardSizes words min total n)) }
+    ensures mismatch { result ≡ mismatch ↔ ¬ (IsSplit min total) }
     ensures statuses { (result ≡ done) ⊎ (result ≡ wrong_size) ⊎ (result ≡ mismatch) }
 {
     if !is_split(min, total) {
@@ -364,9 +377,9 @@ pub extern "C" fn cwm_split(
     ensures shards { result ≡ done
         → IsSplit min total × AreWordsOfShards words.now min total cells.new }
     ensures kept { result ≢ done → cells.new ≡ cells.old }
-    ensures size { result ≡ wrong_size → ¬ ((n : ℕ) × HaveShardSizes (length words.now) min total n
-        × (length cells.old ≡ total * n)) }
-    ensures mismatch { result ≡ mismatch → ¬ (IsSplit min total) }
+    ensures size { result ≡ wrong_size ↔ IsSplit min total × ¬ ((n : ℕ)
+        × HaveShardSizes (length words.now) min total n × (length cells.old ≡ total * n)) }
+    ensures mismatch { result ≡ mismatch ↔ ¬ (IsSplit min total) }
     ensures statuses { (result ≡ done) ⊎ (result ≡ out_of_memory) ⊎ (result ≡ wrong_size)
         ⊎ (result ≡ mismatch) }
 {
@@ -398,7 +411,9 @@ pub extern "C" fn cwm_join(
         → (words : List ℕ) × DoJoinTo words min total indices.now cells.now
         × (written.new ≡ length words) × StandInFront words out.old out.new }
     ensures kept { result ≢ done → (out.new ≡ out.old) × (written.new ≡ written.old) }
-    ensures range { result ≡ out_of_range → ¬ (AreElements cells.now) }
+    ensures first { ¬ (AreRowsOf (length cells.now) (length indices.now)) → result ≡ wrong_size }
+    ensures range { result ≡ out_of_range
+        ↔ AreRowsOf (length cells.now) (length indices.now) × ¬ (AreElements cells.now) }
     ensures size { result ≡ wrong_size → ¬ (AreRowsOf (length cells.now) (length indices.now))
         ⊎ ((words : List ℕ) × DoJoinTo words min total indices.now cells.now
         × (length out.old < length words)) }
@@ -444,7 +459,10 @@ pub extern "C" fn cwm_join_corrected(
         × (many.new ≡ length positions) × StandInFront positions left_out.old left_out.new }
     ensures kept { result ≢ done → (out.new ≡ out.old) × (written.new ≡ written.old)
         × (left_out.new ≡ left_out.old) × (many.new ≡ many.old) }
-    ensures range { result ≡ out_of_range → ¬ (AreElements cells.now) }
+    ensures first { ¬ (AreRowsOf (length cells.now) (length indices.now)
+        × (length indices.now ≤ length left_out.old)) → result ≡ wrong_size }
+    ensures range { result ≡ out_of_range ↔ (AreRowsOf (length cells.now) (length indices.now)
+        × (length indices.now ≤ length left_out.old)) × ¬ (AreElements cells.now) }
     ensures size { result ≡ wrong_size → ¬ (AreRowsOf (length cells.now) (length indices.now))
         ⊎ ((length left_out.old < length indices.now)
         ⊎ ((words positions : List ℕ) × DoCorrectTo words positions min total indices.now cells.now
@@ -483,8 +501,9 @@ pub extern "C" fn cwm_join_corrected(
 pub extern "C" fn cwm_shard_bytes_sizes(bytes: usize, min: u32, total: u32, size: &mut usize) -> u32
     ensures sizes { result ≡ done → IsSplit min total × HaveShardBytes bytes min total size.new }
     ensures kept { result ≢ done → size.new ≡ size.old }
-    ensures size { result ≡ wrong_size → (n : ℕ) → ¬ (HaveShardBytes bytes min total n) }
-    ensures mismatch { result ≡ mismatch → ¬ (IsSplit min total) }
+    ensures size { result ≡ wrong_size
+        ↔ IsSplit min total × ((n : ℕ) → ¬ (HaveShardBytes bytes min total n)) }
+    ensures mismatch { result ≡ mismatch ↔ ¬ (IsSplit min total) }
     ensures statuses { (result ≡ done) ⊎ (result ≡ wrong_size) ⊎ (result ≡ mismatch) }
 {
     if !is_split(min, total) {
@@ -509,9 +528,9 @@ pub extern "C" fn cwm_split_bytes(
     ensures shards { result ≡ done
         → IsSplit min total × AreBytesOfShards block.now min total shards.new }
     ensures kept { result ≢ done → shards.new ≡ shards.old }
-    ensures size { result ≡ wrong_size → ¬ ((n : ℕ) × HaveShardBytes (length block.now) min total n
-        × (length shards.old ≡ total * n)) }
-    ensures mismatch { result ≡ mismatch → ¬ (IsSplit min total) }
+    ensures size { result ≡ wrong_size ↔ IsSplit min total × ¬ ((n : ℕ)
+        × HaveShardBytes (length block.now) min total n × (length shards.old ≡ total * n)) }
+    ensures mismatch { result ≡ mismatch ↔ ¬ (IsSplit min total) }
     ensures statuses { (result ≡ done) ⊎ (result ≡ out_of_memory) ⊎ (result ≡ wrong_size)
         ⊎ (result ≡ mismatch) }
 {
@@ -543,7 +562,10 @@ pub extern "C" fn cwm_join_bytes(
         → (block : List ℕ) × DoJoinToBlock block min total indices.now shards.now
         × (written.new ≡ length block) × StandInFront block out.old out.new }
     ensures kept { result ≢ done → (out.new ≡ out.old) × (written.new ≡ written.old) }
-    ensures range { result ≡ out_of_range → ¬ (SpellElements shards.now) }
+    ensures first { ¬ (AreByteRowsOf (length shards.now) (length indices.now))
+        → result ≡ wrong_size }
+    ensures range { result ≡ out_of_range
+        ↔ AreByteRowsOf (length shards.now) (length indices.now) × ¬ (SpellElements shards.now) }
     ensures size { result ≡ wrong_size → ¬ (AreByteRowsOf (length shards.now) (length indices.now))
         ⊎ ((block : List ℕ) × DoJoinToBlock block min total indices.now shards.now
         × (length out.old < length block)) }
@@ -589,7 +611,10 @@ pub extern "C" fn cwm_join_bytes_corrected(
         × (many.new ≡ length positions) × StandInFront positions left_out.old left_out.new }
     ensures kept { result ≢ done → (out.new ≡ out.old) × (written.new ≡ written.old)
         × (left_out.new ≡ left_out.old) × (many.new ≡ many.old) }
-    ensures range { result ≡ out_of_range → ¬ (SpellElements shards.now) }
+    ensures first { ¬ (AreByteRowsOf (length shards.now) (length indices.now)
+        × (length indices.now ≤ length left_out.old)) → result ≡ wrong_size }
+    ensures range { result ≡ out_of_range ↔ (AreByteRowsOf (length shards.now) (length indices.now)
+        × (length indices.now ≤ length left_out.old)) × ¬ (SpellElements shards.now) }
     ensures size { result ≡ wrong_size → ¬ (AreByteRowsOf (length shards.now) (length indices.now))
         ⊎ ((length left_out.old < length indices.now)
         ⊎ ((block positions : List ℕ)
@@ -640,7 +665,7 @@ pub extern "C" fn cwm_status_text(status: u32, text: &mut [u8]) -> u32
     ensures text { result ≡ done
         → text.new ≡ text_of status ++ replicate (length text.old - length (text_of status)) 0 }
     ensures kept { result ≢ done → text.new ≡ text.old }
-    ensures size { result ≡ wrong_size → length text.old < 32 }
+    ensures size { result ≡ wrong_size ↔ length text.old < 32 }
     ensures statuses { (result ≡ done) ⊎ (result ≡ wrong_size) }
 {
     if text.len() < 32 {

@@ -10,6 +10,18 @@ module _ {X : Type 0} (p : X → Bool) (xs : List X) where
   abbrev pub kept_of : ℕ → ℕ
   kept_of n = length (filter p (take n xs))
 
+  -- where the next item passes, it is gathered too
+  pub filter-passes : (n : ℕ) (x : X) → n < length xs → x ≡ get_or xs n x → p x ≡ true → filter p (take (n + 1) xs) ≡ filter p (take n xs) ++ x ∷ []
+  filter-passes n x l is t =
+      let front = filter p (take n xs) in
+      filter_more p xs n x l ∙ ap (λ b. front ++ cond b (get_or xs n x ∷ []) []) (ap p (sym is) ∙ t) ∙ ap (λ y. front ++ y ∷ []) (sym is)
+
+  -- where it does not, there are the same
+  pub filter-fails : (n : ℕ) (x : X) → n < length xs → x ≡ get_or xs n x → p x ≡ false → filter p (take (n + 1) xs) ≡ filter p (take n xs)
+  filter-fails n x l is f =
+      let front = filter p (take n xs) in
+      filter_more p xs n x l ∙ ap (λ b. front ++ cond b (get_or xs n x ∷ []) []) (ap p (sym is) ∙ f) ∙ append-nil front
+
   -- where the next item passes, it is the next one that is kept
   pub kept-passes : (n : ℕ) (x : X) → n < length xs → x ≡ get_or xs n x → p x ≡ true
       → (kept_of (n + 1) ≡ kept_of n + 1) × (kept_of n < length (filter p xs)) × (x ≡ get_or (filter p xs) (kept_of n) x)

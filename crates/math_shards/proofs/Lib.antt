@@ -24,6 +24,7 @@ pub mod PutCoefficients
 pub mod OnlyCoefficients
 pub mod RestoredRows
 pub mod JoinedRows
+pub mod DistinctIndices
 pub mod RefusedRows
 pub mod WordShards
 pub mod RepackedElements

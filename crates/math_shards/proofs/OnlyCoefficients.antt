@@ -40,7 +40,7 @@ points_differ lg i j small before below e =
     apart i j nought before (omega (arith, below, long)) (ap number (at i (omega (arith, before, below))) ∙ e ∙ sym (ap number (at j below)))
 
 -- so the points of distinct indices are apart
-points_apart : (lg : ℕ) (indices : List ℕ) → lg ≤ 32 → AreDistinct indices → All (λ i. i < 2 ^ lg) indices → AreApart same (map (point lg) indices)
+pub points_apart : (lg : ℕ) (indices : List ℕ) → lg ≤ 32 → AreDistinct indices → All (λ i. i < 2 ^ lg) indices → AreApart same (map (point lg) indices)
 points_apart lg indices small distinct below i j d before l e =
     let count : length (map (point lg) indices) ≡ length indices = length-map indices (point lg) in
     let last : j < length indices = omega (arith, l, count) in

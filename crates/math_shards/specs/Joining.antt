@@ -41,14 +41,14 @@ HaveUnequalCells index cells rows = Any (λ r. Any (λ t. (index t ≡ index r) 
 abbrev pub HaveConflict : List Shard → Type 0
 HaveConflict shards = HaveUnequalCells (λ s. s.index) (λ s. s.cells.items) shards
 
--- there is a place for each index below `total`: where some of the first n rows have the index, it is that of a row of this index that has the cells of
--- each of them; else it is none of a row
-pub record ArePlacesByIndex {R : Type 0} (index : R → ℕ) (cells : R → List F) (total : ℕ) (rows : List R) (n : ℕ) (places : List ℕ) : Type 0 where
-  pub size : length places ≡ total
-  pub of_index : (i : ℕ) (d : R) → i < total → slice_index places i < length rows → index (slice_index_or rows (slice_index places i) d) ≡ i
-  pub there : (k : ℕ) (d : R) → k < n → slice_index places (index (slice_index_or rows k d)) < length rows
-  pub equal : (k : ℕ) (d : R) → k < n
-      → AllZip same (cells (slice_index_or rows (slice_index places (index (slice_index_or rows k d))) d)) (cells (slice_index_or rows k d))
+-- there is a place for each of the indices: where some of the first n rows have the index, it is that of a row of this index that has the cells of each
+-- of them; else it is none of a row
+pub record ArePlacesByIndex {R : Type 0} (index : R → ℕ) (cells : R → List F) (indices : List ℕ) (rows : List R) (n : ℕ) (places : List ℕ) : Type 0 where
+  pub size : length places ≡ length indices
+  pub of_index : (p : ℕ) (d : R) → p < length indices → slice_index places p < length rows → index (slice_index_or rows (slice_index places p) d) ≡ slice_index indices p
+  pub there : (k p : ℕ) (d : R) → k < n → p < length indices → slice_index indices p ≡ index (slice_index_or rows k d) → slice_index places p < length rows
+  pub equal : (k p : ℕ) (d : R) → k < n → p < length indices → slice_index indices p ≡ index (slice_index_or rows k d)
+      → AllZip same (cells (slice_index_or rows (slice_index places p) d)) (cells (slice_index_or rows k d))
 
 -- what is wrong with rows that fit no data: unequal cells of one index, else too few distinct indices, else that there are no data
 abbrev pub IsDueOfRows : {R : Type 0} → (R → ℕ) → (R → List F) → ℕ → ℕ → List R → Error → Type 0

@@ -9,6 +9,7 @@ ghost use Rattle.std.specs.Prelude.{◌≡◌, alloc_error};
 ghost use Rattle.math_shards.specs.declared.shards.Error.TheVariants.{Memory};
 
 mod correcting;
+mod distinct;
 mod fitting;
 mod joining;
 mod joining_rows;

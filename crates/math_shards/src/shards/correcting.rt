@@ -21,6 +21,7 @@ ghost use Rattle.math_shards.specs.PackedWords.{HoldsWords};
 ghost use Rattle.math_shards.specs.declared.shards.Error.TheVariants.{TooFew, Mismatch, Index};
 ghost use Rattle.math_shards.specs.declared.shards.Error.TheVariants.{Conflict, Inconsistent};
 
+use super::distinct::distinct;
 use super::joining::{are_equal, check_numbers, fitted_elements, no_rows};
 use super::unpacking::{PackedData, data_count};
 use super::{Error, Shard};
@@ -51,8 +52,9 @@ pub struct Joined {
 /// shard with other numbers with `Mismatch`, or with an index out of range with `Index`; m below
 /// `min` with `TooFew`; and shards of no such data with `Inconsistent`.
 ///
-/// It joins shards that `join` takes, and leaves none out. For others it takes memory for several
-/// times N rows of as many cells as a shard has, where N is `total` rounded up to a power of two.
+/// It joins shards that `join` takes, and leaves none out. For others it counts the indices that
+/// remain, and then takes memory for several times N rows of as many cells as a shard has, where N
+/// is `total` rounded up to a power of two.
 /// It then compares the cells of shards of one index; for each shard it reads the indices of all
 /// shards to find these.
 ///
@@ -129,10 +131,10 @@ fn corrected_rows(
     ensures err { IfErr result (IsDueBeside ⊥ (settled_indices first.now.total shards.now)
         (λ words. CorrectTo words shards.now) first.now shards.now) }
 {
-    let values = settled_rows(alloc, shards, first)?;
-    if values.filled_rows() < first.min as usize {
+    if count_settled(alloc, shards, first)? < first.min as usize {
         return Err(Error::TooFew);
     }
+    let values = settled_rows(alloc, shards, first)?;
     let Some(corrected) = values.correct(alloc, first.min as usize)? else {
         return Err(Error::Inconsistent);
     };
@@ -192,6 +194,20 @@ fn is_settled(shards: &[Shard], shard: &Shard) -> bool
         }
     }
     true
+}
+
+/// How many settled indices there are. Takes memory for the indices.
+fn count_settled(alloc: Global, shards: &[Shard], first: &Shard) -> Mem<usize>
+    requires { All (IsSound first.now) shards.now }
+    ensures { IfOk result (λ n. n ≡ settled_indices first.now.total shards.now) }
+{
+    let mut indices = Vec::with_capacity(alloc, shards.len())?;
+    for shard in shards {
+        if is_settled(shards, shard) {
+            indices.push(shard.index)?;
+        }
+    }
+    Ok(distinct(indices).len())
 }
 
 /// The vector of values in which the row of each settled index is filled with the cells of its

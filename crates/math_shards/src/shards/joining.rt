@@ -2,9 +2,10 @@
 
 ghost use Rattle.std.specs.Prelude.{◌≡◌, ◌↔◌, ◌+◌, ◌*◌, ◌<◌, ◌≤◌, ◌^◌, ◌⊎◌, ℕ, List, All, length};
 ghost use Rattle.std.specs.Prelude.{IsTrue, IsFalse, IfOk, IfErr, IfSome, IfNone, MatchResult};
-ghost use Rattle.std.specs.Prelude.{count_by, false, nat_lt, replicate};
+ghost use Rattle.std.specs.Prelude.{Contains, false, replicate};
 ghost use Rattle.std.specs.Int.{IsNextPowerOfTwo};
 ghost use Rattle.std.specs.List.{AllZip};
+ghost use Rattle.std.specs.List.Sorted.{IsStrictlyIncreasing};
 ghost use Rattle.math_base.specs.Elements.{same};
 ghost use Rattle.math_transforms.specs.Matrices.{IsOfSize};
 ghost use Rattle.math_shards.specs.Fitting.{DoRowsFit};
@@ -15,6 +16,7 @@ ghost use Rattle.math_shards.specs.Joining.{IsMemory, IsSound, IsUnsound, Matche
 ghost use Rattle.math_shards.specs.declared.shards.Error.TheVariants.{TooFew, Mismatch, Index};
 ghost use Rattle.math_shards.specs.declared.shards.Error.TheVariants.{Conflict, Inconsistent};
 
+use super::distinct::{are_too_few, distinct_indices, place_of};
 use super::fitting::have_values;
 use super::restoring::coefficients;
 use super::rows::Row;
@@ -52,11 +54,13 @@ use std::alloc::{AllocError, Global};
 ///   and for one strip of N rows.
 /// - If there are further shards, it then compares all shards with the data, in memory for a table
 ///   and a strip of a coset of `min` points or more.
-/// - If the shards fit no data, it takes memory for `total` numbers and for the cells of a shard,
-///   to tell which refusal is due.
+/// - If the shards fit no data, it takes memory for some numbers of each shard and for the cells of
+///   one, to tell which refusal is due.
 ///
-/// Limit `total` before you join shards from someone you do not trust. No memory is taken for the
-/// number of words that shards claim to hold before they are seen to have so many cells.
+/// Before it has counted `min` distinct indices it takes memory for some numbers of each shard, and
+/// for their cells, however large `total` is. Limit `total` before you join shards from someone you
+/// do not trust. No memory is taken for the number of words that shards claim to hold before they
+/// are seen to have so many cells.
 ///
 /// ```
 /// let mut shards = split(alloc, &[4, 6, 8], 2, 5)?;
@@ -127,7 +131,7 @@ pub(super) fn joined_elements<R: Row>(
     if let Some(found) = fitted_elements(alloc, rows, min, total, width)? {
         return Ok(found);
     }
-    let error = refusal(alloc, rows, min, total, width)?;
+    let error = refusal(alloc, rows, min, width)?;
     Err(error)
 }
 
@@ -153,6 +157,9 @@ pub(super) fn fitted_elements<R: Row>(
         → ¬ (DoRowsFit R.index R.cells words min total rows.now))) }
 {
     if rows.len() < min as usize {
+        return Ok(None);
+    }
+    if are_too_few(alloc, rows, min, total)? {
         return Ok(None);
     }
     let Some(elements) = coefficients(alloc, rows, min, total, width)? else {
@@ -194,73 +201,73 @@ fn put_place<R: Row>(
     rows: &[R],
     i: usize,
     width: usize,
+    indices: &[u32],
     places: &mut [usize],
 ) -> Mem<bool>
     requires row { i < length rows.now }
-    requires below { All (λ row. R.index row < length places.old) rows.now }
+    requires rising { IsStrictlyIncreasing indices.now }
+    requires there { All (λ row. Contains indices.now (R.index row)) rows.now }
     requires count { All (λ row. length (R.cells row) ≡ width) rows.now }
-    requires places { ArePlacesByIndex R.index R.cells (length places.old) rows.now i places.old }
+    requires places { ArePlacesByIndex R.index R.cells indices.now rows.now i places.old }
     ensures equal { IfOk result (λ answer. IsTrue answer
-        → ArePlacesByIndex R.index R.cells (length places.old) rows.now (i + 1) places.new) }
+        → ArePlacesByIndex R.index R.cells indices.now rows.now (i + 1) places.new) }
     ensures unequal { IfOk result
         (λ answer. IsFalse answer → HaveUnequalCells R.index R.cells rows.now) }
 {
-    let index = rows[i].index() as usize;
-    let place = places[index];
+    let at = place_of(indices, rows[i].index());
+    let place = places[at];
     if place >= rows.len() {
-        places[index] = i;
+        places[at] = i;
         return Ok(true);
     }
     let answer = have_same_cells(alloc, &rows[place], &rows[i], width)?;
     Ok(answer)
 }
 
-/// Writes over the list for each index the place of the first row that has it, and the number of
-/// rows where none does. Whether no two rows of one index have unequal cells.
-fn put_places<R: Row>(alloc: Global, rows: &[R], width: usize, places: &mut [usize]) -> Mem<bool>
-    requires below { All (λ row. R.index row < length places.old) rows.now }
+/// Writes over the list for each of the indices the place of the first row that has it, and the
+/// number of rows where none does. Whether no two rows of one index have unequal cells.
+fn put_places<R: Row>(
+    alloc: Global,
+    rows: &[R],
+    width: usize,
+    indices: &[u32],
+    places: &mut [usize],
+) -> Mem<bool>
+    requires rising { IsStrictlyIncreasing indices.now }
+    requires there { All (λ row. Contains indices.now (R.index row)) rows.now }
     requires count { All (λ row. length (R.cells row) ≡ width) rows.now }
+    requires size { length places.old ≡ length indices.now }
     ensures equal { IfOk result (λ answer. IsTrue answer → ArePlacesByIndex R.index R.cells
-        (length places.old) rows.now (length rows.now) places.new) }
+        indices.now rows.now (length rows.now) places.new) }
     ensures unequal { IfOk result
         (λ answer. IsFalse answer → HaveUnequalCells R.index R.cells rows.now) }
 {
     places.fill(rows.len());
     for i in 0..rows.len() {
-        if !put_place(alloc, rows, i, width, places)? {
+        if !put_place(alloc, rows, i, width, indices, places)? {
             return Ok(false);
         }
     }
     Ok(true)
 }
 
-/// How many of the numbers are below the bound.
-fn count_below(numbers: &[usize], bound: usize) -> usize
-    ensures { result ≡ count_by (λ n. nat_lt n bound) numbers.now }
-{
-    let mut count = 0;
-    for number in numbers {
-        if *number < bound {
-            count += 1;
-        }
-    }
-    count
-}
-
 /// Which refusal is due to rows that fit no data: unequal cells of one index, too few distinct
 /// indices, or neither.
-fn refusal<R: Row>(alloc: Global, rows: &[R], min: u32, total: u32, width: usize) -> Mem<Error>
-    requires below { All (λ row. R.index row < total) rows.now }
+///
+/// Takes memory for numbers of the rows and for the cells of one, however large their indices are.
+fn refusal<R: Row>(alloc: Global, rows: &[R], min: u32, width: usize) -> Mem<Error>
     requires count { All (λ row. length (R.cells row) ≡ width) rows.now }
-    requires none { (words : List ℕ) → ¬ (DoRowsFit R.index R.cells words min total rows.now) }
-    ensures { IfOk result (IsDueOfRows R.index R.cells min total rows.now) }
+    ensures { IfOk result (λ e. (total : ℕ) → All (λ row. R.index row < total) rows.now
+        → ((words : List ℕ) → ¬ (DoRowsFit R.index R.cells words min total rows.now))
+        → IsDueOfRows R.index R.cells min total rows.now e) }
 {
-    let mut places = Vec::with_capacity(alloc, total as usize)?;
-    places.resize(total as usize, 0)?;
-    if !put_places(alloc, rows, width, &mut places)? {
+    let indices = distinct_indices(alloc, rows)?;
+    let mut places = Vec::with_capacity(alloc, indices.len())?;
+    places.resize(indices.len(), 0)?;
+    if !put_places(alloc, rows, width, &indices, &mut places)? {
         return Ok(Error::Conflict);
     }
-    if count_below(&places, rows.len()) < min as usize {
+    if indices.len() < min as usize {
         return Ok(Error::TooFew);
     }
     Ok(Error::Inconsistent)

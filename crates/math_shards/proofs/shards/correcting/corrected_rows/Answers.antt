@@ -1,4 +1,4 @@
-use Rattle.std.proofs.Common.{◌≡◌, ◌<◌, ◌≤◌, length, subst, sym, ◌∙◌, arith}
+use Rattle.std.proofs.Common.{◌≡◌, ◌≤◌, length, subst, sym, ◌∙◌, arith}
 use Rattle.std.proofs.lemmas.Bool.{false≢true}
 use Rattle.math_base.specs.Elements.{root_of, goldilocks}
 use Rattle.math_transforms.proofs.PowersOfTwo.{power_of_two-same}
@@ -12,16 +12,6 @@ use Rattle.math_splitting.proofs.LeastDomains.{domain_is_small}
 use Rattle.math_shards.proofs.UnlikeRows.{corrected_with_positions}
 use Rattle.math_shards.proofs.shards.correcting.corrected_rows.Goals as goal
 
-pub returns-then-filled_rows-first-clause-err : goal.returns-then-filled_rows-first-clause-err
-returns-then-filled_rows-first-clause-err c =
-    let first = c.args.first.now in
-    let shards = c.args.shards.now in
-    let e = c.in_ok-values.values in
-    let g = c.in_ok-values.ensures.ok in
-    let r : AreSettledRows g.0 first shards e = record { short = c.in_ok-values.ensures.total; next = g.1; holds = g.2; some = c.requires.some; sound = c.requires.sound } in
-    let few : settled_indices first.total shards < first.min = omega (arith, count_settled g.0 first shards e r, c.filled_rows.ensures, c.if-filled_rows-first.true) in
-    ((r.sound, λ x. x), few)
-
 pub correct-requires-clause-domain : goal.correct-requires-clause-domain
 correct-requires-clause-domain c lg is =
     let first = c.args.first.now in
@@ -33,6 +23,15 @@ correct-requires-clause-domain c lg is =
     let some : 1 ≤ first.total = omega (arith, least_is_positive g.0 first shards e r, least_is_within g.0 first shards e r) in
     omega (arith, same, domain_is_small first.total g.0 some r.short r.next)
 
+pub correct-requires-clause-count : goal.correct-requires-clause-count
+correct-requires-clause-count c =
+    let first = c.args.first.now in
+    let shards = c.args.shards.now in
+    let e = c.in_ok-values.values in
+    let g = c.in_ok-values.ensures.ok in
+    let r : AreSettledRows g.0 first shards e = record { short = c.in_ok-values.ensures.total; next = g.1; holds = g.2; some = c.requires.some; sound = c.requires.sound } in
+    omega (arith, count_settled g.0 first shards e r, c.in_ok-count_settled.ensures, c.if-branch-first.false)
+
 pub returns-in_default-clause-err : goal.returns-in_default-clause-err
 returns-in_default-clause-err c =
     let first = c.args.first.now in
@@ -40,7 +39,7 @@ returns-in_default-clause-err c =
     let e = c.in_ok-values.values in
     let g = c.in_ok-values.ensures.ok in
     let r : AreSettledRows g.0 first shards e = record { short = c.in_ok-values.ensures.total; next = g.1; holds = g.2; some = c.requires.some; sound = c.requires.sound } in
-    let enough : first.min ≤ settled_indices first.total shards = omega (arith, count_settled g.0 first shards e r, c.filled_rows.ensures, c.if-filled_rows-first.false) in (
+    let enough : first.min ≤ settled_indices first.total shards = omega (arith, c.in_ok-count_settled.ensures, c.if-branch-first.false) in (
       (r.sound, λ x. x),
       enough,
       λ words k.
@@ -57,7 +56,7 @@ returns-in_default-2-clause-err c =
     let q = c.in-Some.corrected.polynomials in
     let wrong = c.in-Some.corrected.wrong.items in
     let h : IsCorrected goldilocks (root_of g.0) e first.min q wrong = (rw c.in-Some.is at c.in_ok-corrected.ensures.found) g.0 g.2.size.0 in
-    let enough : first.min ≤ settled_indices first.total shards = omega (arith, count_settled g.0 first shards e r, c.filled_rows.ensures, c.if-filled_rows-first.false) in (
+    let enough : first.min ≤ settled_indices first.total shards = omega (arith, c.in_ok-count_settled.ensures, c.if-branch-first.false) in (
       (r.sound, λ x. x),
       enough,
       λ words k.

@@ -1,4 +1,4 @@
-use Rattle.c_calls.proofs.weights.write_weights_at_roots.Goals as goal
+use Rattle.c_calls.proofs.weights.write_weights_in_domain.Goals as goal
 use Rattle.std.proofs.Common.{◌≡◌, ◌∙◌, ◌-◌, length, ap, sym, subst, arith}
 use Rattle.std.specs.Int.Count.{count_leading_zeros}
 use Rattle.std.specs.Map.{keys_of}
