@@ -5,10 +5,13 @@ It takes the first t shares that have t distinct indices, corrects none, and end
 not as the page says.
 """
 
+import re
 import sys
 
 P = 2**64 - 2**32 + 1
 LETTERS = "34679ACEFHJKMRTX"
+CAPITALS = {small: small - 32 for small in range(ord("a"), ord("z") + 1)}
+SPACES = {*range(9, 14), 32, 0x85, 0xA0, 0x1680, *range(0x2000, 0x200B), 0x2028, 0x2029, 0x202F, 0x205F, 0x3000, 0xFEFF}
 
 
 def value(coefficients, x):
@@ -29,11 +32,33 @@ def length(data):
     raise AssertionError("the bytes end within a length")
 
 
-def share(line):
-    """What a line says: threshold, index, deal, values."""
-    text, check = line[:-20], line[-20:]
-    data, found = (bytes.fromhex("".join(f"{LETTERS.index(c):x}" for c in part if c != "-")) for part in (text[2:], check))
-    assert line.startswith("S1-") and int.from_bytes(found, "big") == value(text.encode()[::-1], 0x9E3779B97F4A7C15)
+def letters(line):
+    """The letters of a line, in capitals: all but white space, marks of a quotation and a number before it, and dashes."""
+    text = "".join(c for c in line if ord(c) not in SPACES).lstrip(">")
+    return re.sub("^[0-9]+:", "", text, flags=re.ASCII).replace("-", "").translate(CAPITALS)
+
+
+def groups(text):
+    """The letters in groups of four, with a dash before each."""
+    return "".join("-" + text[i : i + 4] for i in range(0, len(text), 4))
+
+
+def parts(text):
+    """The letters of each share: of a line that begins with the mark, and of those after it that do not."""
+    found = [""]
+    for line in text.split("\n"):
+        if letters(line).startswith("S1"):
+            found.append("")
+        found[-1] += letters(line)
+    assert not found[0]
+    return found[1:]
+
+
+def share(text):
+    """What the letters of a share say: threshold, index, deal, values."""
+    body, check = text[2:-16], text[-16:]
+    data, found = (bytes.fromhex("".join(f"{LETTERS.index(c):x}" for c in part)) for part in (body, check))
+    assert int.from_bytes(found, "big") == value(("S1" + groups(body)).encode()[::-1], 0x9E3779B97F4A7C15)
     threshold, data = length(data)
     index, data = length(data)
     deal, data = int.from_bytes(data[:8], "big"), data[8:]
@@ -54,7 +79,7 @@ def secret(points, values):
     return total % P
 
 
-shares = [share(line.strip()) for line in sys.stdin if line.strip()]
+shares = [share(part) for part in parts(sys.stdin.buffer.read().decode())]
 threshold, _, deal, first = shares[0]
 assert all((t, d, len(v)) == (threshold, deal, len(first)) for t, _, d, v in shares)
 chosen = list({index: values for _, index, _, values in shares}.items())[:threshold]

@@ -114,8 +114,8 @@ fn write_weights_at_powers(
     ensures ok { OnOk result (AreWordWeightsAtRoots x total.value indices.now weights.new) }
     ensures err { OnErr result (weights.new ≡ weights.old) }
 {
-    let points = points_at(alloc, lg_of_total(total), indices)?;
-    let found = weights_at(alloc, &points, &F::from(x))?;
+    let powers = points_at(alloc, lg_of_total(total), indices)?;
+    let found = weights_at(alloc, &powers, &F::from(x))?;
     write_numbers(weights, &found);
     Ok(())
 }

@@ -1,5 +1,5 @@
 -- Lines of shares of a deal: they are read, and what is read combines to the bytes that were dealt.
-use Rattle.std.proofs.Common.{◌≡◌, ◌∙◌, ◌⊎◌, inl, inr, ℕ, suc, ◌+◌, ◌<◌, ◌≤◌, ◌^◌, ◌&&◌, List, [], ◌∷◌, ◌++◌, length, get_or, refl, sym, ap, ap₂, arith}
+use Rattle.std.proofs.Common.{◌≡◌, ◌∙◌, inl, inr, ℕ, suc, ◌+◌, ◌<◌, ◌≤◌, ◌^◌, ◌&&◌, List, [], ◌∷◌, ◌++◌, length, get_or, refl, sym, ap, ap₂, arith}
 use Rattle.std.specs.List.{All, AllZip, Contains}
 use Rattle.std.proofs.lemmas.Bool.{cases_Bool, le-leb}
 use Rattle.std.proofs.lemmas.List.{length-append, length-map}
@@ -16,11 +16,10 @@ use Rattle.secret_bytes.proofs.UnpackedBytes.{length-sevens}
 use Rattle.secret_bytes.specs.CombiningLaws.{AnyLinesCombine, CombineToAlone, IsSameAsOne}
 use Rattle.secret_bytes.specs.Deals.{AreDealtBytes, IsOfDeal}
 use Rattle.secret_bytes.specs.Settled.{firsts, firsts_after, has_index}
-use Rattle.secret_bytes.specs.Texts.{AreReadAs, IsDueReading, IsFirstNoLine, IsBlank, IsLineOf, text_lines}
-use Rattle.secret_bytes.specs.declared.line.LineError.{LineError}
+use Rattle.secret_bytes.specs.Texts.{AreReadAs, IsDueReading}
 use Rattle.secret_bytes.specs.declared.text.LineFault.{LineFault}
 use Rattle.secret_bytes.proofs.AnyShares.{any-shares, number_of-index}
-use Rattle.secret_bytes.proofs.TextLines.{line-fits, read-same}
+use Rattle.secret_bytes.proofs.FittingLines.{no-fault, read-same}
 
 -- so many elements have bytes, a key and a check
 pub dealt-count : (bytes : List ℕ) (t n : ℕ) (before after : Stream) (dealt : List SecretShare) → length bytes ≤ 65536 → (D : AreDealtBytes bytes t n before after dealt) → length D.all ≤ 2 ^ 20
@@ -94,19 +93,14 @@ any-lines bytes text t n before after dealt chosen numbers some enough small few
     admitted : (s : SecretShare) → Contains dealt s → AdmitsShare (2 ^ 20) s
     admitted s h = dealt-admitted bytes t n before after dealt enough small few D s h
 
-    no-fault : (number : ℕ) (why : LineError) → IsFirstNoLine text number why → ⊥
-    no-fault number why f = at (line-fits (Contains dealt) 1 f.before f.line f.after chosen numbers (rw f.parts at of_dealt) within)
-      where
-        at : (IsBlank f.line ⊎ ((s : SecretShare) × Contains dealt s × IsLineOf f.line s)) → ⊥
-        at (inl b) = f.none.0 b
-        at (inr s) = f.none.1 s.0 (admitted s.0 s.1) s.2
+    all : All (AdmitsShare (2 ^ 20)) chosen
+    all k d l = admitted (get_or chosen k d) (within k d l)
 
     faults : (fault : LineFault) → IsDueReading text fault → line.IsMemory fault.why
     faults fault (inl m) = m
-    faults fault (inr f) = absurd (no-fault fault.number fault.why f)
+    faults fault (inr f) = absurd (no-fault text chosen numbers fault.number fault.why of_dealt all f)
 
     combine : (shares : List SecretShare) (places : List ℕ) → AreReadAs text shares places → CombineToAlone bytes shares
     combine shares places r =
-        let all : All (AdmitsShare (2 ^ 20)) chosen = λ k d l. admitted (get_or chosen k d) (within k d l) in
-        let copied = read-same 1 (text_lines text) shares chosen places numbers r of_dealt all in
+        let copied = (read-same text shares chosen places numbers r of_dealt all).0 in
         any-shares bytes t n before after dealt shares some small D (copies dealt shares chosen copied within) (omega (arith, many, firsts-count shares chosen copied))

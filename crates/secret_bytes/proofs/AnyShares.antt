@@ -164,6 +164,7 @@ module _ (bytes : List ℕ) (t n : ℕ) (before after : Stream) (dealt shares : 
     few = omega (arith, enough);
     exactly = λ k d l. (λ h. absurd (omega (arith, h.1)), λ w. absurd (not-wrong (get_or (firsts shares) k d) (kept-dealt k d l) w));
     among = All-nil (λ i. (s : SecretShare) × Contains (firsts shares) s × (s.index ≡ i));
+    rising = λ k l. absurd (omega (arith, l));
   }
 
   -- the first share has the numbers of the deal

@@ -1,5 +1,5 @@
 -- Changes of the shares of deals change the elements that they give by what does not depend on the deal.
-use Rattle.std.proofs.Common.{◌≡◌, ◌≢◌, ◌∙◌, ℕ, zero, suc, ◌+◌, ◌-◌, ◌<◌, ◌≤◌, ◌^◌, List, [], ◌∷◌, ◌++◌, eqb, false, length, get_or, map, refl, sym, ap, ap₂, subst, arith}
+use Rattle.std.proofs.Common.{◌≡◌, ◌≢◌, ◌∙◌, ℕ, zero, suc, ◌+◌, ◌<◌, ◌≤◌, ◌^◌, List, [], ◌∷◌, ◌++◌, eqb, false, length, get_or, map, refl, sym, ap, ap₂, subst, arith}
 use Rattle.std.specs.List.{All, AllPairs, AllZip, Contains}
 use Rattle.std.proofs.lemmas.Bool.{ne_eqb}
 use Rattle.std.proofs.lemmas.List.{append_assoc, append-nil, ext_get_or, get_or-map, length-map}
@@ -8,7 +8,6 @@ use Rattle.std.proofs.lemmas.Option.{get_or_from_slice_get, slice_get_within}
 use Rattle.math_theory.specs.Interpolation.{AreApart}
 use Rattle.math_theory.specs.OverRing as OverRing
 use Rattle.math_theory.specs.Rings.{CommutativeRing}
-use Rattle.math_theory.specs.Values.{value}
 use Rattle.math_theory.proofs.classes.Classes.{Class, class, same_class, ring_of_classes}
 use Rattle.math_theory.proofs.classes.ClassesOfLists.{value-class}
 use Rattle.math_theory.proofs.classes.ClassesOfProducts.{polynomial_difference-class}

@@ -4,6 +4,7 @@ pub mod SeenChanges
 pub mod LettersRead
 pub mod SharePlaces
 pub mod SharesAreBytes
+pub mod AdmittedShares
 pub mod SeenSlips
 pub mod LinesRead
 pub mod SpelledLines
@@ -29,6 +30,9 @@ pub mod RarePasses
 pub mod ChangedShares
 pub mod DealtHeads
 pub mod TextLines
+pub mod GatheredLines
+pub mod FittingLines
+pub mod PlainLines
 pub mod AnyLines
 pub mod ShorterSums
 pub mod WrittenLines

@@ -11,7 +11,7 @@ use Rattle.secret_bytes.specs.LineChecks.{check_bytes}
 use Rattle.secret_bytes.specs.Lines.{body_spelling, line_spelling, with_check}
 use Rattle.secret_bytes.specs.Refusals.{IsDueRefusal, IsMemory}
 use Rattle.secret_bytes.specs.declared.line.LineError.{LineError}
-use Rattle.secret_bytes.specs.declared.line.LineError.TheVariants.{Memory, NoShare, Mistyped}
+use Rattle.secret_bytes.specs.declared.line.LineError.TheVariants.{Behind, Memory, NoShare, Mistyped}
 use Rattle.secret_bytes.proofs.SeenSlips.{equal_parts, length-check}
 
 -- a test for a difference of texts finds none
@@ -45,3 +45,5 @@ none_due (Err (Memory x)) text body check due e d k h = tt
 none_due (Err NoShare) text body check due e d k h = inr (body, e ∙ ap (λ x. body ++ x) (k ∙ d))
 none_due (Err Mistyped) text body check due e d k (inl h) = absurd h
 none_due (Err Mistyped) text body check due e d k (inr h) = cc
+none_due (Err Behind) text body check due e d k (inl h) = absurd h
+none_due (Err Behind) text body check due e d k (inr h) = cc

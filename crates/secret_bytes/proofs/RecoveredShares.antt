@@ -1,11 +1,17 @@
 -- Shares of which some are wrong, and the elements of those that are left.
-use Rattle.std.proofs.Common.{◌≡◌, ◌≢◌, ◌∙◌, ℕ, zero, suc, ◌+◌, ◌<◌, ◌≤◌, ◌^◌, ◌⊎◌, inl, inr, List, [], ◌∷◌, ◌++◌, length, map, get_or, refl, sym, ap, subst, arith}
+use Rattle.std.proofs.Common.{◌≡◌, ◌≢◌, ◌∙◌, ℕ, eqb, zero, suc, ◌+◌, ◌<◌, ◌≤◌, ◌^◌, ◌⊎◌, inl, inr, List, [], ◌∷◌, ◌++◌, length, map, get_or, refl, sym, ap, subst, arith}
 use Rattle.std.specs.List.{All, AllPairs, Contains}
-use Rattle.std.specs.List.Sorted.{IsStrictlyIncreasing}
+use Rattle.std.specs.List.Sorted.{IsPermutation, IsSorted, IsStrictlyIncreasing}
+use Rattle.std.specs.Cmp.{unsigned_Decides}
+use Rattle.std.specs.Ordering.{nat_cmp}
 use Rattle.std.proofs.lemmas.Bool.{cases_eq, cases_lt}
+use Rattle.std.proofs.lemmas.Bool.Decides.{nat_tests}
 use Rattle.std.proofs.lemmas.List.{get_or-map, get_or_default, length-map}
 use Rattle.std.proofs.lemmas.List.Elements.{All-append, All-contains, All-filter, All-head, All-nil, All-tail, Contains-append_right, Contains-get_or}
 use Rattle.std.proofs.lemmas.List.Kept.{AllPairs-filter}
+use Rattle.std.proofs.lemmas.List.Sorted.{All-permutation, Contains-permutation, IsNonDecreasingBy-from_sort, IsPermutation-sym, length_permutation}
+use Rattle.std.proofs.lemmas.Map.Keys.{IsDistinct-IsPermutation}
+use Rattle.std.proofs.lemmas.Map.Made.{AllPairs-from_IsDistinct, IsDistinct-from_AllPairs}
 use Rattle.math_theory.specs.Interpolation.{AreApart}
 use Rattle.math_base.specs.declared.fields.goldilocks.F.{F}
 use Rattle.math_base.specs.Elements.{number, residue, same, goldilocks}
@@ -118,27 +124,40 @@ progress-ready t width shares kept wrong ready g =
 small : (t width : ℕ) (shares : List SecretShare) → AreReady t width shares → All (λ s. s.index < 2 ^ 32) shares
 small t width shares ready k d l = (ready.plain k d l).small
 
--- where all elements fit, they are those of the shares, and the indices those of the wrong ones
-pub progress-end : (t width : ℕ) (shares kept : List SecretShare) (wrong : List ℕ) (all : List F) → AreReady t width shares → IsProgress t width shares kept wrong
-    → length all ≡ width → ((j : ℕ) → j < width → IsCorrectedSecret goldilocks t (column j kept) (get_or all j (residue 0)) []) → AreElementsOfShares t width shares all wrong
-progress-end t width shares kept wrong all ready g count fit =
+-- distinct numbers that are sorted rise
+rising-sorted : (wrong sorted : List ℕ) → AllPairs (λ i k. i ≢ k) wrong → IsPermutation wrong sorted → IsSorted nat_cmp sorted → IsStrictlyIncreasing sorted
+rising-sorted wrong sorted apart moved up = λ k l.
+    let below = IsNonDecreasingBy-from_sort (λ (n : ℕ). n) sorted up k (k + 1) 0 (omega arith) l in
+    let other = apart-sorted k (k + 1) 0 (omega arith) l in
+    omega (arith, below, other)
+  where
+    apart-sorted : AllPairs (λ i k. i ≢ k) sorted
+    apart-sorted = AllPairs-from_IsDistinct unsigned_Decides sorted (IsDistinct-IsPermutation eqb (λ x y. grind (arith, nat_tests)) wrong sorted moved (IsDistinct-from_AllPairs unsigned_Decides wrong apart))
+
+-- where all elements fit, they are those of the shares, and the indices, once sorted, those of the wrong ones
+pub progress-end : (t width : ℕ) (shares kept : List SecretShare) (wrong sorted : List ℕ) (all : List F) → AreReady t width shares → IsProgress t width shares kept wrong
+    → IsPermutation wrong sorted → IsSorted nat_cmp sorted
+    → length all ≡ width → ((j : ℕ) → j < width → IsCorrectedSecret goldilocks t (column j kept) (get_or all j (residue 0)) []) → AreElementsOfShares t width shares all sorted
+progress-end t width shares kept wrong sorted all ready g moved up count fit =
     record {
       count = count;
       elements = λ j l. record { polynomial = (fit j l).polynomial; within = radius j l; constant = (fit j l).constant; only = only j l };
-      few = g.few;
+      few = omega (arith, g.few, length_permutation wrong sorted moved);
       exactly = λ k d l.
           let s = get_or shares k d in
           let here : Contains shares s = Contains-get_or shares k d l in (
-            λ h. let w = All-contains (λ i. (u : SecretShare) × Contains shares u × (u.index ≡ i) × IsWrong t width shares u) wrong s.index g.found h in
+            λ h. let w = All-contains (λ i. (u : SecretShare) × Contains shares u × (u.index ≡ i) × IsWrong t width shares u) wrong s.index g.found
+                (Contains-permutation sorted wrong s.index (IsPermutation-sym wrong sorted moved) h) in
                 subst (IsWrong t width shares) (same-share shares w.0 s ready.apart w.1 here w.2) w.3,
-            λ h. elim (outside-cases wrong s.index) as (λ _. Contains wrong s.index) [
-              | inl there ↦ there
+            λ h. elim (outside-cases wrong s.index) as (λ _. Contains sorted s.index) [
+              | inl there ↦ Contains-permutation wrong sorted s.index moved there
               | inr none ↦
                   let fits = All-contains (FitsShare h.0 (fit h.0 h.2).polynomial) (others wrong shares) s (fits-all h.0 h.2) (others-has wrong shares s here none.1) in
                   absurd (h.4 (fits-same h.0 (fit h.0 h.2).polynomial h.1 s (within-once t (column h.0 shares) h.1 (fit h.0 h.2).polynomial (apart-at h.0) (enough-at h.0) h.3 (radius h.0 h.2)) fits))
             ],
           );
-      among = λ k d l. let w = g.found k d l in (w.0, w.1, w.2);
+      among = All-permutation (λ i. (s : SecretShare) × Contains shares s × (s.index ≡ i)) wrong sorted moved (λ k d l. let w = g.found k d l in (w.0, w.1, w.2));
+      rising = rising-sorted wrong sorted g.apart moved up;
     }
   where
     fits-all : (j : ℕ) (l : j < width) → All (FitsShare j (fit j l).polynomial) (others wrong shares)

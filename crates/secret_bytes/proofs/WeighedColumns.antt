@@ -1,20 +1,13 @@
 -- The shares of all elements have the same indices, and so the same weights.
-use Rattle.std.proofs.Common.{◌≡◌, ◌∙◌, ℕ, zero, suc, ◌+◌, ◌-◌, ◌<◌, inl, inr, List, [], ◌∷◌, ◌++◌, length, take, drop, get_or, refl, sym, ap, subst, arith, Global, Vec, ◌≢◌, true, false, not, eqb}
-use Rattle.std.specs.List.{AllZip}
-use Rattle.std.proofs.lemmas.Bool.{cases_Bool, cases_lt, eq-eqb, eqb-true}
+use Rattle.std.proofs.Common.{◌≡◌, ◌∙◌, ℕ, ◌+◌, ◌<◌, inl, inr, List, [], ◌∷◌, ◌++◌, length, get_or, refl, sym, ap, subst, arith}
+use Rattle.std.proofs.lemmas.Bool.{cases_lt}
 use Rattle.std.proofs.lemmas.List.{get_or_append_left, get_or_push, length-map}
 use Rattle.math_theory.specs.Interpolation.{AreApart}
 use Rattle.math_base.specs.declared.fields.goldilocks.F.{F}
-use Rattle.math_theory.specs.Sums.{weighted_sum}
-use Rattle.math_base.specs.ElementLaws.{commutes, equality, group, ring}
-use Rattle.math_base.specs.ElementRootLaws.{field}
-use Rattle.math_base.specs.Elements.{product, residue, same, sum, goldilocks}
-use Rattle.math_base.specs.Polynomials.{AreWeightsAt}
-use Rattle.shared_secret.specs.declared.shares.Share.{Share}
+use Rattle.math_base.specs.Elements.{residue, same, goldilocks}
 use Rattle.shared_secret.specs.declared.weighing.Weights.{Weights}
 use Rattle.shared_secret.specs.CorrectedShares.{IsCorrectedSecret}
-use Rattle.shared_secret.specs.Shares.{point, points, values}
-use Rattle.shared_secret.proofs.WeighedShares.{further-count, not-whole, secret-count, value-count, whole}
+use Rattle.shared_secret.specs.Shares.{point, points}
 use Rattle.shared_secret.specs.Weights.{AreWeightsAtPoints, AreWeightsOfShares}
 use Rattle.secret_bytes.specs.declared.share.SecretShare.{SecretShare}
 use Rattle.secret_bytes.specs.Columns.{column, share_of}

@@ -1,5 +1,6 @@
 -- The elements that shares give, of which some are wrong, and the bytes that they are combined to.
 use Rattle.std.specs.List.{Contains, filter, list_any}
+use Rattle.std.specs.List.Sorted.{IsStrictlyIncreasing}
 use Rattle.std.specs.Prelude.{◌≡◌, ◌↔◌, ◌+◌, ◌<◌, ◌≤◌, ◌==◌, ℕ, Bool, not, List, length, slice_get, slice_index_or, Some, All}
 use Rattle.math_base.specs.declared.fields.goldilocks.F.{F}
 use Rattle.math_base.specs.Elements.{residue, same, goldilocks}
@@ -38,13 +39,14 @@ pub record IsElementOf (t : ℕ) (shares : List (Share F)) (a : F) : Type 0 wher
 abbrev pub IsWrong : ℕ → ℕ → List SecretShare → SecretShare → Type 0
 IsWrong t width shares s = (j : ℕ) × (p : List F) × (j < width) × AreSharesWithinRadius goldilocks t p (column j shares) × ¬ (FitsShare j p s)
 
--- the elements of the shares, and the indices of those that are wrong, of which there are at most (m - t) / 2 for m shares
+-- the elements of the shares, and the indices of those that are wrong, rising, of which there are at most (m - t) / 2 for m shares
 pub record AreElementsOfShares (t width : ℕ) (shares : List SecretShare) (all : List F) (wrong : List ℕ) : Type 0 where
   pub count : length all ≡ width
   pub elements : (j : ℕ) → j < width → IsElementOf t (column j shares) (slice_index_or all j (residue 0))
   pub few : length wrong + length wrong + t ≤ length shares
   pub exactly : All (λ s. Contains wrong s.index ↔ IsWrong t width shares s) shares
   pub among : All (λ i. (s : SecretShare) × Contains shares s × (s.index ≡ i)) wrong
+  pub rising : IsStrictlyIncreasing wrong
 
 -- the shares stand with one another, and so with the first one
 pub record AreOfOneDeal (first : SecretShare) (shares : List SecretShare) : Type 0 where

@@ -16,4 +16,6 @@ pub mod Explanations
 pub mod Keyed
 pub mod Passes
 pub mod Settled
+pub mod Readings
+pub mod Gathered
 pub mod Texts

@@ -23,14 +23,14 @@ use shared_secret::CombineError::{Memory, RepeatedIndex, TooFewShares, ZeroIndex
 use shared_secret::{Corrected, Share, Weights, combine_corrected, secret_of, weigh};
 use std::alloc::Global;
 
-/// The bytes, and the indices of the shares that were wrong.
+/// The bytes, and the indices of the shares that were wrong, rising.
 #[derive(Debug, Drop)]
 pub struct Combined {
     pub bytes: Vec<u8>,
     pub wrong: Vec<u32>,
 }
 
-/// The elements that shares give, and the indices of the shares that were wrong.
+/// The elements that shares give, and the indices of the shares that were wrong, rising.
 #[derive(Drop)]
 struct Recovered {
     elements: Vec<F>,
@@ -110,7 +110,10 @@ fn recover(
     let mut elements = Vec::with_capacity(alloc, width)?;
     loop {
         match look(alloc, t, width, &kept, &mut elements)? {
-            Pass::Fit => return Ok(Recovered { elements, wrong }),
+            Pass::Fit => {
+                wrong.sort_unstable();
+                return Ok(Recovered { elements, wrong });
+            }
             Pass::TooManyWrong => return Err(CombineError::TooManyWrong),
             Pass::Wrong(places) => {
                 push_indices(&kept, &places, &mut wrong)?;

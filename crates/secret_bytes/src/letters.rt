@@ -77,6 +77,17 @@ fn byte_in_front(text: &[u8]) -> Option<(u8, &[u8])>
     Some((high * 16 + low, rest))
 }
 
+/// The bytes that the letters in front of the text stand for, two for each, without dashes.
+pub(super) fn bytes_in_front(alloc: Global, text: &[u8]) -> Result<Vec<u8>, AllocError> {
+    let mut bytes = Vec::with_capacity(alloc, text.len() / 2)?;
+    let mut rest = text;
+    while let Some((byte, after)) = byte_in_front(rest) {
+        bytes.push(byte)?;
+        rest = after;
+    }
+    Ok(bytes)
+}
+
 /// The bytes that the text has as letters, where it is so many letters in groups.
 pub(super) fn ungrouped(alloc: Global, text: &[u8]) -> Result<Option<Vec<u8>>, AllocError>
     ensures some { IfOk result (λ answer. IfSome answer (λ bytes. text.now ≡ grouped true bytes.items)) }

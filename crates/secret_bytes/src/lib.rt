@@ -19,6 +19,7 @@ mod keyed;
 pub mod laws;
 mod letters;
 mod line;
+mod reading;
 mod settling;
 mod share;
 mod text;

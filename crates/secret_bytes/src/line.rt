@@ -10,10 +10,10 @@ ghost use Rattle.secret_bytes.specs.Lines.{body_spelling, line_spelling};
 ghost use Rattle.secret_bytes.specs.Refusals.{IsDueRefusal, IsMemory};
 ghost use Rattle.secret_bytes.specs.declared.line.LineError.TheVariants.{Memory, NoShare};
 
-use crate::letters::{push_grouped, ungrouped};
+use crate::letters::{bytes_in_front, push_grouped, ungrouped};
 use crate::share::{MOST_VALUES, SecretShare};
 use math_base::fields::goldilocks::F;
-use math_codec::codec::{Error, Mem, Write, decode};
+use math_codec::codec::{Error, Mem, Read, Write, decode};
 use std::alloc::{AllocError, AllocFailed, Global};
 use thiserror::Error;
 
@@ -27,8 +27,11 @@ pub enum LineError {
     #[error("not a share of this format")]
     NoShare,
     /// The check does not fit the text before it.
-    #[error("mistyped, its check does not fit")]
+    #[error("mistyped or cut off, its check does not fit")]
     Mistyped,
+    /// Something stands behind a whole share.
+    #[error("something stands behind a whole share: each begins a line, with S1")]
+    Behind,
 }
 
 impl From<AllocError> for LineError {
@@ -139,9 +142,26 @@ fn refusal(error: Error) -> LineError
     }
 }
 
+/// The share that the letters behind the mark begin with, where they do.
+pub(crate) fn share_in_front(alloc: Global, letters: &[u8]) -> Mem<Option<SecretShare>>
+    ensures { IfOk result (λ found. IfSome found (AdmitsShare (2 ^ 20))) }
+{
+    let Some(letters) = letters.get(MARK.len()..) else {
+        return Ok(None);
+    };
+    let bytes = bytes_in_front(alloc, letters)?;
+    let mut rest = bytes.as_slice();
+    match SecretShare::read_cfg(alloc, &mut rest, &MOST_VALUES) {
+        Ok(share) => Ok(Some(share)),
+        Err(Error::Memory(e)) => Err(e),
+        Err(_) => Ok(None),
+    }
+}
+
 /// The share whose bytes stand as letters after the mark.
 fn share_of_body(alloc: Global, body: &[u8]) -> Result<SecretShare, LineError>
     ensures taken { IfOk result (λ s. body.now ≡ body_spelling s) }
+    ensures admitted { IfOk result (AdmitsShare (2 ^ 20)) }
     ensures again { (s : SecretShare) → AdmitsShare (2 ^ 20) s → body.now ≡ body_spelling s
         → MatchResult result (λ u. AreSameShares u s) IsMemory }
     ensures due { IfErr result (λ why. IsMemory why ⊎ (why ≡ NoShare)) }
@@ -170,6 +190,7 @@ fn share_of_body(alloc: Global, body: &[u8]) -> Result<SecretShare, LineError>
 /// ```
 pub fn share_in(alloc: Global, text: &[u8]) -> Result<SecretShare, LineError>
     ensures taken { IfOk result (λ s. text.now ≡ line_spelling s) }
+    ensures admitted { IfOk result (AdmitsShare (2 ^ 20)) }
     ensures again { (s : SecretShare) → AdmitsShare (2 ^ 20) s → text.now ≡ line_spelling s
         → MatchResult result (λ u. AreSameShares u s) IsMemory }
     ensures due { IfErr result (IsDueRefusal text.now) }

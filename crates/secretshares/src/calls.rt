@@ -1,19 +1,19 @@
 //! The commands, over what was read.
 
-ghost use Rattle.std.specs.Prelude.{◌≡◌, ◌<◌, ◌≤◌, ℕ, List, IfOk, IfErr};
+ghost use Rattle.std.specs.Prelude.{◌≡◌, ◌<◌, ◌≤◌, ℕ, List, [], length, All, IfOk, IfErr, IfSome, IfNone, OnOk};
 ghost use Rattle.secret_bytes.specs.declared.share.SecretShare.{SecretShare};
 ghost use Rattle.secret_bytes.specs.Deals.{AreDealtBytes};
 ghost use Rattle.secret_bytes.specs.Lines.{lines_spelling};
 ghost use Rattle.secret_bytes.specs.Texts.{IsDueReading};
-ghost use Rattle.secretshares.specs.Answers.{IsAnswerTo, IsDueFor, IsNamed};
+ghost use Rattle.secretshares.specs.Answers.{CanBeDealt, IsAnswerTo, IsDueFor, IsFirstTooGreat, IsNamed, IsTooGreat, in_order, with_wrong};
 
 use crate::fault::{Fault, WrongWord};
 use rand_core::{CryptoRng, Rng};
 use secret_bytes::{
-    CombineError, LineError, LineFault, Lines, MOST_BYTES, MOST_SHARES, combine, deal, read_lines,
-    text_of,
+    CombineError, LineError, LineFault, Lines, MOST_BYTES, MOST_SHARES, SecretShare, combine, deal,
+    read_lines, text_of,
 };
-use std::alloc::Global;
+use std::alloc::{AllocError, Global};
 
 /// What stands on standard output, and what on standard error.
 #[derive(Drop)]
@@ -72,10 +72,12 @@ pub fn dealt<G: Rng + CryptoRng>(
     })
 }
 
-/// The secret of the shares that the lines are, and a line for each share that is wrong.
+/// The secret of the shares that the lines are, and a line for each share that is wrong, in the
+/// order of their lines.
 ///
-/// It refuses the first line that is neither blank nor that of a share, and shares as
-/// `secret_bytes::combine` does, with the line and the index of the share that is meant.
+/// It refuses as `secret_bytes::read_lines` does; then the first share whose threshold or index is
+/// above 255; and then shares as `secret_bytes::combine` does, with the line and the index of the
+/// share that is meant.
 pub fn combined(alloc: Global, text: &[u8]) -> Result<Told, Fault>
     ensures answer { IfOk result (λ told. IsAnswerTo text.now told.out.items) }
     ensures due { IfErr result (IsDueFor text.now) }
@@ -85,6 +87,9 @@ pub fn combined(alloc: Global, text: &[u8]) -> Result<Told, Fault>
         Err(fault) => return Err(fault_of(fault)),
     };
     let Lines { shares, numbers } = lines;
+    if let Some(fault) = first_too_great(&numbers, &shares) {
+        return Err(fault);
+    }
     let mut indices = Vec::with_capacity(alloc, shares.len())?;
     for share in &shares {
         indices.push(share.index)?;
@@ -94,13 +99,63 @@ pub fn combined(alloc: Global, text: &[u8]) -> Result<Told, Fault>
         Err(error) => return Err(named(&numbers, &indices, error)),
     };
     let mut err = String::new(alloc);
-    for index in &found.wrong {
+    for index in &in_order(alloc, &indices, &found.wrong)? {
         writeln!(err, "share {index} is wrong and was left out")?;
     }
     Ok(Told {
         out: found.bytes,
         err,
     })
+}
+
+/// Which number of the share `deal` does not give, and this number, where there is one.
+fn too_great(share: &SecretShare) -> Option<(&'static str, u32)>
+    ensures some { IfSome result (λ r. IsTooGreat share.now r.1) }
+    ensures none { IfNone result (CanBeDealt share.now) }
+{
+    if share.threshold > MOST_SHARES {
+        return Some(("threshold", share.threshold));
+    }
+    if share.index > MOST_SHARES {
+        return Some(("index", share.index));
+    }
+    None
+}
+
+/// The fault of the first share that `deal` cannot have given, where there is one. The shares stand
+/// in the lines of these numbers.
+fn first_too_great(numbers: &[usize], shares: &[SecretShare]) -> Option<Fault>
+    requires { length numbers.now ≡ length shares.now }
+    ensures some { IfSome result (IsFirstTooGreat numbers.now shares.now) }
+    ensures none { IfNone result (All CanBeDealt shares.now) }
+{
+    for (place, share) in shares.iter().enumerate() {
+        if let Some((name, given)) = too_great(share) {
+            return Some(Fault::TooGreat(numbers[place], name, given));
+        }
+    }
+    None
+}
+
+/// Appends the index where it is a wrong one and does not stand there yet.
+fn push_wrong(index: u32, wrong: &[u32], out: &mut Vec<u32>) -> Result<(), AllocError>
+    ensures { OnOk result (out.new.items ≡ with_wrong wrong.now out.old.items index) }
+{
+    if wrong.contains(&index) && !out.contains(&index) {
+        out.push(index)?;
+    }
+    Ok(())
+}
+
+/// The indices that are among the wrong ones, each once, in the order in which they stand first.
+fn in_order(alloc: Global, indices: &[u32], wrong: &[u32]) -> Result<Vec<u32>, AllocError>
+    ensures { IfOk result (λ out. out.items ≡ in_order wrong.now [] indices.now) }
+{
+    let mut out = Vec::new(alloc);
+    for index in indices {
+        push_wrong(*index, wrong, &mut out)?;
+    }
+    Ok(out)
 }
 
 /// The fault of a line.

@@ -46,6 +46,8 @@ pub enum Fault {
     Text(LineError),
     #[error("refused: line {0}: {1}")]
     Line(usize, LineError),
+    #[error("refused: line {0}: its {1} is {2}, and deal makes at most 255 shares")]
+    TooGreat(usize, &'static str, u32),
     #[error("refused: line {0}, share {1}: {2}")]
     Share(usize, u32, CombineError),
     #[error("refused: {0}")]

@@ -49,7 +49,8 @@ reading the secret from the terminal, to its end (Ctrl-D): what is typed is show
 
 /// What is said where shares are read from a terminal.
 const LINES_AT_TERMINAL: &str = "\
-reading shares, a line each, from the terminal, to its end (Ctrl-D)
+reading shares from the terminal, to its end (Ctrl-D): what is typed is shown, unless
+`stty -echo` came before this command (and then `stty echo`), or the shares come by a pipe
 ";
 
 /// A terminal hands over at most so many bytes of a line, and drops the others without a word.

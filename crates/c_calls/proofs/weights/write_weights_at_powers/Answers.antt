@@ -12,4 +12,4 @@ returns-clause-ok c =
     let found = c.in_ok-found.ensures in
     power_weight_words c.args.x total c.lg_of_total.result c.args.indices.now c.write_numbers.new.words c.from.result c.deref.result.now c.in_ok-found.found.items
     c.requires.x_below c.requires.rising (omega arith) c.lg_of_total.ensures.small c.lg_of_total.ensures.power point
-    (c.deref.ensures.value ∙ c.in_ok-points.ensures) (c.write_numbers.ensures ∙ ap numbers c.deref-2.ensures.value) found.count found.weights
+    (c.deref.ensures.value ∙ c.in_ok-powers.ensures) (c.write_numbers.ensures ∙ ap numbers c.deref-2.ensures.value) found.count found.weights

@@ -1,5 +1,4 @@
-use Rattle.std.proofs.Common.{◌≡◌, ◌∙◌}
-use Rattle.shared_secret.specs.Shares.{values}
+use Rattle.std.proofs.Common.{◌∙◌}
 use Rattle.secret_bytes.specs.Columns.{column}
 use Rattle.secret_bytes.proofs.combining.element_at.Goals as goal
 

@@ -22,7 +22,8 @@ returns-in-Fit-clause-recovered c =
     let all = c.look.new.elements.items in
     let found : AreFirstElements c.args.t c.args.width kept all = rw c.deref.ensures.value at c.in_ok-look.ensures.elements in
     let pass : IsPass c.args.t c.args.width kept (length all) Fit = rw c.in-Fit.is at c.in_ok-look.ensures.pass in
-    progress-end c.args.t c.args.width c.args.shares.items kept c.loop-elements.wrong.items all c.requires c.loop-elements.invariant.progress pass (λ j l. found.fit j (omega (arith, l, pass)))
+    progress-end c.args.t c.args.width c.args.shares.items kept c.loop-elements.wrong.items c.sort_unstable.new.self.items all c.requires c.loop-elements.invariant.progress
+    c.sort_unstable.ensures.permutation c.sort_unstable.ensures.sorted pass (λ j l. found.fit j (omega (arith, l, pass)))
 
 pub returns-in-TooManyWrong-clause-due : goal.returns-in-TooManyWrong-clause-due
 returns-in-TooManyWrong-clause-due c = λ all ws r.

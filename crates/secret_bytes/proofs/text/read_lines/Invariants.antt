@@ -1,5 +1,5 @@
 use Rattle.std.proofs.Common.{length}
-use Rattle.secret_bytes.proofs.TextLines.{IsReadTo}
+use Rattle.secret_bytes.proofs.GatheredLines.{IsReadTo}
 use Rattle.secret_bytes.proofs.text.read_lines.Given as goal
 
 abbrev pub invariant-loop-rest : goal.invariant-loop-rest
