@@ -154,7 +154,7 @@ CWM_MUST_USE uint32_t cwm_weights(const uint64_t *points, size_t n, uint64_t x, 
 /* Writes the same weights for the points of a domain that have these n indices; N is `total` rounded up
  * to a power of two. total is 1 or more and m is n, else CWM_WRONG_SIZE. x of P or more: CWM_OUT_OF_RANGE. The indices
  * strictly rise and are below total, else CWM_WRONG_INDEX. If n^2 is at most N lg N, time grows with n^2, and it takes
- * memory for 4 n words. Else time grows with N lg N if x is zero, and with N lg^2 N at most, and it takes memory for
+ * memory for 3 n words. Else time grows with N lg N if x is zero, and with N lg^2 N at most, and it takes memory for
  * 7 N words. */
 CWM_MUST_USE uint32_t cwm_weights_at_roots(uint32_t total, const uint32_t *indices, size_t n, uint64_t x, uint64_t *weights,
                                            size_t m);

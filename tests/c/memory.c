@@ -204,7 +204,7 @@ static void claims(void) {
   size_t many, k = 100;
   for (uint32_t x = 0; x < 2; x++)
     for (size_t n = 64; n <= ROWS; n *= 4)
-      count("cwm_weights_at_roots, few", cwm_weights_at_roots(total, indices, n, 5 * x, b, n), 4, n);
+      count("cwm_weights_at_roots, few", cwm_weights_at_roots(total, indices, n, 5 * x, b, n), 3, n);
   fill(a, 3 * k);
   count_of("cwm_join, one of 2^32 - 1", CWM_TOO_FEW, cwm_join(indices, 1, total, total, a, 3, b, CELLS, &written), 1, 64);
   count_of("cwm_join_corrected, one of 2^32 - 1", CWM_TOO_FEW,
