@@ -200,8 +200,9 @@ CWM_MUST_USE uint32_t cwm_split(const uint64_t *data, size_t n, uint32_t min, ui
  * forged shard among just `min` changes what comes back. Keep a hash of the data to compare.
  * N is `total` rounded up to a power of two. Takes memory for `min` times the words of a shard, for 9 times N rows of 64
  * words and of the lesser of `min` and the words of a shard, for 3 words for each of the k rows, and for 16,384. A refusal
- * may also take it for 2 words for each row and one shard. If there are fewer than `min` distinct indices, memory does not
- * grow with `total`. Else it does: limit `total` before you join shards from someone you do not trust. */
+ * may also take it for 2 words for each row and one shard. If there are fewer than `min` distinct indices, it takes memory
+ * for the k rows, 6 words more each and one shard, however large `total` is. Else memory grows with `total`: limit it before
+ * you join shards from someone you do not trust. */
 CWM_MUST_USE uint32_t cwm_join(const uint32_t *indices, size_t k, uint32_t min, uint32_t total, const uint64_t *cells, size_t n,
                                uint64_t *data, size_t m, size_t *written);
 
@@ -213,8 +214,9 @@ CWM_MUST_USE uint32_t cwm_join(const uint32_t *indices, size_t k, uint32_t min, 
  * n is as for cwm_join, and room is k or more, else CWM_WRONG_SIZE. The other statuses are those of cwm_join, in the same
  * order; but there is no CWM_CONFLICT, CWM_TOO_FEW says that i is below min, and CWM_INCONSISTENT that there are no such data.
  * With no wrong shard it takes time and memory as cwm_join. Else time grows with k^2 and with the number of wrong shards, and
- * it takes memory for the k rows and 8 words more each, and, unless i is below min, for 9 times N rows of a shard's words and
- * of 64 more: limit `total` and k. */
+ * it takes memory for the k rows and 8 words more each, and for 9 times N rows of a shard's words and of 64 more: limit
+ * `total` and k. If there are fewer than `min` distinct indices, it takes memory for the k rows twice and 12 words more each,
+ * however large `total` is. */
 CWM_MUST_USE uint32_t cwm_join_corrected(const uint32_t *indices, size_t k, uint32_t min, uint32_t total, const uint64_t *cells,
                                          size_t n, uint64_t *data, size_t m, size_t *written, size_t *left_out, size_t room,
                                          size_t *many);

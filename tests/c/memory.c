@@ -213,11 +213,14 @@ static void claims(void) {
            cwm_join_bytes(indices, 1, total, total, filled, 24, (uint8_t *)b, CELLS, &written), 1, 64);
   count_of("cwm_join_bytes_corrected, one of 2^32 - 1", CWM_TOO_FEW,
            cwm_join_bytes_corrected(indices, 1, total, total, filled, 24, (uint8_t *)b, CELLS, &written, wrong, 1, &many), 1, 64);
-  /* as many rows as are wanted, all copies of the last of 2^32 - 1 */
-  for (size_t i = 0; i < k; i++) indices[i] = total - 1, memcpy(a + 3 * i, a, 24);
-  count_of("cwm_join, copies of one of 2^32 - 1", CWM_TOO_FEW, cwm_join(indices, k, 2, total, a, 3 * k, b, CELLS, &written), 1, 5 * k + 64);
-  count_of("cwm_join_corrected, copies of one", CWM_TOO_FEW,
-           cwm_join_corrected(indices, k, 2, total, a, 3 * k, b, CELLS, &written, wrong, k, &many), 1, 11 * k + 64);
+  /* as many rows as are wanted, all copies of the last of 2^32 - 1, or of some 64 times as many as rows are there */
+  for (size_t i = 1; i < k; i++) memcpy(a + 3 * i, a, 24);
+  for (uint32_t t = 64 * k; t != 0; t = t == total ? 0 : total) {
+    for (size_t i = 0; i < k; i++) indices[i] = t - 1;
+    count_of("cwm_join, copies of one", CWM_TOO_FEW, cwm_join(indices, k, k, t, a, 3 * k, b, CELLS, &written), 1, (3 + 6) * k + 3);
+    count_of("cwm_join_corrected, copies of one", CWM_TOO_FEW,
+             cwm_join_corrected(indices, k, k, t, a, 3 * k, b, CELLS, &written, wrong, k, &many), 1, (2 * 3 + 12) * k);
+  }
   for (size_t i = 0; i < k; i++) indices[i] = i;
 }
 
