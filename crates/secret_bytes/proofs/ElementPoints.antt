@@ -1,7 +1,9 @@
 -- The points of indices in the Goldilocks field, and polynomials there that are the same.
-use Rattle.std.proofs.Common.{◌≡◌, ◌≢◌, ◌∙◌, ℕ, zero, suc, ◌+◌, ◌%◌, ◌<◌, ◌≤◌, ◌^◌, List, [], ◌∷◌, length, map, get_or, sym, ap, arith, mod-eq_of_lt}
+use Rattle.std.proofs.Common.{◌≡◌, ◌≢◌, ◌∙◌, ℕ, zero, suc, ◌+◌, ◌%◌, ◌<◌, ◌≤◌, ◌^◌, List, [], ◌∷◌, length, map, get_or, refl, sym, ap, ap₂, arith, mod-eq_of_lt}
 use Rattle.std.specs.List.{All, AllPairs}
 use Rattle.std.proofs.lemmas.List.{get_or-map, length-map}
+use Rattle.std.proofs.lemmas.List.Elements.{All-head, All-tail}
+use Rattle.math_base.proofs.ElementNumbers.{same_number}
 use Rattle.math_numbers.specs.Goldilocks.{P}
 use Rattle.math_theory.specs.Interpolation.{AreApart}
 use Rattle.math_theory.specs.Powers.{power-suc, power-zero}
@@ -29,6 +31,15 @@ point-number (suc n) l =
     let before : number (point goldilocks n) ≡ n = point-number n (omega (arith, l)) in
     let next : number (point goldilocks (suc n)) ≡ (number (point goldilocks n) + 1) % P = ap number (power-suc (residue 0) sum (residue 1) n) in
     next ∙ ap (λ m. (m + 1) % P) before ∙ mod-eq_of_lt (omega (arith, l)) ∙ omega arith
+
+-- the indices as elements are the points of the shares
+pub points-of_indices : (j : ℕ) (shares : List SecretShare) → All (λ s. s.index < 2 ^ 32) shares → map (λ (s : SecretShare). residue s.index) shares ≡ points goldilocks (column j shares)
+points-of_indices j [] small = refl
+points-of_indices j (s ∷ shares) small =
+    let few : s.index < 2 ^ 32 = All-head (λ (u : SecretShare). u.index < 2 ^ 32) s shares small in
+    let below : s.index < P = omega (arith, few) in
+    let first : residue s.index ≡ point goldilocks s.index = same_number _ _ (mod-eq_of_lt below ∙ sym (point-number s.index below)) in
+    ap₂ (λ (x : F) (xs : List F). x ∷ xs) first (points-of_indices j shares (All-tail (λ (u : SecretShare). u.index < 2 ^ 32) s shares small))
 
 -- shares of distinct indices below 2^32 are at points of which no two are same
 pub points_apart : (j : ℕ) (shares : List SecretShare) → AllPairs (λ s u. s.index ≢ u.index) shares → All (λ s. s.index < 2 ^ 32) shares → AreApart same (points goldilocks (column j shares))

@@ -1,36 +1,36 @@
 -- The shares of all elements have the same indices, and so the same weights.
-use Rattle.std.proofs.Common.{◌≡◌, ◌∙◌, ℕ, ◌+◌, ◌<◌, inl, inr, List, [], ◌∷◌, ◌++◌, length, get_or, refl, sym, ap, subst, arith}
+use Rattle.std.proofs.Common.{◌≡◌, ◌∙◌, ℕ, ◌+◌, ◌<◌, inl, inr, List, [], ◌∷◌, ◌++◌, length, map, get_or, sym, subst, arith}
 use Rattle.std.proofs.lemmas.Bool.{cases_lt}
 use Rattle.std.proofs.lemmas.List.{get_or_append_left, get_or_push, length-map}
-use Rattle.math_theory.specs.Interpolation.{AreApart}
 use Rattle.math_base.specs.declared.fields.goldilocks.F.{F}
-use Rattle.math_base.specs.Elements.{residue, same, goldilocks}
+use Rattle.math_base.specs.Elements.{residue, goldilocks}
 use Rattle.shared_secret.specs.declared.weighing.Weights.{Weights}
 use Rattle.shared_secret.specs.CorrectedShares.{IsCorrectedSecret}
-use Rattle.shared_secret.specs.Shares.{point, points}
+use Rattle.shared_secret.specs.Shares.{AreAtDistinctPoints, points}
 use Rattle.shared_secret.specs.Weights.{AreWeightsAtPoints, AreWeightsOfShares}
 use Rattle.secret_bytes.specs.declared.share.SecretShare.{SecretShare}
 use Rattle.secret_bytes.specs.Columns.{column, share_of}
-
-column-points : (j k : ℕ) (shares : List SecretShare) → points goldilocks (column j shares) ≡ points goldilocks (column k shares)
-column-points j k [] = refl
-column-points j k (s ∷ shares) = ap (λ xs. point goldilocks s.index ∷ xs) (column-points j k shares)
+use Rattle.secret_bytes.specs.Passes.{AreReady}
+use Rattle.secret_bytes.proofs.ElementPoints.{points-of_indices}
 
 column-length : (j : ℕ) (shares : List SecretShare) → length (column j shares) ≡ length shares
 column-length j shares = length-map shares (share_of j)
 
--- weights of the shares of one element are those of the shares of any other
-pub weights-of-column : (t j k : ℕ) (shares : List SecretShare) (w : Weights F) → AreWeightsOfShares goldilocks t (column j shares) w → AreWeightsOfShares goldilocks t (column k shares) w
-weights-of-column t j k shares w h =
-    let e = column-points j k shares in
-    let long : length (column j shares) ≡ length (column k shares) = column-length j shares ∙ sym (column-length k shares) in
+-- the indices as elements are the points of the shares at each element
+pub points-ready : (t width j : ℕ) (shares : List SecretShare) → AreReady t width shares → map (λ (s : SecretShare). residue s.index) shares ≡ points goldilocks (column j shares)
+points-ready t width j shares ready = points-of_indices j shares (λ k d l. (ready.plain k d l).small)
+
+-- weights of these points are those of the shares
+pub weights-ready : (t width j : ℕ) (shares : List SecretShare) (w : Weights F) → AreReady t width shares → AreAtDistinctPoints goldilocks (column j shares)
+    → AreWeightsAtPoints goldilocks t (points goldilocks (column j shares)) w → AreWeightsOfShares goldilocks t (column j shares) w
+weights-ready t width j shares w ready apart h =
     record {
       combinable = record {
-        enough = omega (arith, h.combinable.enough, long);
-        nonzero = λ z. h.combinable.nonzero (z.0, z.1, omega (arith, z.2, long), subst (λ xs. same (get_or xs z.0 z.1) (residue 0)) (sym e) z.3);
-        apart = subst (AreApart same) e h.combinable.apart;
+        enough = omega (arith, ready.enough, column-length j shares);
+        nonzero = apart.0;
+        apart = apart.1;
       };
-      at_points = subst (λ xs. AreWeightsAtPoints goldilocks t xs w) e h.at_points;
+      at_points = h;
     }
 
 -- where the values are not those of one polynomial, what is corrected has wrong places

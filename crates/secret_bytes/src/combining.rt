@@ -1,12 +1,13 @@
 //! Combining of shares of bytes.
 
-ghost use Rattle.std.specs.Prelude.{◌≡◌, ◌<◌, ◌++◌, ℕ, List, [], length, All};
+ghost use Rattle.std.specs.Prelude.{◌≡◌, ◌<◌, ◌≤◌, ◌++◌, ℕ, List, [], length, map, All};
 ghost use Rattle.std.specs.Prelude.{IfOk, IfErr, IfSome, IfNone};
 ghost use Rattle.math_base.specs.declared.fields.goldilocks.F.{F};
-ghost use Rattle.shared_secret.specs.CorrectedShares.{AreSharesWithinRadius, IsCorrectedSecret};
-ghost use Rattle.shared_secret.specs.Shares.{values};
+ghost use Rattle.shared_secret.specs.CorrectedShares.{IsCorrectedSecret};
+ghost use Rattle.shared_secret.specs.Shares.{points, values};
+ghost use Rattle.math_theory.specs.Interpolation.{AreApart};
 ghost use Rattle.shared_secret.specs.Weights.{AreWeightsOfShares};
-ghost use Rattle.math_base.specs.Elements.{goldilocks, product, residue, sum};
+ghost use Rattle.math_base.specs.Elements.{goldilocks, product, residue, same, sum};
 ghost use Rattle.math_theory.specs.Sums.{weighted_sum};
 ghost use Rattle.secret_bytes.specs.Columns.{column};
 ghost use Rattle.secret_bytes.specs.Combined.{AreCombined, AreElementsOfShares, IsDueCombining, others};
@@ -18,9 +19,9 @@ use crate::settling::{Deal, firsts, settled};
 use crate::share::SecretShare;
 use math_base::algebra::Mem;
 use math_base::fields::goldilocks::F;
+use math_decoding::decoding::decode;
 use math_values::sums::sum_of_products;
-use shared_secret::CombineError::{Memory, RepeatedIndex, TooFewShares, ZeroIndex};
-use shared_secret::{Corrected, Share, Weights, combine_corrected, secret_of, weigh};
+use shared_secret::{Weights, secret_of, weigh_points};
 use std::alloc::Global;
 
 /// The bytes, and the indices of the shares that were wrong, rising.
@@ -148,14 +149,26 @@ fn look(
     if elements.len() == width {
         return Ok(Pass::Fit);
     }
-    let weights = weights_once(alloc, t, width, shares)?;
+    let points = points_of(alloc, shares)?;
+    let weights = weigh_points(alloc, t as usize, &points)?;
     for j in elements.len()..width {
         let Some(element) = element_at(alloc, t, shares, &weights, j)? else {
-            return wrong_at(alloc, t, width, shares, j);
+            return wrong_at(alloc, t, &points, shares, j);
         };
         elements.push(element)?;
     }
     Ok(Pass::Fit)
+}
+
+/// The points of the shares, which are the same at each element.
+fn points_of(alloc: Global, shares: &[SecretShare]) -> Mem<Vec<F>>
+    ensures { IfOk result (λ xs. xs.items ≡ map (λ s. residue s.index) shares.now) }
+{
+    let mut out = Vec::with_capacity(alloc, shares.len())?;
+    for share in shares {
+        out.push(F::from(u64::from(share.index)))?;
+    }
+    Ok(out)
 }
 
 /// Element j of the shares, where none of its values is wrong; `None` exactly where one is.
@@ -192,74 +205,22 @@ fn shorter_sum(xs: &[F], ys: &[F]) -> F
     sum_of_products(&xs[..ys.len()], ys)
 }
 
-/// The weights of the shares of each element: their indices are the same.
-fn weights_once(alloc: Global, t: u32, width: usize, shares: &[SecretShare]) -> Mem<Weights<F>>
-    requires ready { AreReady t width shares.now }
-    requires some { 0 < width }
-    ensures { IfOk result (λ w. (j : ℕ) → AreWeightsOfShares goldilocks t (column j shares.now) w) }
-{
-    let column = column(alloc, shares, 0)?;
-    match weigh(alloc, t, &column) {
-        Ok(weights) => Ok(weights),
-        Err(Memory(e)) => Err(e),
-        Err(TooFewShares) => unreachable!(),
-        Err(ZeroIndex) => unreachable!(),
-        Err(RepeatedIndex) => unreachable!(),
-    }
-}
-
 /// What is found at element j, at which the values of the shares are not those of one polynomial of
 /// t coefficients.
-fn wrong_at(alloc: Global, t: u32, width: usize, shares: &[SecretShare], j: usize) -> Mem<Pass>
-    requires ready { AreReady t width shares.now }
-    requires within { j < width }
+fn wrong_at(alloc: Global, t: u32, xs: &[F], shares: &[SecretShare], j: usize) -> Mem<Pass>
+    requires points { xs.now ≡ points goldilocks (column j shares.now) }
+    requires apart { AreApart same xs.now }
+    requires enough { t ≤ length shares.now }
+    requires within { All (λ s. j < length s.values.items) shares.now }
     requires differ { (a : F) → ¬ (IsCorrectedSecret goldilocks t (column j shares.now) a []) }
-    ensures { IfOk result (λ pass. (count : ℕ) → IsPass t width shares.now count pass) }
+    ensures { IfOk result (λ pass. (width count : ℕ) → j < width
+        → IsPass t width shares.now count pass) }
 {
-    match corrected(alloc, t, width, shares, j)? {
+    let ys = values_of(alloc, shares, j)?;
+    match decode(alloc, xs, &ys, t as usize)? {
         Some(found) => Ok(Pass::Wrong(found.wrong)),
         None => Ok(Pass::TooManyWrong),
     }
-}
-
-/// Element j of the shares, and the places of those that are wrong.
-fn corrected(
-    alloc: Global,
-    t: u32,
-    width: usize,
-    shares: &[SecretShare],
-    j: usize,
-) -> Mem<Option<Corrected<F>>>
-    requires ready { AreReady t width shares.now }
-    requires within { j < width }
-    ensures found { IfOk result (λ answer. IfSome answer (λ c.
-        IsCorrectedSecret goldilocks t (column j shares.now) c.secret c.wrong.items)) }
-    ensures none { IfOk result (λ answer. IfNone answer ((p : List F)
-        → ¬ (AreSharesWithinRadius goldilocks t p (column j shares.now)))) }
-{
-    let column = column(alloc, shares, j)?;
-    match combine_corrected(alloc, t, &column) {
-        Ok(found) => Ok(found),
-        Err(Memory(e)) => Err(e),
-        Err(TooFewShares) => unreachable!(),
-        Err(ZeroIndex) => unreachable!(),
-        Err(RepeatedIndex) => unreachable!(),
-    }
-}
-
-/// The shares of one element.
-fn column(alloc: Global, shares: &[SecretShare], j: usize) -> Mem<Vec<Share<F>>>
-    requires { All (λ s. j < length s.values.items) shares.now }
-    ensures { IfOk result (λ out. out.items ≡ column j shares.now) }
-{
-    let mut out = Vec::with_capacity(alloc, shares.len())?;
-    for share in shares {
-        out.push(Share {
-            index: share.index,
-            value: share.values[j],
-        })?;
-    }
-    Ok(out)
 }
 
 /// The values of element j of the shares.

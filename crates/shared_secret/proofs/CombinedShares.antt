@@ -1,11 +1,11 @@
 -- Shares beside their points, which are told apart one by one, and beside copies of their values.
-use Rattle.std.proofs.Common.{◌≡◌, ◌∙◌, ℕ, ◌+◌, ◌<◌, ◌≤◌, List, [], ◌∷◌, ◌++◌, length, map, get_or, take, Bool, IsTrue, ◌↔◌, true, false, Option, Some, None, refl, sym, ap, subst, arith}
+use Rattle.std.proofs.Common.{◌≡◌, ◌∙◌, ℕ, ◌+◌, ◌<◌, ◌≤◌, List, [], ◌∷◌, ◌++◌, length, map, get_or, take, Bool, IsTrue, ◌↔◌, true, false, Option, Some, None, refl, sym, arith}
 use Rattle.std.specs.List.{All, AllZip}
 use Rattle.std.specs.Option.{IfSome, is_some}
 use Rattle.std.proofs.lemmas.Bool.{true≢false}
-use Rattle.std.proofs.lemmas.List.{get_or-map, get_or-take, length-map, length-take-le, take_more}
+use Rattle.std.proofs.lemmas.List.{length-map, take_more}
 use Rattle.std.proofs.lemmas.List.Elements.{AllZip-get_or, length_all_zip}
-use Rattle.math_theory.specs.Interpolation.{AreApart, SomeAreSame, IsFirstPlace}
+use Rattle.math_theory.specs.Interpolation.{AreApart}
 use Rattle.math_theory.specs.Laws.{IsEquality, IsGroup, IsProduct, IsRing}
 use Rattle.math_theory.specs.ModuleLaws.{ring_is_module}
 use Rattle.math_theory.specs.Sums.{weighted_sum}

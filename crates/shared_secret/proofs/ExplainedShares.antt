@@ -1,5 +1,5 @@
 -- Shares at distinct points other than zero, fewer than t, are explained by each secret, and equally often by each.
-use Rattle.std.proofs.Common.{◌≡◌, ◌∙◌, ℕ, zero, suc, ◌+◌, ◌-◌, ◌<◌, ◌≤◌, List, [], ◌∷◌, Option, length, map, take, drop, get_or, refl, sym, ap, subst, arith}
+use Rattle.std.proofs.Common.{◌≡◌, ◌∙◌, ℕ, zero, suc, ◌+◌, ◌-◌, ◌<◌, List, [], ◌∷◌, Option, length, map, take, drop, get_or, sym, ap, subst, arith}
 use Rattle.std.specs.List.{All, AllZip, Contains}
 use Rattle.std.proofs.lemmas.List.{get_or-map, get_or-take, length-drop, length-map, length-take, take-map}
 use Rattle.std.proofs.Math.Seq.{drop-length}
@@ -15,7 +15,7 @@ use Rattle.math_base.specs.Members.{RingOf}
 use Rattle.math_base.specs.Polynomials.{value_in_ring}
 use Rattle.shared_secret.specs.declared.shares.Share.{Share}
 use Rattle.shared_secret.specs.Shares.{point, points, values, AreSharesOf, AreAtDistinctPoints, AreDealt, IsSampled}
-use Rattle.shared_secret.specs.Explanations.{DealsAreExplained, Explains, EachSecretExplainsOnce, EachSecretExplainsByLast, AreAllElements, AreAllExplanations, EachSecretExplainsEquallyOften}
+use Rattle.shared_secret.specs.Explanations.{DealsAreExplained, Explains, EachSecretExplainsOnce, EachSecretExplainsByLast, EachSecretExplainsEquallyOften}
 use Rattle.shared_secret.proofs.ExplainedValues.{explained, length-explained, last-explained, value-explained, agreed, zip-drop, zip-symmetric, zip-transitive, zip-reflexive}
 use Rattle.shared_secret.proofs.ListsOfElements.{lists, length-lists, each-length, apart-lists, lists-every, pairs-map, contains-map}
 

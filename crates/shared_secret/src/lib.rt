@@ -21,4 +21,4 @@ pub use dealing::{deal, deal_committed, shares_of};
 pub use error::{CombineError, DealError};
 pub use shares::{Share, point};
 pub use verifying::verify;
-pub use weighing::{Weights, secret_of, weigh};
+pub use weighing::{Weights, secret_of, weigh, weigh_points};

@@ -52,15 +52,23 @@ pub fn weigh<F: Field>(
         return Err(CombineError::TooFewShares);
     }
     let points = distinct_points(alloc, shares)?;
-    let out = weights_at_points(alloc, t as usize, &points)?;
+    let out = weigh_points(alloc, t as usize, &points)?;
     Ok(out)
 }
 
-/// The weights of the first t points for the value at zero, and at each further point.
-fn weights_at_points<F: Field>(alloc: Global, t: usize, points: &[F]) -> Mem<Weights<F>>
-    requires { t ≤ length points.now }
-    ensures { IfOk result (λ w. AreApart F.same points.now
-        → AreWeightsAtPoints F.Ring t points.now w) }
+/// Does what `weigh` does, for a caller who has the points of the shares. They are distinct, and
+/// there are at least t of them.
+///
+/// ```
+/// use shared_secret::weigh_points;
+/// let weights = weigh_points(alloc, 2, &[F::from(1), F::from(2), F::from(3)])?;
+/// weights.secret; // [2, 18446744069414584320]
+/// weights.further; // [[18446744069414584320, 2]]
+/// ```
+pub fn weigh_points<F: Field>(alloc: Global, t: usize, points: &[F]) -> Mem<Weights<F>>
+    requires enough { t ≤ length points.now }
+    requires apart { AreApart F.same points.now }
+    ensures { IfOk result (AreWeightsAtPoints F.Ring t points.now) }
 {
     let (first, others) = points.split_at(t);
     let secret = weights_at_zero(alloc, first)?;

@@ -7,8 +7,8 @@ use Rattle.shared_secret.proofs.WeighedShares.{moved-further, moved-secret}
 use Rattle.shared_secret.specs.Shares.{points}
 use Rattle.shared_secret.proofs.weighing.weigh.Goals as goal
 
-pub weights_at_points-requires : goal.weights_at_points-requires
-weights_at_points-requires g c =
+pub weigh_points-requires-clause-enough : goal.weigh_points-requires-clause-enough
+weigh_points-requires-clause-enough g c =
     let R = ring_members g.F.Multiplicative.product g.F.Debug.debug_output g.F.Object.same g.F.Object.NEVER_REFUSES g.F.Additive.zero g.F.Additive.sum g.F.Additive.negative g.F.Ring.one in
     let F = g.met.F in
     let count : length c.in_ok-points.points.items ≡ length c.args.shares.now =
@@ -23,7 +23,7 @@ returns-clause-weights g c =
     let xs = c.in_ok-points.points.items in
     let enough : c.args.t ≤ length shares = omega (arith, c.if-shares-t.false) in
     let alike = alike_points R F.Object.equality F.Additive.group shares xs c.in_ok-points.ensures.points in
-    let at : AreWeightsAtPoints R c.args.t xs c.in_ok-out.out = rw c.deref.ensures.value at c.in_ok-out.ensures c.in_ok-points.ensures.apart in
+    let at : AreWeightsAtPoints R c.args.t xs c.in_ok-out.out = rw c.deref.ensures.value at c.in_ok-out.ensures in
     record {
       combinable = combinable R F.Object.equality F.Additive.group c.args.t shares xs enough c.in_ok-points.ensures.points c.in_ok-points.ensures.nonzero c.in_ok-points.ensures.apart;
       at_points = record {

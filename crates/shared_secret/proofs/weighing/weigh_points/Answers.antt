@@ -6,7 +6,7 @@ use Rattle.math_base.specs.Polynomials.{AreWeightsAt}
 use Rattle.math_base.proofs.Members.{ring_members}
 use Rattle.shared_secret.proofs.CombinedShares.{alike_next}
 use Rattle.shared_secret.proofs.WeighedShares.{apart-take}
-use Rattle.shared_secret.proofs.weighing.weights_at_points.Goals as goal
+use Rattle.shared_secret.proofs.weighing.weigh_points.Goals as goal
 
 pub loop-x-preserved : goal.loop-x-preserved
 loop-x-preserved g c = λ apart.
@@ -16,13 +16,14 @@ loop-x-preserved g c = λ apart.
     c.loop-x-test.true c.x-item.is (c.loop-x.invariant apart) (c.in_ok-weights_at.ensures.weights apart))
 
 pub returns : goal.returns
-returns g c = λ apart.
+returns g c =
+    let apart = c.requires.apart in
     let R = ring_members g.F.Multiplicative.product g.F.Debug.debug_output g.F.Object.same g.F.Object.NEVER_REFUSES g.F.Additive.zero g.F.Additive.sum g.F.Additive.negative g.F.Ring.one in
     let F = g.met.F in
     let first = c.split_at.result.0.now in
     let others = c.split_at.result.1.now in
     let front : first ≡ take c.args.t c.args.points.now = c.split_at.ensures.front in
-    let distinct : AreApart R.same first = rw front (apart-take R.same c.args.t c.args.points.now c.requires apart) in
+    let distinct : AreApart R.same first = rw front (apart-take R.same c.args.t c.args.points.now c.requires.enough apart) in
     let further : AllZip (λ x w. AreWeightsAt R x first w.items) others c.loop-x.further.items =
     subst (λ xs. AllZip (λ x w. AreWeightsAt R x first w.items) xs c.loop-x.further.items) (take_all c.loop-x.x-index others c.loop-x-test.false) (c.loop-x.invariant distinct) in
     record {

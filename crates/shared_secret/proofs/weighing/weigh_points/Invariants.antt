@@ -3,7 +3,7 @@ use Rattle.std.specs.List.{AllZip}
 use Rattle.math_theory.specs.Interpolation.{AreApart}
 use Rattle.math_base.specs.Polynomials.{AreWeightsAt}
 use Rattle.math_base.proofs.Members.{ring_members}
-use Rattle.shared_secret.proofs.weighing.weights_at_points.Given as goal
+use Rattle.shared_secret.proofs.weighing.weigh_points.Given as goal
 
 -- the weights for the further points so far
 abbrev pub invariant-loop-x : goal.invariant-loop-x
