@@ -12,10 +12,9 @@ use Rattle.math_base.specs.ElementLaws.{equality, group, commutes, ring}
 use Rattle.math_base.specs.ElementRootLaws.{field, roots}
 use Rattle.math_base.specs.Elements.{inverse, negative, number, product, residue, root_of, same, shift_of, goldilocks}
 use Rattle.math_base.proofs.ElementNumbers.{same_number}
-use Rattle.math_transforms.specs.RootTrees.{AreOnesBelow, IsRootTree, IsTreeOf, class_at}
-use Rattle.math_transforms.proofs.BelowSteps.{ones-first}
+use Rattle.math_transforms.specs.RootTrees.{IsRootTree, IsTreeOf, class_at}
 use Rattle.math_transforms.proofs.RootInverses.{inverse-tree_squares}
-use Rattle.math_transforms.proofs.TreeEntries.{root-tree, tree-ones}
+use Rattle.math_transforms.proofs.TreeEntries.{root-tree}
 use Rattle.math_transforms.proofs.TreePoints.{point-class}
 use Rattle.math_restoring.specs.CosetDivisions.{coset_point, domain_point, raised}
 use Rattle.math_restoring.proofs.ElementRing.{elements}
@@ -31,17 +30,6 @@ back l = inverse (root_of l)
 
 pub backward-tree : (start : F) (lg : ℕ) (tree : List F) → lg ≤ 32 → IsTreeOf goldilocks back start lg tree → IsRootTree goldilocks (inverse (root_of 2)) tree
 backward-tree start lg tree small T = root-tree goldilocks equality group commutes ring back start lg tree (inverse-tree_squares equality group commutes ring field roots lg small) T
-
--- where the start is one, so are the first entries of all levels
-pub forward-ones : (lg : ℕ) (tree : List F) → IsTreeOf goldilocks root_of (residue 1) lg tree → AreOnesBelow goldilocks tree 1
-forward-ones lg tree T = tree-ones goldilocks equality group commutes ring root_of lg tree T
-
-pub backward-ones : (lg : ℕ) (tree : List F) → IsTreeOf goldilocks back (residue 1) lg tree → AreOnesBelow goldilocks tree 1
-backward-ones lg tree T = tree-ones goldilocks equality group commutes ring back lg tree T
-
--- and so are those below the second place
-pub second-ones : (lg : ℕ) (tree : List F) → IsTreeOf goldilocks back (residue 1) lg tree → AreOnesBelow goldilocks tree 2
-second-ones lg tree T = ones-first goldilocks tree 1 (backward-ones lg tree T)
 
 abbrev C : CommutativeRing (Class equality)
 C = ring_of_classes equality group commutes ring

@@ -36,7 +36,7 @@ ghost use Rattle.math_restoring.specs.Restored.{item};
 use math_base::algebra::{Field, FieldNTT, Mem};
 use math_base::fields::goldilocks::F;
 use math_base::weights::quotients;
-use math_transforms::below::{evaluate_below, interpolate_below};
+use math_transforms::below::{Points, evaluate_below, interpolate_below};
 use math_transforms::cells::copies;
 use math_transforms::row_products::multiply_rows;
 use math_transforms::transform::{evaluation_table, interpolation_table, size_inverse, size_of};
@@ -133,26 +133,18 @@ fn write_sums(alloc: Global, cells: &mut [F], cols: usize, lg: u8, inverses: &[F
 {
     let half = size_of(lg - 1) * cols;
     let (low, high) = cells.split_at_mut(half);
-    interpolate_below(
-        alloc,
-        low,
-        cols,
-        lg - 1,
-        2,
-        true,
-        inverses,
-        &mut Work::new(),
-    )?;
-    interpolate_below(
-        alloc,
-        high,
-        cols,
-        lg - 1,
-        3,
-        false,
-        inverses,
-        &mut Work::new(),
-    )?;
+    let even = Points {
+        roots: inverses,
+        place: 2,
+        lg: lg - 1,
+    };
+    interpolate_below(alloc, low, cols, &even, &mut Work::new())?;
+    let odd = Points {
+        roots: inverses,
+        place: 3,
+        lg: lg - 1,
+    };
+    interpolate_below(alloc, high, cols, &odd, &mut Work::new())?;
     add_cells(low, high);
     Ok(())
 }
@@ -177,7 +169,12 @@ fn write_factors(alloc: Global, cells: &mut [F], lg: u8, part: u8, step: F, root
     requires tree { IsTreeOf goldilocks root_of (residue 1) lg roots.now }
     ensures { OnOk result (AreFactors lg part step cells.old cells.new) }
 {
-    evaluate_below(alloc, cells, 1, lg, 1, true, roots, &mut Work::new())?;
+    let points = Points {
+        roots,
+        place: 1,
+        lg,
+    };
+    evaluate_below(alloc, cells, 1, &points, &mut Work::new())?;
     let factor = size_inverse::<F>(alloc, lg)?;
     if part == lg {
         multiply_rows(alloc, cells, size_of(lg), &[factor])?;
@@ -214,7 +211,12 @@ fn divided_inverses(
 {
     fold(cells, 1, lg, part, step);
     let first = &mut cells[..size_of(part)];
-    evaluate_below(alloc, first, 1, part, 1, false, roots, &mut Work::new())?;
+    let coset = Points {
+        roots,
+        place: 1,
+        lg: part,
+    };
+    evaluate_below(alloc, first, 1, &coset, &mut Work::new())?;
     let numerator = size_inverse::<F>(alloc, part)?;
     let inverses = quotients(alloc, numerator, first)?;
     Ok(inverses)
@@ -284,42 +286,30 @@ pub(crate) fn divide(
     let lg = division.lg;
     let part = division.part;
     if part == lg {
-        interpolate_below(
-            alloc,
-            cells,
-            cols,
+        let domain = Points {
+            roots: &division.domain,
+            place: 1,
             lg,
-            1,
-            true,
-            &division.domain,
-            &mut Work::new(),
-        )?;
+        };
+        interpolate_below(alloc, cells, cols, &domain, &mut Work::new())?;
     } else {
         write_sums(alloc, cells, cols, lg, &division.domain)?;
         let sums = &mut cells[..size_of(lg - 1) * cols];
         fold(sums, cols, lg - 1, part, division.step);
     }
     let first = &mut cells[..size_of(part) * cols];
-    evaluate_below(
-        alloc,
-        first,
-        cols,
-        part,
-        1,
-        false,
-        &division.coset,
-        &mut Work::new(),
-    )?;
+    let coset = Points {
+        roots: &division.coset,
+        place: 1,
+        lg: part,
+    };
+    evaluate_below(alloc, first, cols, &coset, &mut Work::new())?;
     multiply_rows(alloc, first, cols, &division.inverses)?;
-    interpolate_below(
-        alloc,
-        first,
-        cols,
-        part,
-        1,
-        false,
-        &division.coset_inverses,
-        &mut Work::new(),
-    )?;
+    let inverses = Points {
+        roots: &division.coset_inverses,
+        place: 1,
+        lg: part,
+    };
+    interpolate_below(alloc, first, cols, &inverses, &mut Work::new())?;
     Ok(())
 }

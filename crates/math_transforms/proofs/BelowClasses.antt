@@ -7,10 +7,10 @@ use Rattle.math_theory.specs.Rings.{CommutativeRing}
 use Rattle.math_theory.proofs.classes.Classes.{Class, class, class_same, same_class, ring_of_classes}
 use Rattle.math_theory.proofs.classes.ClassesOfLists.{coefficient-class, length-classes, power-class, value-class}
 use Rattle.math_base.specs.Members.{RingOf}
-use Rattle.math_transforms.specs.CombinedCells.{AreCombined, IsCombined}
+use Rattle.math_transforms.specs.CombinedCells.{IsCombined}
 use Rattle.math_transforms.specs.DomainValues.{matrix_of}
 use Rattle.math_transforms.specs.Matrices.{column_of}
-use Rattle.math_transforms.specs.Quarters.{AreTurned, IsTurned}
+use Rattle.math_transforms.specs.Quarters.{IsTurned}
 use Rattle.math_transforms.specs.RootTrees.{AreMultiplesBelow, AreValuesBelow, IsRootTree, class_at, column_value, entry, twos}
 use Rattle.math_transforms.proofs.LevelsBelow.{AreMultiplesAt, multiples-level, row-multiples, row-values, values-level}
 use Rattle.math_transforms.proofs.PointsBelow.{plain}
@@ -92,19 +92,20 @@ module _ {A : Type 0} (R : RingOf A) (E : IsEquality R.same) (G : IsGroup R.same
   pub row-multiples-same : (inverses : List A) (lg place c : ℕ) (cells : List A) → lg ≡ 0 → AreMultiplesBelow R inverses lg place c cells cells
   row-multiples-same inverses lg place c cells none = multiples-from inverses lg place c cells cells (λ x. row-multiples C (class E x) (classes inverses) lg place c (classes cells) none)
 
-  -- the pairs of two lists that are combined, by classes
-  combined-item : (forward : Bool) (w : A) (n : ℕ) (lows highs new_lows new_highs : List A) → AreCombined R forward (λ _. w) 0 n lows highs new_lows new_highs → (j : ℕ) → j < n
+  -- cells that are combined or turned, by classes
+  combined-item : (forward : Bool) (w : A) (lows highs new_lows new_highs : List A) (j : ℕ) → IsCombined R forward w (entry R lows j) (entry R highs j) (entry R new_lows j) (entry R new_highs j)
       → IsCombined S forward (class E w) (entry S (classes lows) j) (entry S (classes highs) j) (entry S (classes new_lows) j) (entry S (classes new_highs) j)
-  combined-item forward w n lows highs new_lows new_highs h j m =
+  combined-item forward w lows highs new_lows new_highs j h =
       rw (entry-class lows j, entry-class highs j, entry-class new_lows j, entry-class new_highs j)
-      (combined-class R E G P L forward w (entry R lows j) (entry R highs j) (entry R new_lows j) (entry R new_highs j) (h.combined j (omega arith) m))
+      (combined-class R E G P L forward w (entry R lows j) (entry R highs j) (entry R new_lows j) (entry R new_highs j) h)
 
-  turned-item : (forward : Bool) (e f g : A) (n : ℕ) (a b c d na nb nc nd : List A) → AreTurned R forward e f g 0 n a b c d na nb nc nd → (j : ℕ) → j < n
+  turned-item : (forward : Bool) (e f g : A) (a b c d na nb nc nd : List A) (j : ℕ)
+      → IsTurned R forward e f g (entry R a j) (entry R b j) (entry R c j) (entry R d j) (entry R na j) (entry R nb j) (entry R nc j) (entry R nd j)
       → IsTurned S forward (class E e) (class E f) (class E g) (entry S (classes a) j) (entry S (classes b) j) (entry S (classes c) j) (entry S (classes d) j)
       (entry S (classes na) j) (entry S (classes nb) j) (entry S (classes nc) j) (entry S (classes nd) j)
-  turned-item forward e f g n a b c d na nb nc nd h j m =
+  turned-item forward e f g a b c d na nb nc nd j h =
       rw (entry-class a j, entry-class b j, entry-class c j, entry-class d j, entry-class na j, entry-class nb j, entry-class nc j, entry-class nd j)
-      (turned-class R E G P L forward e f g _ _ _ _ _ _ _ _ (h.turned j (omega arith) m))
+      (turned-class R E G P L forward e f g _ _ _ _ _ _ _ _ h)
 
   two-parts : (p q : List A) → classes (p ++ q) ≡ classes p ++ classes q
   two-parts p q = map-append (class E) p q
@@ -126,7 +127,7 @@ module _ {A : Type 0} (R : RingOf A) (E : IsEquality R.same) (G : IsGroup R.same
 
       -- two halves combined, and then each turned into its values
       pub values-level-same : (low high new_low new_high values_low values_high : List A) → length low ≡ 2 ^ (lg - 1) * cols → length values_low ≡ 2 ^ (lg - 1) * cols
-          → AreCombined R true (λ _. w) 0 (length low) low high new_low new_high
+          → ((j : ℕ) → j < 2 ^ (lg - 1) * cols → IsCombined R true w (entry R low j) (entry R high j) (entry R new_low j) (entry R new_high j))
           → AreValuesBelow R roots (lg - 1) (2 * place) cols new_low values_low → AreValuesBelow R roots (lg - 1) (2 * place + 1) cols new_high values_high
           → AreValuesBelow R roots lg place cols (low ++ high) (values_low ++ values_high)
       values-level-same low high new_low new_high values_low values_high count values_count combined first second =
@@ -135,12 +136,12 @@ module _ {A : Type 0} (R : RingOf A) (E : IsEquality R.same) (G : IsGroup R.same
           (values-level C (class E turn) (classes roots) (tree-class turn roots tree) lg place cols (λ l. class_same E _ _ (square l)) some one within-classes
           (classes low) (classes high) (classes new_low) (classes new_high) (counted low _ count) (classes values_low) (classes values_high) (counted values_low _ values_count)
           (λ j m. subst (λ r. IsCombined S true r (entry S (classes low) j) (entry S (classes high) j) (entry S (classes new_low) j) (entry S (classes new_high) j)) weight
-          (combined-item true w (length low) low high new_low new_high combined j (omega (arith, m, count))))
+          (combined-item true w low high new_low new_high j (combined j m)))
           (values-to roots (lg - 1) (2 * place) cols new_low values_low first) (values-to roots (lg - 1) (2 * place + 1) cols new_high values_high second)))
 
       -- multiples of two halves, combined on the way back
       pub multiples-level-same : (low high mid_low mid_high new_low new_high : List A) → length low ≡ 2 ^ (lg - 1) * cols → length mid_low ≡ 2 ^ (lg - 1) * cols → length new_low ≡ 2 ^ (lg - 1) * cols
-          → AreCombined R false (λ _. w) 0 (length mid_low) mid_low mid_high new_low new_high
+          → ((j : ℕ) → j < 2 ^ (lg - 1) * cols → IsCombined R false w (entry R mid_low j) (entry R mid_high j) (entry R new_low j) (entry R new_high j))
           → AreMultiplesBelow R roots (lg - 1) (2 * place) cols low mid_low → AreMultiplesBelow R roots (lg - 1) (2 * place + 1) cols high mid_high
           → AreMultiplesBelow R roots lg place cols (low ++ high) (new_low ++ new_high)
       multiples-level-same low high mid_low mid_high new_low new_high count mid_count new_count combined first second =
@@ -149,7 +150,7 @@ module _ {A : Type 0} (R : RingOf A) (E : IsEquality R.same) (G : IsGroup R.same
           (multiples-level C (class E turn) (classes roots) (tree-class turn roots tree) lg place cols (λ l. class_same E _ _ (square l)) some one within-classes
           (class E x) (classes low) (classes high) (classes mid_low) (classes mid_high) (classes new_low) (classes new_high) (counted low _ count) (counted new_low _ new_count)
           (λ j m. subst (λ r. IsCombined S false r (entry S (classes mid_low) j) (entry S (classes mid_high) j) (entry S (classes new_low) j) (entry S (classes new_high) j)) weight
-          (combined-item false w (length mid_low) mid_low mid_high new_low new_high combined j (omega (arith, m, mid_count))))
+          (combined-item false w mid_low mid_high new_low new_high j (combined j m)))
           (multiples-to x roots (lg - 1) (2 * place) cols low mid_low first) (multiples-to x roots (lg - 1) (2 * place + 1) cols high mid_high second)))
 
     module _ (two : 2 ≤ lg) (e f g : A) (e_is : e ≡ entry R roots (2 * place)) (f_is : f ≡ entry R roots (2 * place + 1)) (g_is : g ≡ entry R roots place)
@@ -165,7 +166,7 @@ module _ {A : Type 0} (R : RingOf A) (E : IsEquality R.same) (G : IsGroup R.same
 
       -- four quarters turned, and then each turned into its values
       pub values-quarters-same : (na nb nc nd va vb vc vd : List A) → length va ≡ 2 ^ (lg - 2) * cols → length vb ≡ 2 ^ (lg - 2) * cols → length vc ≡ 2 ^ (lg - 2) * cols
-          → AreTurned R true e f g 0 (length a) a b c d na nb nc nd
+          → ((j : ℕ) → j < 2 ^ (lg - 2) * cols → IsTurned R true e f g (entry R a j) (entry R b j) (entry R c j) (entry R d j) (entry R na j) (entry R nb j) (entry R nc j) (entry R nd j))
           → AreValuesBelow R roots (lg - 2) (2 * (2 * place)) cols na va → AreValuesBelow R roots (lg - 2) (2 * (2 * place) + 1) cols nb vb
           → AreValuesBelow R roots (lg - 2) (2 * (2 * place) + 2) cols nc vc → AreValuesBelow R roots (lg - 2) (2 * (2 * place) + 3) cols nd vd
           → AreValuesBelow R roots lg place cols ((a ++ b) ++ (c ++ d)) ((va ++ vb) ++ (vc ++ vd))
@@ -175,7 +176,7 @@ module _ {A : Type 0} (R : RingOf A) (E : IsEquality R.same) (G : IsGroup R.same
           (values-quarters C (class E turn) (class_same E _ _ (square (omega (arith, two)))) (classes roots) (tree-class turn roots tree) lg place cols two one within-classes
           (classes a) (classes b) (classes c) (classes d) (counted a _ a_count) (counted b _ b_count) (counted c _ c_count) (counted d _ d_count)
           (classes na) (classes nb) (classes nc) (classes nd) (classes va) (classes vb) (classes vc) (classes vd) (counted va _ va_count) (counted vb _ vb_count) (counted vc _ vc_count)
-          (λ j m. rw (e-class, f-class, g-class) at (turned-item true e f g (length a) a b c d na nb nc nd turned j (omega (arith, m, a_count))))
+          (λ j m. rw (e-class, f-class, g-class) at (turned-item true e f g a b c d na nb nc nd j (turned j m)))
           (values-to roots (lg - 2) (2 * (2 * place)) cols na va first) (values-to roots (lg - 2) (2 * (2 * place) + 1) cols nb vb second)
           (values-to roots (lg - 2) (2 * (2 * place) + 2) cols nc vc third) (values-to roots (lg - 2) (2 * (2 * place) + 3) cols nd vd fourth)))
 
@@ -183,7 +184,7 @@ module _ {A : Type 0} (R : RingOf A) (E : IsEquality R.same) (G : IsGroup R.same
       pub multiples-quarters-same : (ma mb mc md na nb nc nd : List A)
           → length ma ≡ 2 ^ (lg - 2) * cols → length mb ≡ 2 ^ (lg - 2) * cols → length mc ≡ 2 ^ (lg - 2) * cols → length md ≡ 2 ^ (lg - 2) * cols
           → length na ≡ 2 ^ (lg - 2) * cols → length nb ≡ 2 ^ (lg - 2) * cols → length nc ≡ 2 ^ (lg - 2) * cols
-          → AreTurned R false e f g 0 (length ma) ma mb mc md na nb nc nd
+          → ((j : ℕ) → j < 2 ^ (lg - 2) * cols → IsTurned R false e f g (entry R ma j) (entry R mb j) (entry R mc j) (entry R md j) (entry R na j) (entry R nb j) (entry R nc j) (entry R nd j))
           → AreMultiplesBelow R roots (lg - 2) (2 * (2 * place)) cols a ma → AreMultiplesBelow R roots (lg - 2) (2 * (2 * place) + 1) cols b mb
           → AreMultiplesBelow R roots (lg - 2) (2 * (2 * place) + 2) cols c mc → AreMultiplesBelow R roots (lg - 2) (2 * (2 * place) + 3) cols d md
           → AreMultiplesBelow R roots lg place cols ((a ++ b) ++ (c ++ d)) ((na ++ nb) ++ (nc ++ nd))
@@ -194,6 +195,6 @@ module _ {A : Type 0} (R : RingOf A) (E : IsEquality R.same) (G : IsGroup R.same
           (classes a) (classes b) (classes c) (classes d) (counted a _ a_count) (counted b _ b_count) (counted c _ c_count) (counted d _ d_count)
           (class E x) (classes ma) (classes mb) (classes mc) (classes md) (classes na) (classes nb) (classes nc) (classes nd)
           (counted ma _ ma_count) (counted mb _ mb_count) (counted mc _ mc_count) (counted md _ md_count) (counted na _ na_count) (counted nb _ nb_count) (counted nc _ nc_count)
-          (λ j m. rw (e-class, f-class, g-class) at (turned-item false e f g (length ma) ma mb mc md na nb nc nd turned j (omega (arith, m, ma_count))))
+          (λ j m. rw (e-class, f-class, g-class) at (turned-item false e f g ma mb mc md na nb nc nd j (turned j m)))
           (multiples-to x roots (lg - 2) (2 * (2 * place)) cols a ma first) (multiples-to x roots (lg - 2) (2 * (2 * place) + 1) cols b mb second)
           (multiples-to x roots (lg - 2) (2 * (2 * place) + 2) cols c mc third) (multiples-to x roots (lg - 2) (2 * (2 * place) + 3) cols d md fourth)))

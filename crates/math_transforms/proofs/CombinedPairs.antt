@@ -1,11 +1,11 @@
--- Pairs of cells that are combined, one after the other.
-use Rattle.std.proofs.Common.{◌≡◌, ◌≢◌, ◌∙◌, inl, inr, ℕ, ◌+◌, ◌<◌, ◌≤◌, Bool, true, false, eqb, not, List, length, get_or, set, subst, refl, arith}
+-- Pairs of cells that are combined, one column after the other.
+use Rattle.std.proofs.Common.{◌≡◌, ◌≢◌, ◌∙◌, inl, inr, ℕ, ◌+◌, ◌*◌, ◌<◌, ◌≤◌, Bool, true, false, eqb, not, List, length, get_or, set, subst, refl, arith}
 use Rattle.std.specs.Prelude.{IsTrue}
 use Rattle.std.proofs.lemmas.Bool.{cases_lt, eq-eqb, ne_eqb}
-use Rattle.std.proofs.lemmas.List.{get_or_default, get_or-set_same, get_or-set_other}
+use Rattle.std.proofs.lemmas.List.{get_or-set_same, get_or-set_other, length-set}
 use Rattle.math_theory.specs.Laws.{IsEquality, IsGroup, IsProduct, IsRing}
 use Rattle.math_base.specs.Members.{RingOf}
-use Rattle.math_transforms.specs.CombinedCells.{IsCombined, AreCombined}
+use Rattle.math_transforms.specs.CombinedCells.{IsCombined}
 
 -- a number that stands for a truth value and is not zero stands for true
 pub true-from_number : (n : ℕ) → n ≢ 0 → IsTrue (not (eqb n 0))
@@ -43,43 +43,51 @@ module _ {A : Type 0} (R : RingOf A) where
             | false ↦ record { sum = t; difference = E.transitive _ _ _ v (times (R.sum a (R.negative b))) }
           ]
 
-  module _ (forward : Bool) (factor : ℕ → A) where
-    pub combined-none : (first last : ℕ) (lows highs : List A) → last ≤ first → AreCombined R forward factor first last lows highs lows highs
-    combined-none first last lows highs l = record {
-      combined = λ p h k. absurd (omega arith);
-      lows_before = λ p h. refl;
-      lows_after = λ p h. refl;
-      highs_before = λ p h. refl;
-      highs_after = λ p h. refl;
-    }
+  module _ (forward : Bool) (w : A) (c : ℕ) where
+    -- the cell at place i
+    abbrev at : List A → ℕ → A
+    at xs i = get_or xs i R.zero
 
-    -- the places from the first to the middle, and then those from there to the last
-    pub combined-then : (other : ℕ → A) (first middle last : ℕ) (lows highs mid_lows mid_highs new_lows new_highs : List A) → first ≤ middle → middle ≤ last
-        → ((p : ℕ) → middle ≤ p → p < last → other p ≡ factor p)
-        → AreCombined R forward factor first middle lows highs mid_lows mid_highs → AreCombined R forward other middle last mid_lows mid_highs new_lows new_highs
-        → AreCombined R forward factor first last lows highs new_lows new_highs
-    combined-then other first middle last lows highs mid_lows mid_highs new_lows new_highs l m e h k = record {
-      combined = λ p below above. elim (cases_lt p middle) [
-        | inl before ↦ rw (k.lows_before p before, k.highs_before p before) (h.combined p below before)
-        | inr after ↦ rw (← e p after above, ← h.lows_after p after, ← h.highs_after p after) (k.combined p after above)
+    -- column p of two rows of c cells is combined, and all other cells are as before
+    record IsColumnCombined (p : ℕ) (old new : List A) : Type 0 where
+      combined : IsCombined R forward w (at old p) (at old (c + p)) (at new p) (at new (c + p))
+      others : (i : ℕ) → i ≢ p → i ≢ c + p → at new i ≡ at old i
+
+    -- the first n columns of two rows are combined, and the others are as before
+    pub record AreCombinedBelow (n : ℕ) (old new : List A) : Type 0 where
+      pub combined : (p : ℕ) → p < n → IsCombined R forward w (at old p) (at old (c + p)) (at new p) (at new (c + p))
+      pub kept : (p : ℕ) → n ≤ p → p < c → (at new p ≡ at old p) × (at new (c + p) ≡ at old (c + p))
+
+    pub combined-none : (xs : List A) → AreCombinedBelow 0 xs xs
+    combined-none xs = record { combined = λ p l. absurd (omega arith); kept = λ p l m. (refl, refl) }
+
+    -- and then the next column
+    column-more : (n : ℕ) (old mid new : List A) → n < c → AreCombinedBelow n old mid → IsColumnCombined n mid new → AreCombinedBelow (n + 1) old new
+    column-more n old mid new l h k = record {
+      combined = λ p b. elim (cases_lt p n) as (λ _. IsCombined R forward w (at old p) (at old (c + p)) (at new p) (at new (c + p))) [
+        | inl before ↦ rw (k.others p (omega arith) (omega arith), k.others (c + p) (omega arith) (omega arith)) (h.combined p before)
+        | inr past ↦
+            let same : n ≡ p = omega (arith, past, b) in
+            let was = h.kept n (omega arith) l in
+            subst (λ p. IsCombined R forward w (at old p) (at old (c + p)) (at new p) (at new (c + p))) same (rw (← was.0, ← was.1) k.combined)
       ];
-      lows_before = λ p q. k.lows_before p (omega arith) ∙ h.lows_before p q;
-      lows_after = λ p q. k.lows_after p q ∙ h.lows_after p (omega arith);
-      highs_before = λ p q. k.highs_before p (omega arith) ∙ h.highs_before p q;
-      highs_after = λ p q. k.highs_after p q ∙ h.highs_after p (omega arith);
+      kept = λ p b m.
+          let was = h.kept p (omega (arith, b)) m in
+          (k.others p (omega arith) (omega arith) ∙ was.0, k.others (c + p) (omega arith) (omega arith) ∙ was.1);
     }
 
-    -- one pair
-    pub combined-one : (p : ℕ) (lows highs : List A) (low high : A) → p < length lows → p < length highs
-        → (w d e : A) → w ≡ factor p → IsCombined R forward w (get_or lows p d) (get_or highs p e) low high
-        → AreCombined R forward factor p (p + 1) lows highs (set lows p low) (set highs p high)
-    combined-one p lows highs low high l m w d e f h = record {
-      combined = λ q below above.
-          let at : p ≡ q = omega arith in
-          subst (λ q. IsCombined R forward (factor q) (get_or lows q R.zero) (get_or highs q R.zero) (get_or (set lows p low) q R.zero) (get_or (set highs p high) q R.zero)) at
-          (rw (← f, get_or-set_same lows p low R.zero l, get_or-set_same highs p high R.zero m, get_or_default lows p R.zero d l, get_or_default highs p R.zero e m) h);
-      lows_before = λ q b. get_or-set_other lows p q low R.zero (omega arith);
-      lows_after = λ q b. get_or-set_other lows p q low R.zero (omega arith);
-      highs_before = λ q b. get_or-set_other highs p q high R.zero (omega arith);
-      highs_after = λ q b. get_or-set_other highs p q high R.zero (omega arith);
-    }
+    -- one column, of which both cells are written
+    combined-column : (p : ℕ) (old : List A) (a b x y : A) → p < c → length old ≡ 2 * c → a ≡ at old p → b ≡ at old (c + p) → IsCombined R forward w a b x y
+        → IsColumnCombined p old (set (set old p x) (c + p) y)
+    combined-column p old a b x y l long is_a is_b h =
+        let low : at (set (set old p x) (c + p) y) p ≡ x = get_or-set_other (set old p x) (c + p) p y R.zero (omega arith) ∙ get_or-set_same old p x R.zero (omega arith) in
+        let high : at (set (set old p x) (c + p) y) (c + p) ≡ y = get_or-set_same (set old p x) (c + p) y R.zero (omega (arith, length-set old p x)) in
+        record {
+          combined = rw (← is_a, ← is_b, low, high) h;
+          others = λ i m n. get_or-set_other (set old p x) (c + p) i y R.zero n ∙ get_or-set_other old p i x R.zero m;
+        }
+
+    -- and so with the next column, of which both cells are written
+    pub combined-more : (n : ℕ) (old mid : List A) (x y : A) → n < c → length mid ≡ 2 * c → AreCombinedBelow n old mid → (a b : A) → a ≡ at mid n → b ≡ at mid (c + n) → IsCombined R forward w a b x y
+        → AreCombinedBelow (n + 1) old (set (set mid n x) (c + n) y)
+    combined-more n old mid x y l long h a b is_a is_b k = column-more n old mid _ l h (combined-column n mid a b x y l long is_a is_b k)

@@ -48,3 +48,7 @@ adds-part m n u v h k = record { no_fewer = k.no_fewer; no_more = omega (arith, 
 
 pub adds-then : (m n : ℕ) (u v w : WorkOf) → AddsAtMost m u v → AddsAtMost n v w → AddsAtMost (m + n) u w
 adds-then m n u v w h k = record { no_fewer = omega (arith, h.no_fewer, k.no_fewer); no_more = omega (arith, h.no_more, k.no_more); root_products = k.root_products ∙ h.root_products }
+
+-- what is added exactly
+pub adds-exactly : (m n : ℕ) (u v : WorkOf) → 2 * m ≤ n → v.butterflies ≡ u.butterflies + m → v.root_products ≡ u.root_products → AddsAtMost n u v
+adds-exactly m n u v l e r = record { no_fewer = omega (arith, e); no_more = omega (arith, e, l); root_products = r }

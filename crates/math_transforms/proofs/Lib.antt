@@ -32,10 +32,11 @@ pub mod RootWeightCases
 pub mod PointsBelow
 pub mod LevelsBelow
 pub mod TurnedCells
-pub mod TurnedQuarters
+pub mod TurnedColumns
 pub mod QuartersBelow
 pub mod BelowClasses
 pub mod BelowSteps
 pub mod CopiedCells
 pub mod FewCoefficients
 mod TrimmedCoefficients
+pub mod RowsBelow

@@ -1,34 +1,10 @@
--- Cells that are scaled one after the other, and the inverse of a power of two.
-use Rattle.std.proofs.Common.{◌≡◌, ◌∙◌, inl, inr, ℕ, ◌+◌, ◌<◌, ◌≤◌, List, [], ◌∷◌, length, get_or, set, refl, ap, subst, add-one, arith}
-use Rattle.std.proofs.lemmas.Bool.{cases_lt}
-use Rattle.std.proofs.lemmas.List.{get_or_default, get_or-set_same, get_or-set_other}
+-- The inverse of a power of two.
+use Rattle.std.proofs.Common.{◌≡◌, ◌∙◌, ℕ, ◌+◌, ◌≤◌, [], ◌∷◌, refl, ap, add-one, arith}
 use Rattle.math_theory.specs.Laws.{IsEquality, IsGroup, IsProduct, IsRing}
 use Rattle.math_theory.specs.Powers.{power, power-zero, power-suc}
 use Rattle.math_theory.specs.Rings.{CommutativeRing}
 use Rattle.math_theory.proofs.classes.Classes.{Class, class, class_same, same_class, ring_of_classes}
 use Rattle.math_theory.proofs.rings.Normal.{ring, ◌⊗◌, v0, v1, v2}
-
--- the first n cells are scaled, and the others are as before
-pub record AreScaledBelow {A : Type 0} (same : A → A → Type 0) (product : A → A → A) (d factor : A) (old new : List A) (n : ℕ) : Type 0 where
-  pub scaled : (q : ℕ) → q < n → same (get_or new q d) (product (get_or old q d) factor)
-  pub kept : (q : ℕ) → n ≤ q → get_or new q d ≡ get_or old q d
-
-module _ {A : Type 0} (same : A → A → Type 0) (product : A → A → A) (d factor : A) (old : List A) where
-  pub scaled-none : AreScaledBelow same product d factor old old 0
-  scaled-none = record { scaled = λ q l. absurd (omega arith); kept = λ q l. refl }
-
-  pub scaled-more : (n : ℕ) (now : List A) (x e : A) → n < length now → same x (product (get_or now n e) factor) → AreScaledBelow same product d factor old now n
-      → AreScaledBelow same product d factor old (set now n x) (n + 1)
-  scaled-more n now x e l s h = record {
-    scaled = λ q m. elim (cases_lt q n) [
-      | inl below ↦ rw (get_or-set_other now n q x d (omega (arith, below))) (h.scaled q below)
-      | inr above ↦
-          let at : n ≡ q = omega (arith, m, above) in
-          subst (λ q. same (get_or (set now n x) q d) (product (get_or old q d) factor)) at
-          (rw (get_or-set_same now n x d l, ← h.kept n (omega arith), get_or_default now n d e l) s)
-    ];
-    kept = λ q m. get_or-set_other now n q x d (omega arith) ∙ h.kept q (omega arith);
-  }
 
 module _ {A : Type 0} {same : A → A → Type 0} {zero_of : A} {sum : A → A → A} {negative : A → A} {product : A → A → A} {one : A}
     (E : IsEquality same) (G : IsGroup same zero_of sum negative) (P : IsProduct same product) (R : IsRing same sum product one) where

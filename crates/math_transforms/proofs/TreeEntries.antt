@@ -14,7 +14,8 @@ use Rattle.math_theory.proofs.rings.Normal.{ring, ◌⊗◌, v0, v1}
 use Rattle.math_theory.proofs.rings.PowerLaws.{power-add, power-of_one, power-one, power-product}
 use Rattle.math_theory.proofs.transforms.BitOrder.{bit_reversed-suc}
 use Rattle.math_base.specs.Members.{RingOf}
-use Rattle.math_transforms.specs.RootTrees.{IsTreeOf, IsRootTree, AreOnesBelow, entry}
+use Rattle.math_transforms.specs.RootTrees.{ArePoints, IsTreeOf, IsRootTree, entry}
+use Rattle.math_transforms.specs.declared.below.Points.{Points}
 use Rattle.math_transforms.specs.TreeLevels.{AddsLevel, AreLevelsScaled}
 use Rattle.math_transforms.proofs.PowersOfTwo.{power_of_two-double, power_of_two-rises}
 use Rattle.math_transforms.proofs.ReversedBits.{reversed-high, reversed-none}
@@ -205,15 +206,6 @@ module _ {A : Type 0} (R : RingOf A) (E : IsEquality R.same) (G : IsGroup R.same
       tree-begins lg (lg - 1) tree below (omega arith) (ap length e ∙ length-take-le half tree (omega (arith, half_is, T.count, double)) ∙ half_is)
       (λ p l. ap (λ xs. get_or xs p R.zero) e ∙ get_or-take half tree p R.zero (omega (arith, l, half_is))) T
 
-  -- the first entry of each level is one
-  pub tree-ones : (lg : ℕ) (tree : List A) → IsTreeOf R root R.one lg tree → AreOnesBelow R tree 1
-  tree-ones lg tree T k l =
-      let place : 1 * 2 ^ k ≡ 2 ^ k + 0 = omega arith in
-      let within : k < lg = level-within lg k 0 (omega (arith, l, T.count)) in
-      rw place
-      (same_class E _ _
-      (ones-entry lg k 0 tree T within (pow_pos k) ∙ ap (OverRing.power C (class E (root (suc k)))) (reversed-zero k) ∙ power-zero C.one C.product (class E (root (suc k)))))
-
   module _ (start : A) (lg : ℕ) (tree : List A) (square : (l : ℕ) → l < lg → R.same (R.product (root (suc l)) (root (suc l))) (root l)) (T : IsTreeOf R root start lg tree) where
     -- an entry, as a class
     at : (d b : ℕ) → d < lg → b < 2 ^ d
@@ -291,3 +283,15 @@ module _ {A : Type 0} (R : RingOf A) (E : IsEquality R.same) (G : IsGroup R.same
           let next : 2 ^ suc d + (2 * b + 1) ≡ 2 * j + 1 = omega (arith, is, power_of_two-suc d) in
           rw (next, place) at (odd-root d b (level-within lg (suc d) (2 * b + 1) (omega (arith, next, l, T.count))) here.3);
     }
+
+-- all points of a tree
+module _ {A : Type 0} (R : RingOf A) (E : IsEquality R.same) (G : IsGroup R.same R.zero R.sum R.negative) (P : IsProduct R.same R.product) (L : IsRing R.same R.sum R.product R.one) where
+  pub all-points : (root : ℕ → A) (start : A) (greatest : ℕ) (points : Points A) → points.place ≡ 1 → points.lg ≤ greatest → points.lg < 64
+      → ((l : ℕ) → l < points.lg → R.same (R.product (root (suc l)) (root (suc l))) (root l)) → IsTreeOf R root start points.lg points.roots.now → ArePoints R greatest (root 2) points
+  all-points root start greatest points top domain small square T = record {
+    domain = domain;
+    small = small;
+    tree = root-tree R E G P L root start points.lg points.roots.now square T;
+    some = omega (arith, top);
+    within = rw top (omega (arith, T.count));
+  }

@@ -10,34 +10,39 @@ use Rattle.math_transforms.specs.CombinedCells.{IsCombined}
 use Rattle.math_transforms.specs.Quarters.{IsTurned}
 use Rattle.math_transforms.proofs.PointsBelow.{plain}
 
+-- s and d are the sum and the difference of a and b
+pub record AreSumAndDifference {A : Type 0} (R : RingOf A) (a b s d : A) : Type 0 where
+  pub sum : R.same s (R.sum a b)
+  pub difference : R.same d (R.sum a (R.negative b))
+
 module _ {K : Type 0} (C : CommutativeRing K) (e f g a b c d : K) where
-  module _ (eg minus_fg one a1 b1 c1 d1 new_a new_b new_c new_d : K) (product_is : eg ≡ C.product e g) (negative_is : minus_fg ≡ C.negative (C.product f g)) (one_is : one ≡ C.one) where
+  module _ (eg minus_fg a1 b1 c1 d1 new_a new_b new_c new_d : K) (product_is : eg ≡ C.product e g) (negative_is : minus_fg ≡ C.negative (C.product f g)) where
     abbrev xs : List K
     xs = a ∷ b ∷ c ∷ d ∷ e ∷ f ∷ g ∷ []
 
     -- forward, by one product and two sums of two products
-    four-forward-plain : IsCombined (plain C) true g a c a1 c1 → b1 ≡ C.sum (C.product e b) (C.product eg d) → d1 ≡ C.sum (C.product f b) (C.product minus_fg d)
-        → IsCombined (plain C) true one a1 b1 new_a new_b → IsCombined (plain C) true one c1 d1 new_c new_d → IsTurned (plain C) true e f g a b c d new_a new_b new_c new_d
-    four-forward-plain h hb hd l m = record {
-      first = rw (l.sum, h.sum, hb, product_is, one_is) (ring C xs ((v0 ⊕ (v2 ⊗ v6)) ⊕ (((v4 ⊗ v1) ⊕ ((v4 ⊗ v6) ⊗ v3)) ⊗ 𝟙)) ((v0 ⊕ (v2 ⊗ v6)) ⊕ ((v1 ⊕ (v3 ⊗ v6)) ⊗ v4)) refl);
-      second = rw (l.difference, h.sum, hb, product_is, one_is)
-          (ring C xs ((v0 ⊕ (v2 ⊗ v6)) ⊕ minus (((v4 ⊗ v1) ⊕ ((v4 ⊗ v6) ⊗ v3)) ⊗ 𝟙)) ((v0 ⊕ (v2 ⊗ v6)) ⊕ minus ((v1 ⊕ (v3 ⊗ v6)) ⊗ v4)) refl);
-      third = rw (m.sum, h.difference, hd, negative_is, one_is)
-          (ring C xs ((v0 ⊕ minus (v2 ⊗ v6)) ⊕ (((v5 ⊗ v1) ⊕ (minus (v5 ⊗ v6) ⊗ v3)) ⊗ 𝟙)) ((v0 ⊕ minus (v2 ⊗ v6)) ⊕ ((v1 ⊕ minus (v3 ⊗ v6)) ⊗ v5)) refl);
-      fourth = rw (m.difference, h.difference, hd, negative_is, one_is)
-          (ring C xs ((v0 ⊕ minus (v2 ⊗ v6)) ⊕ minus (((v5 ⊗ v1) ⊕ (minus (v5 ⊗ v6) ⊗ v3)) ⊗ 𝟙)) ((v0 ⊕ minus (v2 ⊗ v6)) ⊕ minus ((v1 ⊕ minus (v3 ⊗ v6)) ⊗ v5)) refl);
+    products-forward-plain : IsCombined (plain C) true g a c a1 c1 → b1 ≡ C.sum (C.product e b) (C.product eg d) → d1 ≡ C.sum (C.product f b) (C.product minus_fg d)
+        → AreSumAndDifference (plain C) a1 b1 new_a new_b → AreSumAndDifference (plain C) c1 d1 new_c new_d → IsTurned (plain C) true e f g a b c d new_a new_b new_c new_d
+    products-forward-plain h hb hd l m = record {
+      first = rw (l.sum, h.sum, hb, product_is) (ring C xs ((v0 ⊕ (v2 ⊗ v6)) ⊕ ((v4 ⊗ v1) ⊕ ((v4 ⊗ v6) ⊗ v3))) ((v0 ⊕ (v2 ⊗ v6)) ⊕ ((v1 ⊕ (v3 ⊗ v6)) ⊗ v4)) refl);
+      second = rw (l.difference, h.sum, hb, product_is)
+          (ring C xs ((v0 ⊕ (v2 ⊗ v6)) ⊕ minus ((v4 ⊗ v1) ⊕ ((v4 ⊗ v6) ⊗ v3))) ((v0 ⊕ (v2 ⊗ v6)) ⊕ minus ((v1 ⊕ (v3 ⊗ v6)) ⊗ v4)) refl);
+      third = rw (m.sum, h.difference, hd, negative_is)
+          (ring C xs ((v0 ⊕ minus (v2 ⊗ v6)) ⊕ ((v5 ⊗ v1) ⊕ (minus (v5 ⊗ v6) ⊗ v3))) ((v0 ⊕ minus (v2 ⊗ v6)) ⊕ ((v1 ⊕ minus (v3 ⊗ v6)) ⊗ v5)) refl);
+      fourth = rw (m.difference, h.difference, hd, negative_is)
+          (ring C xs ((v0 ⊕ minus (v2 ⊗ v6)) ⊕ minus ((v5 ⊗ v1) ⊕ (minus (v5 ⊗ v6) ⊗ v3))) ((v0 ⊕ minus (v2 ⊗ v6)) ⊕ minus ((v1 ⊕ minus (v3 ⊗ v6)) ⊗ v5)) refl);
     }
 
     -- and on the way back
-    four-back-plain : IsCombined (plain C) false one a b a1 b1 → IsCombined (plain C) false one c d c1 d1 → IsCombined (plain C) false g a1 c1 new_a new_c
+    products-back-plain : AreSumAndDifference (plain C) a b a1 b1 → AreSumAndDifference (plain C) c d c1 d1 → IsCombined (plain C) false g a1 c1 new_a new_c
         → new_b ≡ C.sum (C.product e b1) (C.product f d1) → new_d ≡ C.sum (C.product eg b1) (C.product minus_fg d1) → IsTurned (plain C) false e f g a b c d new_a new_b new_c new_d
-    four-back-plain h k l hb hd = record {
+    products-back-plain h k l hb hd = record {
       first = rw (l.sum, h.sum, k.sum) refl;
-      second = rw (hb, h.difference, k.difference, one_is)
-          (ring C xs ((v4 ⊗ ((v0 ⊕ minus v1) ⊗ 𝟙)) ⊕ (v5 ⊗ ((v2 ⊕ minus v3) ⊗ 𝟙))) (((v0 ⊕ minus v1) ⊗ v4) ⊕ ((v2 ⊕ minus v3) ⊗ v5)) refl);
+      second = rw (hb, h.difference, k.difference)
+          (ring C xs ((v4 ⊗ (v0 ⊕ minus v1)) ⊕ (v5 ⊗ (v2 ⊕ minus v3))) (((v0 ⊕ minus v1) ⊗ v4) ⊕ ((v2 ⊕ minus v3) ⊗ v5)) refl);
       third = rw (l.difference, h.sum, k.sum) refl;
-      fourth = rw (hd, h.difference, k.difference, one_is, product_is, negative_is)
-          (ring C xs (((v4 ⊗ v6) ⊗ ((v0 ⊕ minus v1) ⊗ 𝟙)) ⊕ (minus (v5 ⊗ v6) ⊗ ((v2 ⊕ minus v3) ⊗ 𝟙))) ((((v0 ⊕ minus v1) ⊗ v4) ⊕ minus ((v2 ⊕ minus v3) ⊗ v5)) ⊗ v6) refl);
+      fourth = rw (hd, h.difference, k.difference, product_is, negative_is)
+          (ring C xs (((v4 ⊗ v6) ⊗ (v0 ⊕ minus v1)) ⊕ (minus (v5 ⊗ v6) ⊗ (v2 ⊕ minus v3))) ((((v0 ⊕ minus v1) ⊗ v4) ⊕ minus ((v2 ⊕ minus v3) ⊗ v5)) ⊗ v6) refl);
     }
 
   -- by four weights
@@ -59,33 +64,33 @@ module _ {K : Type 0} (C : CommutativeRing K) (e f g a b c d : K) where
     fourth = rw (m.difference, h.difference, k.difference) refl;
   }
 
-  -- without a weight
-  module _ (turn one a1 b1 c1 d1 d2 new_a new_b new_c new_d : K) (one_is : one ≡ C.one) where
+  -- where e and g are one
+  module _ (turn a1 b1 c1 d1 d2 new_a new_b new_c new_d : K) where
     abbrev ys : List K
     ys = a ∷ b ∷ c ∷ d ∷ turn ∷ []
 
-    one-forward-plain : IsCombined (plain C) true one a c a1 c1 → IsCombined (plain C) true one b d b1 d1 → d2 ≡ C.product d1 turn
-        → IsCombined (plain C) true one a1 b1 new_a new_b → IsCombined (plain C) true one c1 d2 new_c new_d
+    one-forward-plain : AreSumAndDifference (plain C) a c a1 c1 → AreSumAndDifference (plain C) b d b1 d1 → d2 ≡ C.product d1 turn
+        → AreSumAndDifference (plain C) a1 b1 new_a new_b → AreSumAndDifference (plain C) c1 d2 new_c new_d
         → IsTurned (plain C) true C.one turn C.one a b c d new_a new_b new_c new_d
     one-forward-plain h k hd l m = record {
-      first = rw (l.sum, h.sum, k.sum, one_is) refl;
-      second = rw (l.difference, h.sum, k.sum, one_is) refl;
-      third = rw (m.sum, h.difference, hd, k.difference, one_is)
-          (ring C ys ((v0 ⊕ minus (v2 ⊗ 𝟙)) ⊕ (((v1 ⊕ minus (v3 ⊗ 𝟙)) ⊗ v4) ⊗ 𝟙)) ((v0 ⊕ minus (v2 ⊗ 𝟙)) ⊕ ((v1 ⊕ minus (v3 ⊗ 𝟙)) ⊗ v4)) refl);
-      fourth = rw (m.difference, h.difference, hd, k.difference, one_is)
-          (ring C ys ((v0 ⊕ minus (v2 ⊗ 𝟙)) ⊕ minus (((v1 ⊕ minus (v3 ⊗ 𝟙)) ⊗ v4) ⊗ 𝟙)) ((v0 ⊕ minus (v2 ⊗ 𝟙)) ⊕ minus ((v1 ⊕ minus (v3 ⊗ 𝟙)) ⊗ v4)) refl);
+      first = rw (l.sum, h.sum, k.sum) (ring C ys ((v0 ⊕ v2) ⊕ (v1 ⊕ v3)) ((v0 ⊕ (v2 ⊗ 𝟙)) ⊕ ((v1 ⊕ (v3 ⊗ 𝟙)) ⊗ 𝟙)) refl);
+      second = rw (l.difference, h.sum, k.sum) (ring C ys ((v0 ⊕ v2) ⊕ minus (v1 ⊕ v3)) ((v0 ⊕ (v2 ⊗ 𝟙)) ⊕ minus ((v1 ⊕ (v3 ⊗ 𝟙)) ⊗ 𝟙)) refl);
+      third = rw (m.sum, h.difference, hd, k.difference)
+          (ring C ys ((v0 ⊕ minus v2) ⊕ ((v1 ⊕ minus v3) ⊗ v4)) ((v0 ⊕ minus (v2 ⊗ 𝟙)) ⊕ ((v1 ⊕ minus (v3 ⊗ 𝟙)) ⊗ v4)) refl);
+      fourth = rw (m.difference, h.difference, hd, k.difference)
+          (ring C ys ((v0 ⊕ minus v2) ⊕ minus ((v1 ⊕ minus v3) ⊗ v4)) ((v0 ⊕ minus (v2 ⊗ 𝟙)) ⊕ minus ((v1 ⊕ minus (v3 ⊗ 𝟙)) ⊗ v4)) refl);
     }
 
-    one-back-plain : IsCombined (plain C) false one a b a1 b1 → IsCombined (plain C) false one c d c1 d1 → d2 ≡ C.product d1 turn
-        → IsCombined (plain C) false one a1 c1 new_a new_c → IsCombined (plain C) false one b1 d2 new_b new_d
+    one-back-plain : AreSumAndDifference (plain C) a b a1 b1 → AreSumAndDifference (plain C) c d c1 d1 → d2 ≡ C.product d1 turn
+        → AreSumAndDifference (plain C) a1 c1 new_a new_c → AreSumAndDifference (plain C) b1 d2 new_b new_d
         → IsTurned (plain C) false C.one turn C.one a b c d new_a new_b new_c new_d
     one-back-plain h k hd l m = record {
       first = rw (l.sum, h.sum, k.sum) refl;
-      second = rw (m.sum, hd, h.difference, k.difference, one_is)
-          (ring C ys (((v0 ⊕ minus v1) ⊗ 𝟙) ⊕ (((v2 ⊕ minus v3) ⊗ 𝟙) ⊗ v4)) (((v0 ⊕ minus v1) ⊗ 𝟙) ⊕ ((v2 ⊕ minus v3) ⊗ v4)) refl);
-      third = rw (l.difference, h.sum, k.sum, one_is) refl;
-      fourth = rw (m.difference, hd, h.difference, k.difference, one_is)
-          (ring C ys ((((v0 ⊕ minus v1) ⊗ 𝟙) ⊕ minus (((v2 ⊕ minus v3) ⊗ 𝟙) ⊗ v4)) ⊗ 𝟙) ((((v0 ⊕ minus v1) ⊗ 𝟙) ⊕ minus ((v2 ⊕ minus v3) ⊗ v4)) ⊗ 𝟙) refl);
+      second = rw (m.sum, hd, h.difference, k.difference)
+          (ring C ys ((v0 ⊕ minus v1) ⊕ ((v2 ⊕ minus v3) ⊗ v4)) (((v0 ⊕ minus v1) ⊗ 𝟙) ⊕ ((v2 ⊕ minus v3) ⊗ v4)) refl);
+      third = rw (l.difference, h.sum, k.sum) (ring C ys ((v0 ⊕ v1) ⊕ minus (v2 ⊕ v3)) (((v0 ⊕ v1) ⊕ minus (v2 ⊕ v3)) ⊗ 𝟙) refl);
+      fourth = rw (m.difference, hd, h.difference, k.difference)
+          (ring C ys ((v0 ⊕ minus v1) ⊕ minus ((v2 ⊕ minus v3) ⊗ v4)) ((((v0 ⊕ minus v1) ⊗ 𝟙) ⊕ minus ((v2 ⊕ minus v3) ⊗ v4)) ⊗ 𝟙) refl);
     }
 
 module _ {A : Type 0} (R : RingOf A) (E : IsEquality R.same) (G : IsGroup R.same R.zero R.sum R.negative) (P : IsProduct R.same R.product) (L : IsRing R.same R.sum R.product R.one) where
@@ -96,6 +101,18 @@ module _ {A : Type 0} (R : RingOf A) (E : IsEquality R.same) (G : IsGroup R.same
   pub combined-class : (forward : Bool) (w a b low high : A) → IsCombined R forward w a b low high → IsCombined (plain C) forward (class E w) (class E a) (class E b) (class E low) (class E high)
   combined-class true w a b low high h = record { sum = class_same E _ _ h.sum; difference = class_same E _ _ h.difference }
   combined-class false w a b low high h = record { sum = class_same E _ _ h.sum; difference = class_same E _ _ h.difference }
+
+  combined-same : (forward : Bool) (w a b low high : A) → IsCombined (plain C) forward (class E w) (class E a) (class E b) (class E low) (class E high) → IsCombined R forward w a b low high
+  combined-same true w a b low high h = record { sum = same_class E _ _ h.sum; difference = same_class E _ _ h.difference }
+  combined-same false w a b low high h = record { sum = same_class E _ _ h.sum; difference = same_class E _ _ h.difference }
+
+  -- a pair of the same cells
+  pub combined-of : (forward : Bool) (w a a' b b' low high : A) → R.same a a' → R.same b b' → IsCombined R forward w a b low high → IsCombined R forward w a' b' low high
+  combined-of forward w a a' b b' low high ha hb h =
+      combined-same forward w a' b' low high (rw (class_same E a a' ha, class_same E b b' hb) at (combined-class forward w a b low high h))
+
+  sums-class : (a b s d : A) → AreSumAndDifference R a b s d → AreSumAndDifference (plain C) (class E a) (class E b) (class E s) (class E d)
+  sums-class a b s d h = record { sum = class_same E _ _ h.sum; difference = class_same E _ _ h.difference }
 
   pub turned-class : (forward : Bool) (e f g a b c d new_a new_b new_c new_d : A) → IsTurned R forward e f g a b c d new_a new_b new_c new_d
       → IsTurned (plain C) forward (class E e) (class E f) (class E g) (class E a) (class E b) (class E c) (class E d) (class E new_a) (class E new_b) (class E new_c) (class E new_d)
@@ -146,48 +163,46 @@ module _ {A : Type 0} (R : RingOf A) (E : IsEquality R.same) (G : IsGroup R.same
         (weights-back-plain C (class E e) (class E f) (class E g) (class E a) (class E b) (class E c) (class E d) (class E a1) (class E b1) (class E c1) (class E d1) (class E new_a) (class E new_b) (class E new_c) (class E new_d)
         (combined-class false _ _ _ _ _ h) (combined-class false _ _ _ _ _ k) (combined-class false _ _ _ _ _ l) (combined-class false _ _ _ _ _ m)))
 
-    pub four-forward : n ≢ 0 → (eg minus_fg one a1 b1 c1 d1 new_a new_b new_c new_d : A) → R.same eg (R.product e g) → R.same minus_fg (R.negative (R.product f g)) → R.same one R.one
+    pub products-forward : n ≢ 0 → (eg minus_fg a1 b1 c1 d1 new_a new_b new_c new_d : A) → R.same eg (R.product e g) → R.same minus_fg (R.negative (R.product f g))
         → IsCombined R true g a c a1 c1 → R.same b1 (R.sum (R.product e b) (R.product eg d)) → R.same d1 (R.sum (R.product f b) (R.product minus_fg d))
-        → IsCombined R true one a1 b1 new_a new_b → IsCombined R true one c1 d1 new_c new_d → IsTurned R (not (eqb n 0)) e f g a b c d new_a new_b new_c new_d
-    four-forward s eg minus_fg one a1 b1 c1 d1 new_a new_b new_c new_d product_is negative_is one_is h hb hd l m =
+        → AreSumAndDifference R a1 b1 new_a new_b → AreSumAndDifference R c1 d1 new_c new_d → IsTurned R (not (eqb n 0)) e f g a b c d new_a new_b new_c new_d
+    products-forward s eg minus_fg a1 b1 c1 d1 new_a new_b new_c new_d product_is negative_is h hb hd l m =
         at-forward s e f g new_a new_b new_c new_d
         (turned-same true e f g a b c d new_a new_b new_c new_d
-        (four-forward-plain C (class E e) (class E f) (class E g) (class E a) (class E b) (class E c) (class E d) (class E eg) (class E minus_fg) (class E one)
+        (products-forward-plain C (class E e) (class E f) (class E g) (class E a) (class E b) (class E c) (class E d) (class E eg) (class E minus_fg)
         (class E a1) (class E b1) (class E c1) (class E d1) (class E new_a) (class E new_b) (class E new_c) (class E new_d)
-        (class_same E _ _ product_is) (class_same E _ _ negative_is) (class_same E _ _ one_is) (combined-class true _ _ _ _ _ h) (class_same E _ _ hb) (class_same E _ _ hd)
-        (combined-class true _ _ _ _ _ l) (combined-class true _ _ _ _ _ m)))
+        (class_same E _ _ product_is) (class_same E _ _ negative_is) (combined-class true _ _ _ _ _ h) (class_same E _ _ hb) (class_same E _ _ hd)
+        (sums-class _ _ _ _ l) (sums-class _ _ _ _ m)))
 
-    pub four-back : n ≡ 0 → (eg minus_fg one a1 b1 c1 d1 new_a new_b new_c new_d : A) → R.same eg (R.product e g) → R.same minus_fg (R.negative (R.product f g)) → R.same one R.one
-        → IsCombined R false one a b a1 b1 → IsCombined R false one c d c1 d1 → IsCombined R false g a1 c1 new_a new_c
+    pub products-back : n ≡ 0 → (eg minus_fg a1 b1 c1 d1 new_a new_b new_c new_d : A) → R.same eg (R.product e g) → R.same minus_fg (R.negative (R.product f g))
+        → AreSumAndDifference R a b a1 b1 → AreSumAndDifference R c d c1 d1 → IsCombined R false g a1 c1 new_a new_c
         → R.same new_b (R.sum (R.product e b1) (R.product f d1)) → R.same new_d (R.sum (R.product eg b1) (R.product minus_fg d1)) → IsTurned R (not (eqb n 0)) e f g a b c d new_a new_b new_c new_d
-    four-back s eg minus_fg one a1 b1 c1 d1 new_a new_b new_c new_d product_is negative_is one_is h k l hb hd =
+    products-back s eg minus_fg a1 b1 c1 d1 new_a new_b new_c new_d product_is negative_is h k l hb hd =
         at-back s e f g new_a new_b new_c new_d
         (turned-same false e f g a b c d new_a new_b new_c new_d
-        (four-back-plain C (class E e) (class E f) (class E g) (class E a) (class E b) (class E c) (class E d) (class E eg) (class E minus_fg) (class E one)
+        (products-back-plain C (class E e) (class E f) (class E g) (class E a) (class E b) (class E c) (class E d) (class E eg) (class E minus_fg)
         (class E a1) (class E b1) (class E c1) (class E d1) (class E new_a) (class E new_b) (class E new_c) (class E new_d)
-        (class_same E _ _ product_is) (class_same E _ _ negative_is) (class_same E _ _ one_is) (combined-class false _ _ _ _ _ h) (combined-class false _ _ _ _ _ k)
+        (class_same E _ _ product_is) (class_same E _ _ negative_is) (sums-class _ _ _ _ h) (sums-class _ _ _ _ k)
         (combined-class false _ _ _ _ _ l) (class_same E _ _ hb) (class_same E _ _ hd)))
 
-    pub one-forward : n ≢ 0 → (turn one a1 b1 c1 d1 d2 new_a new_b new_c new_d : A) → R.same one R.one
-        → IsCombined R true one a c a1 c1 → IsCombined R true one b d b1 d1 → R.same d2 (R.product d1 turn)
-        → IsCombined R true one a1 b1 new_a new_b → IsCombined R true one c1 d2 new_c new_d
+    pub one-forward : n ≢ 0 → (turn a1 b1 c1 d1 d2 new_a new_b new_c new_d : A)
+        → AreSumAndDifference R a c a1 c1 → AreSumAndDifference R b d b1 d1 → R.same d2 (R.product d1 turn)
+        → AreSumAndDifference R a1 b1 new_a new_b → AreSumAndDifference R c1 d2 new_c new_d
         → IsTurned R (not (eqb n 0)) R.one turn R.one a b c d new_a new_b new_c new_d
-    one-forward s turn one a1 b1 c1 d1 d2 new_a new_b new_c new_d one_is h k hd l m =
+    one-forward s turn a1 b1 c1 d1 d2 new_a new_b new_c new_d h k hd l m =
         at-forward s R.one turn R.one new_a new_b new_c new_d
         (turned-same true R.one turn R.one a b c d new_a new_b new_c new_d
-        (one-forward-plain C (class E e) (class E f) (class E g) (class E a) (class E b) (class E c) (class E d) (class E turn) (class E one)
+        (one-forward-plain C (class E e) (class E f) (class E g) (class E a) (class E b) (class E c) (class E d) (class E turn)
         (class E a1) (class E b1) (class E c1) (class E d1) (class E d2) (class E new_a) (class E new_b) (class E new_c) (class E new_d)
-        (class_same E _ _ one_is) (combined-class true _ _ _ _ _ h) (combined-class true _ _ _ _ _ k) (class_same E _ _ hd)
-        (combined-class true _ _ _ _ _ l) (combined-class true _ _ _ _ _ m)))
+        (sums-class _ _ _ _ h) (sums-class _ _ _ _ k) (class_same E _ _ hd) (sums-class _ _ _ _ l) (sums-class _ _ _ _ m)))
 
-    pub one-back : n ≡ 0 → (turn one a1 b1 c1 d1 d2 new_a new_b new_c new_d : A) → R.same one R.one
-        → IsCombined R false one a b a1 b1 → IsCombined R false one c d c1 d1 → R.same d2 (R.product d1 turn)
-        → IsCombined R false one a1 c1 new_a new_c → IsCombined R false one b1 d2 new_b new_d
+    pub one-back : n ≡ 0 → (turn a1 b1 c1 d1 d2 new_a new_b new_c new_d : A)
+        → AreSumAndDifference R a b a1 b1 → AreSumAndDifference R c d c1 d1 → R.same d2 (R.product d1 turn)
+        → AreSumAndDifference R a1 c1 new_a new_c → AreSumAndDifference R b1 d2 new_b new_d
         → IsTurned R (not (eqb n 0)) R.one turn R.one a b c d new_a new_b new_c new_d
-    one-back s turn one a1 b1 c1 d1 d2 new_a new_b new_c new_d one_is h k hd l m =
+    one-back s turn a1 b1 c1 d1 d2 new_a new_b new_c new_d h k hd l m =
         at-back s R.one turn R.one new_a new_b new_c new_d
         (turned-same false R.one turn R.one a b c d new_a new_b new_c new_d
-        (one-back-plain C (class E e) (class E f) (class E g) (class E a) (class E b) (class E c) (class E d) (class E turn) (class E one)
+        (one-back-plain C (class E e) (class E f) (class E g) (class E a) (class E b) (class E c) (class E d) (class E turn)
         (class E a1) (class E b1) (class E c1) (class E d1) (class E d2) (class E new_a) (class E new_b) (class E new_c) (class E new_d)
-        (class_same E _ _ one_is) (combined-class false _ _ _ _ _ h) (combined-class false _ _ _ _ _ k) (class_same E _ _ hd)
-        (combined-class false _ _ _ _ _ l) (combined-class false _ _ _ _ _ m)))
+        (sums-class _ _ _ _ h) (sums-class _ _ _ _ k) (class_same E _ _ hd) (sums-class _ _ _ _ l) (sums-class _ _ _ _ m)))

@@ -1,5 +1,5 @@
--- Pairs of cells of two halves that are combined, and rows in bit-reversed order.
-use Rattle.std.specs.Prelude.{◌≡◌, ℕ, ◌<◌, ◌≤◌, ◌^◌, Bool, if◌then◌else◌, List, slice_index_or}
+-- Two rows of cells that are combined, and rows in bit-reversed order.
+use Rattle.std.specs.Prelude.{◌≡◌, ℕ, ◌+◌, ◌<◌, ◌^◌, Bool, if◌then◌else◌, List, slice_index_or}
 use Rattle.math_theory.specs.BitReversal.{bit_reversed}
 use Rattle.math_base.specs.Members.{RingOf}
 use Rattle.math_transforms.specs.Matrices.{MatrixOf, cell_of}
@@ -10,14 +10,14 @@ module _ {A : Type 0} (R : RingOf A) where
     pub sum : R.same low (if forward then R.sum a (R.product b w) else R.sum a b)
     pub difference : R.same high (if forward then R.sum a (R.negative (R.product b w)) else R.product (R.sum a (R.negative b)) w)
 
-  -- the cells of two halves at the places from the first place to the last are combined, at place p by factor p; all others are as before
-  pub record AreCombined (forward : Bool) (factor : ℕ → A) (first last : ℕ) (lows highs new_lows new_highs : List A) : Type 0 where
-    pub combined : (p : ℕ) → first ≤ p → p < last
-        → IsCombined forward (factor p) (slice_index_or lows p R.zero) (slice_index_or highs p R.zero) (slice_index_or new_lows p R.zero) (slice_index_or new_highs p R.zero)
-    pub lows_before : (p : ℕ) → p < first → slice_index_or new_lows p R.zero ≡ slice_index_or lows p R.zero
-    pub lows_after : (p : ℕ) → last ≤ p → slice_index_or new_lows p R.zero ≡ slice_index_or lows p R.zero
-    pub highs_before : (p : ℕ) → p < first → slice_index_or new_highs p R.zero ≡ slice_index_or highs p R.zero
-    pub highs_after : (p : ℕ) → last ≤ p → slice_index_or new_highs p R.zero ≡ slice_index_or highs p R.zero
+  -- the pair of cells in column p of two rows of c cells is combined
+  abbrev pub IsCombinedAt : Bool → A → ℕ → ℕ → List A → List A → Type 0
+  IsCombinedAt forward w c p old new =
+      IsCombined forward w (slice_index_or old p R.zero) (slice_index_or old (c + p) R.zero) (slice_index_or new p R.zero) (slice_index_or new (c + p) R.zero)
+
+  -- two rows of c cells are combined, column by column
+  pub record AreCombined (forward : Bool) (w : A) (c : ℕ) (old new : List A) : Type 0 where
+    pub combined : (p : ℕ) → p < c → IsCombinedAt forward w c p old new
 
 -- row i of v is row j of m, where j has the lg bits of i in the opposite order; d stands for a cell that is not there
 abbrev pub AreRowsReversed : {A : Type 0} → A → ℕ → MatrixOf A → MatrixOf A → Type 0

@@ -1,6 +1,7 @@
--- Cells of four quarters that are turned by two levels at once.
-use Rattle.std.specs.Prelude.{◌≡◌, ℕ, ◌<◌, ◌≤◌, Bool, if◌then◌else◌, List, slice_index_or}
+-- Four rows of cells that are turned by two levels at once.
+use Rattle.std.specs.Prelude.{ℕ, ◌+◌, ◌*◌, ◌<◌, Bool, if◌then◌else◌, List, slice_index_or}
 use Rattle.math_base.specs.Members.{RingOf}
+use Rattle.math_transforms.specs.declared.below.quarters.Products.{Products}
 
 module _ {A : Type 0} (R : RingOf A) where
   -- forward a, b, c, d become (a + c g) + (b + d g) e, (a + c g) - (b + d g) e, (a - c g) + (b - d g) f, (a - c g) - (b - d g) f, and on the way back
@@ -21,9 +22,16 @@ module _ {A : Type 0} (R : RingOf A) where
   abbrev cell : List A → ℕ → A
   cell xs p = slice_index_or xs p R.zero
 
-  -- the cells of four quarters at the places from the first place to the last are turned; all others are as before
-  pub record AreTurned (forward : Bool) (e f g : A) (first last : ℕ) (a b c d new_a new_b new_c new_d : List A) : Type 0 where
-    pub turned : (p : ℕ) → first ≤ p → p < last
-        → IsTurned forward e f g (cell a p) (cell b p) (cell c p) (cell d p) (cell new_a p) (cell new_b p) (cell new_c p) (cell new_d p)
-    pub before : (p : ℕ) → p < first → (cell new_a p ≡ cell a p) × (cell new_b p ≡ cell b p) × (cell new_c p ≡ cell c p) × (cell new_d p ≡ cell d p)
-    pub after : (p : ℕ) → last ≤ p → (cell new_a p ≡ cell a p) × (cell new_b p ≡ cell b p) × (cell new_c p ≡ cell c p) × (cell new_d p ≡ cell d p)
+  -- the cells of column p of four rows of c cells are turned
+  abbrev pub IsTurnedAt : Bool → A → A → A → ℕ → ℕ → List A → List A → Type 0
+  IsTurnedAt forward e f g c p old new =
+      IsTurned forward e f g (cell old p) (cell old (c + p)) (cell old (2 * c + p)) (cell old (3 * c + p)) (cell new p) (cell new (c + p)) (cell new (2 * c + p)) (cell new (3 * c + p))
+
+  -- four rows of c cells are turned, column by column
+  pub record AreTurned (forward : Bool) (e f g : A) (c : ℕ) (old new : List A) : Type 0 where
+    pub turned : (p : ℕ) → p < c → IsTurnedAt forward e f g c p old new
+
+  -- what is made of the weights is e g and -f g
+  pub record AreProducts (products : Products A) : Type 0 where
+    pub product : R.same products.eg.now (R.product products.e.now products.g.now)
+    pub minus : R.same products.minus_fg.now (R.negative (R.product products.f.now products.g.now))

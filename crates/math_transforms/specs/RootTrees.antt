@@ -4,6 +4,7 @@ use Rattle.math_theory.specs.BitReversal.{bit_reversed}
 use Rattle.math_theory.specs.Powers.{power}
 use Rattle.math_base.specs.Members.{RingOf}
 use Rattle.math_base.specs.Polynomials.{value_in_ring}
+use Rattle.math_transforms.specs.declared.below.Points.{Points}
 use Rattle.math_transforms.specs.DomainValues.{matrix_of}
 use Rattle.math_transforms.specs.Matrices.{column_of}
 
@@ -22,9 +23,13 @@ module _ {A : Type 0} (R : RingOf A) where
     pub even : (j : ℕ) → 1 ≤ j → 2 * j < length roots → R.same (R.product (entry roots (2 * j)) (entry roots (2 * j))) (entry roots j)
     pub odd : (j : ℕ) → 1 ≤ j → 2 * j + 1 < length roots → R.same (entry roots (2 * j + 1)) (R.product (entry roots (2 * j)) turn)
 
-  -- the entry at the place is one, and so is the first entry below it at each further level
-  abbrev pub AreOnesBelow : List A → ℕ → Type 0
-  AreOnesBelow roots place = (k : ℕ) → place * 2 ^ k < length roots → R.same (entry roots (place * 2 ^ k)) R.one
+  -- lg is at most the greatest one and below 64, and the tree, which has this turn, reaches down to the 2^lg points below the place
+  pub record ArePoints (greatest : ℕ) (turn : A) (points : Points A) : Type 0 where
+    pub domain : points.lg ≤ greatest
+    pub small : points.lg < 64
+    pub tree : IsRootTree turn points.roots.now
+    pub some : 1 ≤ points.place
+    pub within : 2 ^ points.lg * (points.place + 1) ≤ 2 * length points.roots.now
 
   -- there are 2^lg entries: entry 0 is the root of order four, where lg is two or more, and the entry at place 2^d + b is power 2^(lg - d - 1) of the start times
   -- the power of root d + 1 whose exponent has the d bits of b in the opposite order
@@ -57,3 +62,13 @@ module _ {A : Type 0} (R : RingOf A) where
   AreMultiplesBelow inverses lg place c old new =
       (t k : ℕ) (x : A) → t < 2 ^ lg → k < c → R.same (R.product x (class_at inverses (2 ^ lg * place + t))) R.one
       → R.same (column_value lg c new k x) (R.product (entry old (t * c + k)) (twos lg))
+
+  -- the same three at given points
+  abbrev pub AreValuesAtPoints : Points A → ℕ → List A → List A → Type 0
+  AreValuesAtPoints points c old new = AreValuesBelow points.roots.now points.lg points.place c old new
+
+  abbrev pub AreValuesOfFewAtPoints : Points A → ℕ → ℕ → List A → List A → Type 0
+  AreValuesOfFewAtPoints points part c old new = AreValuesOfFewBelow points.roots.now points.lg part points.place c old new
+
+  abbrev pub AreMultiplesAtPoints : Points A → ℕ → List A → List A → Type 0
+  AreMultiplesAtPoints inverses c old new = AreMultiplesBelow inverses.roots.now inverses.lg inverses.place c old new

@@ -5,9 +5,9 @@
 //! is half of the rows, l has the rows of the low half and h those of the high half. x^n is g at
 //! one half of the points and -g at the other: so p has the values of l + g h at the one and those
 //! of l - g h at the other, and both have half as many rows. Two such levels are taken in one pass,
-//! and one where two rows are left. Four and sixteen rows have a function each, without a call of
-//! itself. A weight is the same for all rows and columns of a half. The rows of coefficients are in
-//! natural order and the values in that of the tree, so no row changes its place.
+//! and one where two rows are left. Sixteen rows have a function without a call of itself. A weight
+//! is the same for all rows and columns of a half. The rows of coefficients are in natural order and
+//! the values in that of the tree, so no row changes its place.
 //!
 //! Where there are at most as many coefficients as half of the rows, h is zero: p is l at both
 //! halves of the points. So each half is given the same coefficients, until there are as many rows
@@ -16,6 +16,7 @@
 ghost use Rattle.std.specs.Prelude.{
   ◌≡◌,
   ◌+◌,
+  ◌-◌,
   ◌*◌,
   ◌<◌,
   ◌≤◌,
@@ -24,28 +25,119 @@ ghost use Rattle.std.specs.Prelude.{
   IsTrue,
   OnOk,
   OnErr,
+  if◌then◌else◌,
   length,
 };
+ghost use Rattle.math_transforms.specs.CombinedCells.{AreCombined};
 ghost use Rattle.math_transforms.specs.CountedWork.{AddsAtMost};
+ghost use Rattle.math_transforms.specs.Quarters.{AreTurned};
 ghost use Rattle.math_transforms.specs.RootTrees.{
-  AreMultiplesBelow,
-  AreOnesBelow,
-  AreValuesBelow,
-  AreValuesOfFewBelow,
-  IsRootTree,
+  AreMultiplesAtPoints,
+  ArePoints,
+  AreValuesAtPoints,
+  AreValuesOfFewAtPoints,
+  entry,
 };
 
 mod quarters;
 
 use crate::cells::copy_cells;
+use crate::transform::butterflies::combine_rows;
 use crate::transform::size_of;
 use crate::work::Work;
 use math_base::algebra::{Field, FieldNTT, Mem, Multiplicative, Object, Ring};
-use quarters::{turn_halves_at, turn_quarters_at};
+use quarters::{Weights, turn_rows};
 use std::alloc::Global;
 
-/// Writes over 2^lg rows of coefficients the values at the points below the place of the tree, in
-/// its order. `at_one` says that the entry there is one, and the first below it at each level.
+/// The 2^lg points below a place of a tree of square roots, in its order. The place 1 has all
+/// points of the tree below it.
+#[derive(Drop)]
+pub struct Points<'a, F> {
+    /// The tree.
+    pub roots: &'a [F],
+    /// The place, from 1 on.
+    pub place: usize,
+    /// The lg of the number of points.
+    pub lg: u8,
+}
+
+/// How many cells a quarter of 2^lg rows of `cols` cells has, of three levels or more.
+fn quarter_cells<F>(cells: usize, cols: usize, points: &Points<'_, F>) -> usize
+    requires level { 3 ≤ points.now.lg }
+    requires within { 2 ^ points.now.lg * (points.now.place + 1) ≤ 2 * length points.now.roots.now }
+    requires size { cells ≡ 2 ^ points.now.lg * cols }
+    ensures whole { cells ≡ 4 * result }
+    ensures rows { result ≡ 2 ^ (points.now.lg - 2) * cols }
+    ensures steps { cols * 2 ^ points.now.lg * points.now.lg
+        ≡ 4 * (cols * 2 ^ (points.now.lg - 2) * (points.now.lg - 2)) + 8 * result }
+    ensures inside { 4 * points.now.place + 4 ≤ length points.now.roots.now }
+    ensures two { 2 ≤ points.now.lg }
+{
+    cells / 4
+}
+
+/// Counts two levels of four rows of `cols` cells, and turns the rows by the entries at the place
+/// and at both places below it.
+fn turn_rows_at<F: FieldNTT, const FORWARD: bool>(
+    alloc: Global,
+    rows: &mut [F],
+    cols: usize,
+    points: &Points<'_, F>,
+    work: &mut Work,
+) -> Mem<()>
+    requires points { ArePoints F.Ring F.MAX_LG_ROOT_ORDER
+        (if FORWARD then F.root 2 else F.inverse (F.root 2)) points.now }
+    requires two { 2 ≤ points.now.lg }
+    requires inside { 2 * points.now.place + 2 ≤ length points.now.roots.now }
+    requires size { length rows.old ≡ 4 * cols }
+    requires room { work.old.butterflies + 4 * cols < 2 ^ 128 }
+    ensures turned { OnOk result (AreTurned F.Ring FORWARD
+        (entry F.Ring points.now.roots.now (2 * points.now.place))
+        (entry F.Ring points.now.roots.now (2 * points.now.place + 1))
+        (entry F.Ring points.now.roots.now points.now.place) cols rows.old rows.new) }
+    ensures counted { work.new.butterflies ≡ work.old.butterflies + 4 * cols }
+    ensures root_products { work.new.root_products ≡ work.old.root_products }
+    ensures never { IsTrue F.NEVER_REFUSES → IsOk result }
+{
+    work.add_butterflies(rows.len());
+    let roots = points.roots;
+    let place = points.place;
+    let below = 2 * place;
+    let weights = Weights {
+        e: &roots[below],
+        f: &roots[below + 1],
+        g: &roots[place],
+    };
+    turn_rows::<F, FORWARD>(alloc, rows, cols, &weights)?;
+    Ok(())
+}
+
+/// Counts one level of two rows of `cols` cells, and combines them by the entry at the place.
+fn combine_rows_at<F: FieldNTT, const FORWARD: bool>(
+    alloc: Global,
+    rows: &mut [F],
+    cols: usize,
+    points: &Points<'_, F>,
+    work: &mut Work,
+) -> Mem<()>
+    requires inside { points.now.place < length points.now.roots.now }
+    requires size { length rows.old ≡ 2 * cols }
+    requires room { work.old.butterflies + cols < 2 ^ 128 }
+    ensures combined { OnOk result (AreCombined F.Ring FORWARD
+        (entry F.Ring points.now.roots.now points.now.place) cols rows.old rows.new) }
+    ensures counted { work.new.butterflies ≡ work.old.butterflies + cols }
+    ensures root_products { work.new.root_products ≡ work.old.root_products }
+    ensures never { IsTrue F.NEVER_REFUSES → IsOk result }
+{
+    work.add_butterflies(cols);
+    let roots = points.roots;
+    let place = points.place;
+    let w = &roots[place];
+    combine_rows::<F, FORWARD>(alloc, rows, cols, w)?;
+    Ok(())
+}
+
+/// Writes over 2^lg rows of coefficients the values at the points, in their order.
 ///
 /// Adds cols 2^lg lg / 2 butterflies. Where it is refused, the cells have some values, and one
 /// butterfly or more is counted.
@@ -53,125 +145,105 @@ pub fn evaluate_below<F: FieldNTT>(
     alloc: Global,
     cells: &mut [F],
     cols: usize,
-    lg: u8,
-    place: usize,
-    at_one: bool,
-    roots: &[F],
+    points: &Points<'_, F>,
     work: &mut Work,
 ) -> Mem<()>
-    requires domain { lg ≤ F.MAX_LG_ROOT_ORDER }
-    requires small { lg < 64 }
-    requires size { length cells.old ≡ 2 ^ lg * cols }
-    requires tree { IsRootTree F.Ring (F.root 2) roots.now }
-    requires place { 1 ≤ place }
-    requires within { 2 ^ lg * (place + 1) ≤ 2 * length roots.now }
-    requires one { IsTrue at_one → AreOnesBelow F.Ring roots.now place }
-    requires room { 2 * work.old.butterflies + cols * 2 ^ lg * lg < 2 ^ 129 }
+    requires points { ArePoints F.Ring F.MAX_LG_ROOT_ORDER (F.root 2) points.now }
+    requires size { length cells.old ≡ 2 ^ points.now.lg * cols }
+    requires room { 2 * work.old.butterflies + cols * 2 ^ points.now.lg * points.now.lg < 2 ^ 129 }
     ensures size { length cells.new ≡ length cells.old }
-    ensures values { OnOk result
-        (AreValuesBelow F.Ring roots.now lg place cols cells.old cells.new) }
-    ensures counted { OnOk result
-        (2 * work.new.butterflies ≡ 2 * work.old.butterflies + cols * 2 ^ lg * lg) }
-    ensures bounded { AddsAtMost (cols * 2 ^ lg * lg) work.old work.new }
+    ensures values { OnOk result (AreValuesAtPoints F.Ring points.now cols cells.old cells.new) }
+    ensures counted { OnOk result (2 * work.new.butterflies
+        ≡ 2 * work.old.butterflies + cols * 2 ^ points.now.lg * points.now.lg) }
+    ensures bounded { AddsAtMost (cols * 2 ^ points.now.lg * points.now.lg) work.old work.new }
     ensures refused { OnErr result (work.old.butterflies < work.new.butterflies) }
     ensures never { IsTrue F.NEVER_REFUSES → IsOk result }
 {
-    if lg == 0 {
-        return Ok(());
-    }
-    if cols == 0 {
+    let lg = points.lg;
+    let count = cells.len();
+    if count <= cols {
         return Ok(());
     }
     if lg == 1 {
-        let (low, high) = cells.split_at_mut(cols);
-        turn_halves_at::<F, true>(alloc, low, high, place, at_one, roots, work)?;
+        combine_rows_at::<F, true>(alloc, cells, cols, points, work)?;
         return Ok(());
     }
     if lg == 2 {
-        evaluate_four(alloc, cells, cols, place, at_one, roots, work)?;
+        turn_rows_at::<F, true>(alloc, cells, cols, points, work)?;
         return Ok(());
     }
     if lg == 4 {
-        evaluate_sixteen(alloc, cells, cols, place, at_one, roots, work)?;
+        evaluate_sixteen(alloc, cells, cols, points, work)?;
         return Ok(());
     }
-    let quarter = size_of(lg - 2) * cols;
-    let (front, behind) = cells.split_at_mut(2 * quarter);
-    let (a, b) = front.split_at_mut(quarter);
-    let (c, d) = behind.split_at_mut(quarter);
-    let below = 2 * place;
-    let first = 2 * below;
-    turn_quarters_at::<F, true>(alloc, a, b, c, d, place, at_one, roots, work)?;
-    evaluate_below(alloc, a, cols, lg - 2, first, at_one, roots, work)?;
-    evaluate_below(alloc, b, cols, lg - 2, first + 1, false, roots, work)?;
-    evaluate_below(alloc, c, cols, lg - 2, first + 2, false, roots, work)?;
-    evaluate_below(alloc, d, cols, lg - 2, first + 3, false, roots, work)?;
+    let part = quarter_cells(count, cols, points);
+    turn_rows_at::<F, true>(alloc, cells, part, points, work)?;
+    let (front, behind) = cells.split_at_mut(2 * part);
+    let (a, b) = front.split_at_mut(part);
+    let (c, d) = behind.split_at_mut(part);
+    let roots = points.roots;
+    let first = 4 * points.place;
+    let lg = points.lg - 2;
+    let place = first;
+    evaluate_below(alloc, a, cols, &Points { roots, place, lg }, work)?;
+    let place = first + 1;
+    evaluate_below(alloc, b, cols, &Points { roots, place, lg }, work)?;
+    let place = first + 2;
+    evaluate_below(alloc, c, cols, &Points { roots, place, lg }, work)?;
+    let place = first + 3;
+    evaluate_below(alloc, d, cols, &Points { roots, place, lg }, work)?;
     Ok(())
 }
 
-/// Writes over 2^lg rows the values at the points below the place of the tree, in its order, of the
-/// polynomials whose coefficients are the first 2^part rows, whatever the further rows hold.
-/// `at_one` says that the entry there is one, and the first below it at each level.
+/// Writes over 2^lg rows the values at the points, in their order, of the polynomials whose
+/// coefficients are the first 2^part rows, whatever the further rows hold.
 ///
 /// Adds cols 2^lg part / 2 butterflies. Where it is refused, the cells have some values.
 pub fn evaluate_few_below<F: FieldNTT>(
     alloc: Global,
     cells: &mut [F],
     cols: usize,
-    lg: u8,
     part: u8,
-    place: usize,
-    at_one: bool,
-    roots: &[F],
+    points: &Points<'_, F>,
     work: &mut Work,
 ) -> Mem<()>
-    requires domain { lg ≤ F.MAX_LG_ROOT_ORDER }
-    requires small { lg < 64 }
-    requires part { part ≤ lg }
-    requires size { length cells.old ≡ 2 ^ lg * cols }
-    requires tree { IsRootTree F.Ring (F.root 2) roots.now }
-    requires entries { length roots.now ≤ 2 ^ 63 }
-    requires place { 1 ≤ place }
-    requires within { 2 ^ lg * (place + 1) ≤ 2 * length roots.now }
-    requires one { IsTrue at_one → AreOnesBelow F.Ring roots.now place }
-    requires room { 2 * work.old.butterflies + cols * 2 ^ lg * part < 2 ^ 129 }
+    requires points { ArePoints F.Ring F.MAX_LG_ROOT_ORDER (F.root 2) points.now }
+    requires entries { length points.now.roots.now ≤ 2 ^ 63 }
+    requires part { part ≤ points.now.lg }
+    requires size { length cells.old ≡ 2 ^ points.now.lg * cols }
+    requires room { 2 * work.old.butterflies + cols * 2 ^ points.now.lg * part < 2 ^ 129 }
     ensures size { length cells.new ≡ length cells.old }
     ensures values { OnOk result
-        (AreValuesOfFewBelow F.Ring roots.now lg part place cols cells.old cells.new) }
-    ensures counted { OnOk result
-        (2 * work.new.butterflies ≡ 2 * work.old.butterflies + cols * 2 ^ lg * part) }
-    ensures bounded { AddsAtMost (cols * 2 ^ lg * part) work.old work.new }
+        (AreValuesOfFewAtPoints F.Ring points.now part cols cells.old cells.new) }
+    ensures counted { OnOk result (2 * work.new.butterflies
+        ≡ 2 * work.old.butterflies + cols * 2 ^ points.now.lg * part) }
+    ensures bounded { AddsAtMost (cols * 2 ^ points.now.lg * part) work.old work.new }
     ensures never { IsTrue F.NEVER_REFUSES → IsOk result }
 {
+    let lg = points.lg;
     if cols == 0 {
         return Ok(());
     }
     if lg == part {
-        evaluate_below(alloc, cells, cols, lg, place, at_one, roots, work)?;
+        evaluate_below(alloc, cells, cols, points, work)?;
         return Ok(());
     }
-    let half = size_of(lg - 1) * cols;
+    let size = size_of(lg - 1) * cols;
     let few = size_of(part) * cols;
-    let (low, high) = cells.split_at_mut(half);
+    let (low, high) = cells.split_at_mut(size);
     copy_cells(alloc, low, high, few)?;
-    let below = 2 * place;
-    evaluate_few_below(alloc, low, cols, lg - 1, part, below, at_one, roots, work)?;
-    evaluate_few_below(
-        alloc,
-        high,
-        cols,
-        lg - 1,
-        part,
-        below + 1,
-        false,
-        roots,
-        work,
-    )?;
+    let roots = points.roots;
+    let first = 2 * points.place;
+    let lg = lg - 1;
+    let place = first;
+    evaluate_few_below(alloc, low, cols, part, &Points { roots, place, lg }, work)?;
+    let place = first + 1;
+    evaluate_few_below(alloc, high, cols, part, &Points { roots, place, lg }, work)?;
     Ok(())
 }
 
-/// Writes over 2^lg rows of values, in the order of the tree, 2^lg times the coefficients that have
-/// these values at the points below the place. The tree is that of the inverses.
+/// Writes over 2^lg rows of values, in the order of the points, 2^lg times the coefficients that
+/// have these values there. The tree is that of the inverses of the points.
 ///
 /// Adds cols 2^lg lg / 2 butterflies. Where it is refused, the cells have some values, and one
 /// butterfly or more is counted.
@@ -179,166 +251,55 @@ pub fn interpolate_below<F: FieldNTT>(
     alloc: Global,
     cells: &mut [F],
     cols: usize,
-    lg: u8,
-    place: usize,
-    at_one: bool,
-    inverses: &[F],
+    inverses: &Points<'_, F>,
     work: &mut Work,
 ) -> Mem<()>
-    requires domain { lg ≤ F.MAX_LG_ROOT_ORDER }
-    requires small { lg < 64 }
-    requires size { length cells.old ≡ 2 ^ lg * cols }
-    requires tree { IsRootTree F.Ring (F.inverse (F.root 2)) inverses.now }
-    requires place { 1 ≤ place }
-    requires within { 2 ^ lg * (place + 1) ≤ 2 * length inverses.now }
-    requires one { IsTrue at_one → AreOnesBelow F.Ring inverses.now place }
-    requires room { 2 * work.old.butterflies + cols * 2 ^ lg * lg < 2 ^ 129 }
+    requires points { ArePoints F.Ring F.MAX_LG_ROOT_ORDER (F.inverse (F.root 2)) inverses.now }
+    requires size { length cells.old ≡ 2 ^ inverses.now.lg * cols }
+    requires room { 2 * work.old.butterflies + cols * 2 ^ inverses.now.lg * inverses.now.lg
+        < 2 ^ 129 }
     ensures size { length cells.new ≡ length cells.old }
     ensures values { OnOk result
-        (AreMultiplesBelow F.Ring inverses.now lg place cols cells.old cells.new) }
-    ensures counted { OnOk result
-        (2 * work.new.butterflies ≡ 2 * work.old.butterflies + cols * 2 ^ lg * lg) }
-    ensures bounded { AddsAtMost (cols * 2 ^ lg * lg) work.old work.new }
+        (AreMultiplesAtPoints F.Ring inverses.now cols cells.old cells.new) }
+    ensures counted { OnOk result (2 * work.new.butterflies
+        ≡ 2 * work.old.butterflies + cols * 2 ^ inverses.now.lg * inverses.now.lg) }
+    ensures bounded { AddsAtMost (cols * 2 ^ inverses.now.lg * inverses.now.lg) work.old work.new }
     ensures refused { OnErr result (work.old.butterflies < work.new.butterflies) }
     ensures never { IsTrue F.NEVER_REFUSES → IsOk result }
 {
-    if lg == 0 {
-        return Ok(());
-    }
-    if cols == 0 {
+    let lg = inverses.lg;
+    let count = cells.len();
+    if count <= cols {
         return Ok(());
     }
     if lg == 1 {
-        let (low, high) = cells.split_at_mut(cols);
-        turn_halves_at::<F, false>(alloc, low, high, place, at_one, inverses, work)?;
+        combine_rows_at::<F, false>(alloc, cells, cols, inverses, work)?;
         return Ok(());
     }
     if lg == 2 {
-        interpolate_four(alloc, cells, cols, place, at_one, inverses, work)?;
+        turn_rows_at::<F, false>(alloc, cells, cols, inverses, work)?;
         return Ok(());
     }
     if lg == 4 {
-        interpolate_sixteen(alloc, cells, cols, place, at_one, inverses, work)?;
+        interpolate_sixteen(alloc, cells, cols, inverses, work)?;
         return Ok(());
     }
-    let quarter = size_of(lg - 2) * cols;
-    let (front, behind) = cells.split_at_mut(2 * quarter);
-    let (a, b) = front.split_at_mut(quarter);
-    let (c, d) = behind.split_at_mut(quarter);
-    let below = 2 * place;
-    let first = 2 * below;
-    interpolate_below(alloc, a, cols, lg - 2, first, at_one, inverses, work)?;
-    interpolate_below(alloc, b, cols, lg - 2, first + 1, false, inverses, work)?;
-    interpolate_below(alloc, c, cols, lg - 2, first + 2, false, inverses, work)?;
-    interpolate_below(alloc, d, cols, lg - 2, first + 3, false, inverses, work)?;
-    turn_quarters_at::<F, false>(alloc, a, b, c, d, place, at_one, inverses, work)?;
-    Ok(())
-}
-
-/// `evaluate_below` of four rows.
-fn evaluate_four<F: FieldNTT>(
-    alloc: Global,
-    cells: &mut [F],
-    cols: usize,
-    place: usize,
-    at_one: bool,
-    roots: &[F],
-    work: &mut Work,
-) -> Mem<()>
-    requires domain { 2 ≤ F.MAX_LG_ROOT_ORDER }
-    requires some { 0 < cols }
-    requires size { length cells.old ≡ 4 * cols }
-    requires tree { IsRootTree F.Ring (F.root 2) roots.now }
-    requires place { 1 ≤ place }
-    requires inside { 2 * place + 2 ≤ length roots.now }
-    requires one { IsTrue at_one → AreOnesBelow F.Ring roots.now place }
-    requires room { work.old.butterflies + 4 * cols < 2 ^ 128 }
-    ensures size { length cells.new ≡ length cells.old }
-    ensures values { OnOk result
-        (AreValuesBelow F.Ring roots.now 2 place cols cells.old cells.new) }
-    ensures counted { OnOk result (work.new.butterflies ≡ work.old.butterflies + 4 * cols) }
-    ensures bounded { AddsAtMost (8 * cols) work.old work.new }
-    ensures refused { OnErr result (work.old.butterflies < work.new.butterflies) }
-    ensures never { IsTrue F.NEVER_REFUSES → IsOk result }
-{
-    let (front, behind) = cells.split_at_mut(2 * cols);
-    let (a, b) = front.split_at_mut(cols);
-    let (c, d) = behind.split_at_mut(cols);
-    turn_quarters_at::<F, true>(alloc, a, b, c, d, place, at_one, roots, work)?;
-    Ok(())
-}
-
-/// `evaluate_below` of sixteen rows. Without it, most calls for one column would be for four
-/// cells.
-fn evaluate_sixteen<F: FieldNTT>(
-    alloc: Global,
-    cells: &mut [F],
-    cols: usize,
-    place: usize,
-    at_one: bool,
-    roots: &[F],
-    work: &mut Work,
-) -> Mem<()>
-    requires domain { 4 ≤ F.MAX_LG_ROOT_ORDER }
-    requires some { 0 < cols }
-    requires size { length cells.old ≡ 16 * cols }
-    requires tree { IsRootTree F.Ring (F.root 2) roots.now }
-    requires place { 1 ≤ place }
-    requires inside { 2 * (2 * (2 * place)) + 8 ≤ length roots.now }
-    requires one { IsTrue at_one → AreOnesBelow F.Ring roots.now place }
-    requires room { work.old.butterflies + 32 * cols < 2 ^ 128 }
-    ensures size { length cells.new ≡ length cells.old }
-    ensures values { OnOk result
-        (AreValuesBelow F.Ring roots.now 4 place cols cells.old cells.new) }
-    ensures counted { OnOk result (work.new.butterflies ≡ work.old.butterflies + 32 * cols) }
-    ensures bounded { AddsAtMost (64 * cols) work.old work.new }
-    ensures refused { OnErr result (work.old.butterflies < work.new.butterflies) }
-    ensures never { IsTrue F.NEVER_REFUSES → IsOk result }
-{
-    let quarter = 4 * cols;
-    let (front, behind) = cells.split_at_mut(2 * quarter);
-    let (a, b) = front.split_at_mut(quarter);
-    let (c, d) = behind.split_at_mut(quarter);
-    let below = 2 * place;
-    let first = 2 * below;
-    turn_quarters_at::<F, true>(alloc, a, b, c, d, place, at_one, roots, work)?;
-    evaluate_four(alloc, a, cols, first, at_one, roots, work)?;
-    evaluate_four(alloc, b, cols, first + 1, false, roots, work)?;
-    evaluate_four(alloc, c, cols, first + 2, false, roots, work)?;
-    evaluate_four(alloc, d, cols, first + 3, false, roots, work)?;
-    Ok(())
-}
-
-/// `interpolate_below` of four rows.
-fn interpolate_four<F: FieldNTT>(
-    alloc: Global,
-    cells: &mut [F],
-    cols: usize,
-    place: usize,
-    at_one: bool,
-    inverses: &[F],
-    work: &mut Work,
-) -> Mem<()>
-    requires domain { 2 ≤ F.MAX_LG_ROOT_ORDER }
-    requires some { 0 < cols }
-    requires size { length cells.old ≡ 4 * cols }
-    requires tree { IsRootTree F.Ring (F.inverse (F.root 2)) inverses.now }
-    requires place { 1 ≤ place }
-    requires inside { 2 * place + 2 ≤ length inverses.now }
-    requires one { IsTrue at_one → AreOnesBelow F.Ring inverses.now place }
-    requires room { work.old.butterflies + 4 * cols < 2 ^ 128 }
-    ensures size { length cells.new ≡ length cells.old }
-    ensures values { OnOk result
-        (AreMultiplesBelow F.Ring inverses.now 2 place cols cells.old cells.new) }
-    ensures counted { OnOk result (work.new.butterflies ≡ work.old.butterflies + 4 * cols) }
-    ensures bounded { AddsAtMost (8 * cols) work.old work.new }
-    ensures refused { OnErr result (work.old.butterflies < work.new.butterflies) }
-    ensures never { IsTrue F.NEVER_REFUSES → IsOk result }
-{
-    let (front, behind) = cells.split_at_mut(2 * cols);
-    let (a, b) = front.split_at_mut(cols);
-    let (c, d) = behind.split_at_mut(cols);
-    turn_quarters_at::<F, false>(alloc, a, b, c, d, place, at_one, inverses, work)?;
+    let part = quarter_cells(count, cols, inverses);
+    let (front, behind) = cells.split_at_mut(2 * part);
+    let (a, b) = front.split_at_mut(part);
+    let (c, d) = behind.split_at_mut(part);
+    let roots = inverses.roots;
+    let first = 4 * inverses.place;
+    let lg = inverses.lg - 2;
+    let place = first;
+    interpolate_below(alloc, a, cols, &Points { roots, place, lg }, work)?;
+    let place = first + 1;
+    interpolate_below(alloc, b, cols, &Points { roots, place, lg }, work)?;
+    let place = first + 2;
+    interpolate_below(alloc, c, cols, &Points { roots, place, lg }, work)?;
+    let place = first + 3;
+    interpolate_below(alloc, d, cols, &Points { roots, place, lg }, work)?;
+    turn_rows_at::<F, false>(alloc, cells, part, inverses, work)?;
     Ok(())
 }
 
@@ -348,37 +309,77 @@ fn interpolate_sixteen<F: FieldNTT>(
     alloc: Global,
     cells: &mut [F],
     cols: usize,
-    place: usize,
-    at_one: bool,
-    inverses: &[F],
+    inverses: &Points<'_, F>,
     work: &mut Work,
 ) -> Mem<()>
-    requires domain { 4 ≤ F.MAX_LG_ROOT_ORDER }
+    requires points { ArePoints F.Ring F.MAX_LG_ROOT_ORDER (F.inverse (F.root 2)) inverses.now }
+    requires level { inverses.now.lg ≡ 4 }
     requires some { 0 < cols }
+    requires inside { 8 * inverses.now.place + 8 ≤ length inverses.now.roots.now }
     requires size { length cells.old ≡ 16 * cols }
-    requires tree { IsRootTree F.Ring (F.inverse (F.root 2)) inverses.now }
-    requires place { 1 ≤ place }
-    requires inside { 2 * (2 * (2 * place)) + 8 ≤ length inverses.now }
-    requires one { IsTrue at_one → AreOnesBelow F.Ring inverses.now place }
     requires room { work.old.butterflies + 32 * cols < 2 ^ 128 }
-    ensures size { length cells.new ≡ length cells.old }
     ensures values { OnOk result
-        (AreMultiplesBelow F.Ring inverses.now 4 place cols cells.old cells.new) }
+        (AreMultiplesAtPoints F.Ring inverses.now cols cells.old cells.new) }
     ensures counted { OnOk result (work.new.butterflies ≡ work.old.butterflies + 32 * cols) }
     ensures bounded { AddsAtMost (64 * cols) work.old work.new }
     ensures refused { OnErr result (work.old.butterflies < work.new.butterflies) }
     ensures never { IsTrue F.NEVER_REFUSES → IsOk result }
 {
-    let quarter = 4 * cols;
-    let (front, behind) = cells.split_at_mut(2 * quarter);
-    let (a, b) = front.split_at_mut(quarter);
-    let (c, d) = behind.split_at_mut(quarter);
-    let below = 2 * place;
-    let first = 2 * below;
-    interpolate_four(alloc, a, cols, first, at_one, inverses, work)?;
-    interpolate_four(alloc, b, cols, first + 1, false, inverses, work)?;
-    interpolate_four(alloc, c, cols, first + 2, false, inverses, work)?;
-    interpolate_four(alloc, d, cols, first + 3, false, inverses, work)?;
-    turn_quarters_at::<F, false>(alloc, a, b, c, d, place, at_one, inverses, work)?;
+    let part = 4 * cols;
+    let (front, behind) = cells.split_at_mut(2 * part);
+    let (a, b) = front.split_at_mut(part);
+    let (c, d) = behind.split_at_mut(part);
+    let roots = inverses.roots;
+    let first = 4 * inverses.place;
+    let lg = inverses.lg - 2;
+    let place = first;
+    turn_rows_at::<F, false>(alloc, a, cols, &Points { roots, place, lg }, work)?;
+    let place = first + 1;
+    turn_rows_at::<F, false>(alloc, b, cols, &Points { roots, place, lg }, work)?;
+    let place = first + 2;
+    turn_rows_at::<F, false>(alloc, c, cols, &Points { roots, place, lg }, work)?;
+    let place = first + 3;
+    turn_rows_at::<F, false>(alloc, d, cols, &Points { roots, place, lg }, work)?;
+    turn_rows_at::<F, false>(alloc, cells, part, inverses, work)?;
+    Ok(())
+}
+
+/// `evaluate_below` of sixteen rows. Without it, most calls for one column would be for four
+/// cells.
+fn evaluate_sixteen<F: FieldNTT>(
+    alloc: Global,
+    cells: &mut [F],
+    cols: usize,
+    points: &Points<'_, F>,
+    work: &mut Work,
+) -> Mem<()>
+    requires points { ArePoints F.Ring F.MAX_LG_ROOT_ORDER (F.root 2) points.now }
+    requires level { points.now.lg ≡ 4 }
+    requires some { 0 < cols }
+    requires inside { 8 * points.now.place + 8 ≤ length points.now.roots.now }
+    requires size { length cells.old ≡ 16 * cols }
+    requires room { work.old.butterflies + 32 * cols < 2 ^ 128 }
+    ensures values { OnOk result (AreValuesAtPoints F.Ring points.now cols cells.old cells.new) }
+    ensures counted { OnOk result (work.new.butterflies ≡ work.old.butterflies + 32 * cols) }
+    ensures bounded { AddsAtMost (64 * cols) work.old work.new }
+    ensures refused { OnErr result (work.old.butterflies < work.new.butterflies) }
+    ensures never { IsTrue F.NEVER_REFUSES → IsOk result }
+{
+    let part = 4 * cols;
+    turn_rows_at::<F, true>(alloc, cells, part, points, work)?;
+    let (front, behind) = cells.split_at_mut(2 * part);
+    let (a, b) = front.split_at_mut(part);
+    let (c, d) = behind.split_at_mut(part);
+    let roots = points.roots;
+    let first = 4 * points.place;
+    let lg = points.lg - 2;
+    let place = first;
+    turn_rows_at::<F, true>(alloc, a, cols, &Points { roots, place, lg }, work)?;
+    let place = first + 1;
+    turn_rows_at::<F, true>(alloc, b, cols, &Points { roots, place, lg }, work)?;
+    let place = first + 2;
+    turn_rows_at::<F, true>(alloc, c, cols, &Points { roots, place, lg }, work)?;
+    let place = first + 3;
+    turn_rows_at::<F, true>(alloc, d, cols, &Points { roots, place, lg }, work)?;
     Ok(())
 }

@@ -18,14 +18,12 @@ ghost use Rattle.std.specs.Prelude.{
   ◌<◌,
   ◌≤◌,
   ◌^◌,
-  ℕ,
   IfOk,
   IsOk,
   IsTrue,
   OnOk,
   OnErr,
   length,
-  slice_index_or,
 };
 ghost use Rattle.std.specs.Int.{IsPowerOfTwo};
 ghost use Rattle.math_theory.specs.Powers.{power};
@@ -42,7 +40,8 @@ pub(crate) mod butterflies;
 pub mod coset;
 pub mod order;
 
-use super::below::{evaluate_below, evaluate_few_below, interpolate_below};
+use super::below::{Points, evaluate_below, evaluate_few_below, interpolate_below};
+use super::row_products::multiply_row;
 use super::trees::domain_tree;
 use super::work::Work;
 use math_base::algebra::{Field, FieldNTT, Mem, Multiplicative, Object, Ring};
@@ -145,7 +144,12 @@ pub fn evaluate_rows_reversed<F: FieldNTT>(
     ensures refused { OnErr result (work.old.butterflies < work.new.butterflies) }
     ensures never { IsTrue F.NEVER_REFUSES → IsOk result }
 {
-    evaluate_below(alloc, cells, cols, lg, 1, true, table, work)?;
+    let points = Points {
+        roots: table,
+        place: 1,
+        lg,
+    };
+    evaluate_below(alloc, cells, cols, &points, work)?;
     Ok(())
 }
 
@@ -181,7 +185,12 @@ pub fn evaluate_few<F: FieldNTT>(
     ensures bounded { AddsAtMost (cols * 2 ^ lg * part) work.old work.new }
     ensures never { IsTrue F.NEVER_REFUSES → IsOk result }
 {
-    evaluate_few_below(alloc, cells, cols, lg, part, 1, true, table, work)?;
+    let points = Points {
+        roots: table,
+        place: 1,
+        lg,
+    };
+    evaluate_few_below(alloc, cells, cols, part, &points, work)?;
     Ok(())
 }
 
@@ -213,14 +222,12 @@ pub fn interpolate_rows<F: FieldNTT>(
     ensures never { IsTrue F.NEVER_REFUSES → IsOk result }
 {
     interpolate_multiples(alloc, cells, cols, lg, table, work)?;
-    if lg == 0 {
-        return Ok(());
-    }
-    if cols == 0 {
+    let count = cells.len();
+    if count <= cols {
         return Ok(());
     }
     let factor = size_inverse(alloc, lg)?;
-    scale(alloc, cells, &factor)?;
+    multiply_row(alloc, cells, &factor)?;
     Ok(())
 }
 
@@ -252,7 +259,12 @@ pub fn interpolate_multiples<F: FieldNTT>(
         return Ok(());
     }
     reverse_rows(cells, cols, lg);
-    interpolate_below(alloc, cells, cols, lg, 1, true, table, work)?;
+    let inverses = Points {
+        roots: table,
+        place: 1,
+        lg,
+    };
+    interpolate_below(alloc, cells, cols, &inverses, work)?;
     Ok(())
 }
 
@@ -267,17 +279,4 @@ pub fn size_inverse<F: FieldNTT>(alloc: Global, lg: u8) -> Mem<F>
         out = out.div_2(alloc)?;
     }
     Ok(out)
-}
-
-/// Multiplies each cell by a factor.
-fn scale<F: FieldNTT>(alloc: Global, cells: &mut [F], factor: &F) -> Mem<()>
-    ensures scaled { OnOk result ((p : ℕ) → p < length cells.old
-        → F.same (slice_index_or cells.new p F.zero)
-        (F.product (slice_index_or cells.old p F.zero) factor.now)) }
-    ensures never { IsTrue F.NEVER_REFUSES → IsOk result }
-{
-    for p in 0..cells.len() {
-        cells[p].mul_assign(alloc, factor)?;
-    }
-    Ok(())
 }

@@ -57,13 +57,13 @@ impl Work {
         self.root_products
     }
 
-    /// One butterfly more.
-    pub(super) fn add_butterfly(&mut self)
-        requires { self.old.butterflies + 1 < 2 ^ 128 }
-        ensures butterflies { self.new.butterflies ≡ self.old.butterflies + 1 }
+    /// So many butterflies more.
+    pub(super) fn add_butterflies(&mut self, count: usize)
+        requires { self.old.butterflies + count < 2 ^ 128 }
+        ensures butterflies { self.new.butterflies ≡ self.old.butterflies + count }
         ensures root_products { self.new.root_products ≡ self.old.root_products }
     {
-        self.butterflies += 1;
+        self.butterflies += count as u128;
     }
 
     /// One root product more.
@@ -73,21 +73,6 @@ impl Work {
         ensures root_products { self.new.root_products ≡ self.old.root_products + 1 }
     {
         self.root_products += 1;
-    }
-
-    /// The work of both: a loop counts into a `Work` of its own, which is joined to its caller's at
-    /// the end.
-    pub(super) fn join(&mut self, other: Work)
-        requires butterflies { self.old.butterflies < 2 ^ 128
-            → self.old.butterflies + other.butterflies < 2 ^ 128 }
-        requires root_products { self.old.root_products < 2 ^ 128
-            → self.old.root_products + other.root_products < 2 ^ 128 }
-        ensures butterflies { self.new.butterflies ≡ self.old.butterflies + other.butterflies }
-        ensures root_products { self.new.root_products
-            ≡ self.old.root_products + other.root_products }
-    {
-        self.butterflies += other.butterflies;
-        self.root_products += other.root_products;
     }
 
     /// Adds the work of the other. A count that comes to 2^128 or more becomes 2^128 - 1.

@@ -46,14 +46,9 @@ fn evaluated_but<R: Element>(alloc: Global, m: &Matrix<R>, n: usize, place: u32)
     }
 }
 
-/// Whether a count is that before it or one more.
-fn follows(before: u128, count: u128) -> bool {
-    count == before || count.checked_sub(1) == Some(before)
-}
-
 /// The butterflies of the evaluation that meets no refusal, after those with each allocation
-/// refused in turn; `None` where one does not count as many as the one before or one more, or that
-/// of the number `place` not this many.
+/// refused in turn; `None` where one counts fewer than the one before, or that of the number `place`
+/// not this many.
 fn risen<R: Element>(
     alloc: Global,
     m: &Matrix<R>,
@@ -65,7 +60,7 @@ fn risen<R: Element>(
     let mut met = false;
     for i in 1..MOST {
         let run = evaluated_but(alloc, m, n, i);
-        if !run.right || !follows(before, run.butterflies) {
+        if !run.right || run.butterflies < before {
             return None;
         }
         before = run.butterflies;
@@ -79,7 +74,7 @@ fn risen<R: Element>(
     None
 }
 
-/// Adds `rises` and the butterflies of the evaluation without a refusal, or `leaps`.
+/// Adds `rises` and the butterflies of the evaluation without a refusal, or `falls`.
 fn put_risen<R: Element>(
     alloc: Global,
     m: &Matrix<R>,
@@ -95,15 +90,14 @@ fn put_risen<R: Element>(
     refuse(alloc, 0);
     match count {
         Some(count) => write!(text, " rises {count}"),
-        None => text.push_str(" leaps"),
+        None => text.push_str(" falls"),
     }
 }
 
 /// `evaluate_refused PLACE B @ N @ M`: the columns of M as polynomials of N coefficients at least
 /// are evaluated with each allocation refused in turn, until one meets no refusal. It is `rises`
-/// and the butterflies of that one, where a refusal one allocation later counts the same
-/// butterflies or one more, and that of the number PLACE counts B. Where no library refuses
-/// allocations, nothing but that one is run.
+/// and the butterflies of that one, where a refusal one allocation later counts no fewer, and that of
+/// the number PLACE counts B. Where no library refuses allocations, nothing but that one is run.
 pub fn evaluate_refused<R: Element>(
     alloc: Global,
     arguments: &str,

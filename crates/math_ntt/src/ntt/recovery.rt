@@ -55,7 +55,7 @@ use super::matrix::Matrix;
 use super::polynomials::PolynomialVector;
 use math_base::algebra::{Additive, FieldNTT, Mem};
 use math_base::weights::quotients;
-use math_transforms::below::{evaluate_below, interpolate_below};
+use math_transforms::below::{Points, evaluate_below, interpolate_below};
 use math_transforms::row_products::multiply_rows;
 use math_transforms::transform::coset::move_rows;
 use math_transforms::transform::order::reverse_rows;
@@ -316,7 +316,12 @@ fn quotients_from_coset<F: FieldNTT>(
     let numerator = size_inverse(alloc, lg)?;
     let inverses = quotients(alloc, numerator, divisors)?;
     multiply_rows(alloc, cells, cols, &inverses)?;
-    interpolate_below(alloc, cells, cols, lg, 1, false, back, work)?;
+    let points = Points {
+        roots: back,
+        place: 1,
+        lg,
+    };
+    interpolate_below(alloc, cells, cols, &points, work)?;
     Ok(())
 }
 
@@ -353,7 +358,12 @@ fn divided<F: FieldNTT>(
         ≡ 2 * work.old.butterflies + (2 * cols + 3) * 2 ^ lg * lg) }
 {
     reverse_rows(cells, cols, lg);
-    evaluate_below(alloc, vanishing, 1, lg, 1, true, evaluation, work)?;
+    let points = Points {
+        roots: evaluation,
+        place: 1,
+        lg,
+    };
+    evaluate_below(alloc, vanishing, 1, &points, work)?;
     multiply_rows(alloc, cells, cols, vanishing)?;
     let shift = F::coset_shift(alloc)?;
     start_at(alloc, evaluation, &shift, lg)?;

@@ -1,15 +1,13 @@
-//! Butterflies: the cells of two halves combined pair by pair.
+//! Butterflies: the cells of two rows combined, column by column.
 
-ghost use Rattle.std.specs.Prelude.{◌≡◌, ◌+◌, ◌*◌, ◌<◌, ◌^◌, IsTrue, IsOk, OnOk, OnErr, length};
+ghost use Rattle.std.specs.Prelude.{◌≡◌, ◌+◌, ◌*◌, IsOk, IsTrue, OnOk, length};
 ghost use Rattle.math_transforms.specs.CombinedCells.{IsCombined, AreCombined};
-ghost use Rattle.math_transforms.specs.CountedWork.{AddsAtMost};
 
-use crate::work::Work;
-use math_base::algebra::{Additive, FieldNTT, Mem, Multiplicative, Object};
+use math_base::algebra::{Additive, FieldNTT, Mem, Multiplicative, Object, Ring};
 use std::alloc::Global;
 
 /// Puts the sum and the difference of two cells in their places.
-fn sum_and_difference<F: Additive>(alloc: Global, low: &mut F, high: &mut F) -> Mem<()>
+pub(crate) fn sum_and_difference<F: Additive>(alloc: Global, low: &mut F, high: &mut F) -> Mem<()>
     ensures sum { OnOk result (F.same low.new (F.sum low.old high.old)) }
     ensures difference { OnOk result (F.same high.new (F.sum low.old (F.negative high.old))) }
     ensures never { IsTrue F.NEVER_REFUSES → IsOk result }
@@ -23,23 +21,18 @@ fn sum_and_difference<F: Additive>(alloc: Global, low: &mut F, high: &mut F) -> 
 
 /// Combines a pair of cells by a weight: forward to low + high w and low - high w, and on the way
 /// back to low + high and (low - high) w. `AT_ONE` says that the weight is one: then no product is
-/// taken. Counts one butterfly.
+/// taken.
 pub(crate) fn combine<F: FieldNTT, const FORWARD: bool, const AT_ONE: bool>(
     alloc: Global,
     low: &mut F,
     high: &mut F,
     w: &F,
-    work: &mut Work,
 ) -> Mem<()>
-    requires room { work.old.butterflies + 1 < 2 ^ 128 }
     requires one { IsTrue AT_ONE → F.same w.now F.one }
     ensures combined { OnOk result
         (IsCombined F.Ring FORWARD w.now low.old high.old low.new high.new) }
-    ensures counted { work.new.butterflies ≡ work.old.butterflies + 1 }
-    ensures root_products { work.new.root_products ≡ work.old.root_products }
     ensures never { IsTrue F.NEVER_REFUSES → IsOk result }
 {
-    work.add_butterfly();
     if AT_ONE {
         sum_and_difference(alloc, low, high)?;
         return Ok(());
@@ -54,55 +47,47 @@ pub(crate) fn combine<F: FieldNTT, const FORWARD: bool, const AT_ONE: bool>(
     Ok(())
 }
 
-/// Combines a pair of cells by four weights, to p low + q high and r low + s high. Counts one
-/// butterfly.
-pub(crate) fn combine_by_four<F: FieldNTT>(
+/// Combines two rows of `cols` cells, column by column.
+fn combine_columns<F: FieldNTT, const FORWARD: bool, const AT_ONE: bool>(
     alloc: Global,
-    low: &mut F,
-    high: &mut F,
-    p: &F,
-    q: &F,
-    r: &F,
-    s: &F,
-    work: &mut Work,
+    rows: &mut [F],
+    cols: usize,
+    w: &F,
 ) -> Mem<()>
-    requires room { work.old.butterflies + 1 < 2 ^ 128 }
-    ensures first { OnOk result (F.same low.new
-        (F.sum (F.product p.now low.old) (F.product q.now high.old))) }
-    ensures second { OnOk result (F.same high.new
-        (F.sum (F.product r.now low.old) (F.product s.now high.old))) }
-    ensures counted { work.new.butterflies ≡ work.old.butterflies + 1 }
-    ensures root_products { work.new.root_products ≡ work.old.root_products }
+    requires size { length rows.old ≡ 2 * cols }
+    requires one { IsTrue AT_ONE → F.same w.now F.one }
+    ensures combined { OnOk result (AreCombined F.Ring FORWARD w.now cols rows.old rows.new) }
     ensures never { IsTrue F.NEVER_REFUSES → IsOk result }
 {
-    work.add_butterfly();
-    let first = F::sum_of_products(alloc, p, low, q, high)?;
-    let second = F::sum_of_products(alloc, r, low, s, high)?;
-    *low = first;
-    *high = second;
+    for p in 0..cols {
+        let second = cols + p;
+        let mut low = rows[p].clone(alloc)?;
+        let mut high = rows[second].clone(alloc)?;
+        combine::<F, FORWARD, AT_ONE>(alloc, &mut low, &mut high, w)?;
+        rows[p] = low;
+        rows[second] = high;
+    }
     Ok(())
 }
 
-/// Combines the cells of two rows, place by place, by one power.
-pub(crate) fn combine_cells<F: FieldNTT, const FORWARD: bool, const AT_ONE: bool>(
+/// Combines two rows of `cols` cells, which follow one another, by one weight. Where it is one, no
+/// product is taken.
+pub(crate) fn combine_rows<F: FieldNTT, const FORWARD: bool>(
     alloc: Global,
-    low: &mut [F],
-    high: &mut [F],
+    rows: &mut [F],
+    cols: usize,
     w: &F,
-    work: &mut Work,
 ) -> Mem<()>
-    requires size { length high.old ≡ length low.old }
-    requires room { work.old.butterflies + length low.old < 2 ^ 128 }
-    requires one { IsTrue AT_ONE → F.same w.now F.one }
-    ensures combined { OnOk result (AreCombined F.Ring FORWARD (λ _. w.now) 0 (length low.old)
-        low.old high.old low.new high.new) }
-    ensures counted { OnOk result (work.new.butterflies ≡ work.old.butterflies + length low.old) }
-    ensures bounded { AddsAtMost (2 * length low.old) work.old work.new }
-    ensures refused { OnErr result (work.old.butterflies < work.new.butterflies) }
+    requires size { length rows.old ≡ 2 * cols }
+    ensures combined { OnOk result (AreCombined F.Ring FORWARD w.now cols rows.old rows.new) }
     ensures never { IsTrue F.NEVER_REFUSES → IsOk result }
 {
-    for p in 0..low.len() {
-        combine::<F, FORWARD, AT_ONE>(alloc, &mut low[p], &mut high[p], w, work)?;
+    let one = F::one(alloc)?;
+    let at_one = w.equals(alloc, &one)?;
+    if at_one {
+        combine_columns::<F, FORWARD, true>(alloc, rows, cols, w)?;
+        return Ok(());
     }
+    combine_columns::<F, FORWARD, false>(alloc, rows, cols, w)?;
     Ok(())
 }

@@ -9,7 +9,7 @@ ghost use Rattle.math_transforms.specs.CosetValues.{AreMovedValues};
 ghost use Rattle.math_transforms.specs.CountedWork.{AddsAtMost};
 ghost use Rattle.math_transforms.specs.RootTrees.{IsTreeOf};
 
-use crate::below::{evaluate_below, interpolate_below};
+use crate::below::{Points, evaluate_below, interpolate_below};
 use crate::work::Work;
 use math_base::algebra::{FieldNTT, Mem};
 use std::alloc::Global;
@@ -46,7 +46,17 @@ pub fn move_rows<F: FieldNTT>(
     ensures refused { OnErr result (work.old.butterflies < work.new.butterflies) }
     ensures never { IsTrue F.NEVER_REFUSES → IsOk result }
 {
-    interpolate_below(alloc, cells, cols, lg, 1, true, interpolation, work)?;
-    evaluate_below(alloc, cells, cols, lg, 1, false, coset, work)?;
+    let inverses = Points {
+        roots: interpolation,
+        place: 1,
+        lg,
+    };
+    interpolate_below(alloc, cells, cols, &inverses, work)?;
+    let points = Points {
+        roots: coset,
+        place: 1,
+        lg,
+    };
+    evaluate_below(alloc, cells, cols, &points, work)?;
     Ok(())
 }

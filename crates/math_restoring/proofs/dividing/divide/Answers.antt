@@ -3,7 +3,7 @@ use Rattle.std.proofs.lemmas.List.{length-take-le}
 use Rattle.math_base.specs.Elements.{inverse, residue, shift_of}
 use Rattle.math_restoring.proofs.BlockColumns.{column-before, rows-within}
 use Rattle.math_restoring.proofs.DividedColumns.{half-fits, whole-fits}
-use Rattle.math_restoring.proofs.PointsOfTrees.{backward-ones, backward-tree, forward-tree}
+use Rattle.math_restoring.proofs.PointsOfTrees.{backward-tree, forward-tree}
 use Rattle.math_restoring.proofs.dividing.divide.Goals as goal
 use Rattle.math_restoring.proofs.dividing.divide.Goals.{After-size_of-2, then-part-lg+in_ok-interpolate_below, else-part-lg+in_ok-write_sums}
 
@@ -20,25 +20,34 @@ taken c = length-take-le _ _ (within c) ∙ ap (λ n. n * c.args.cols) c.size_of
 pub overflow_mul-first : goal.overflow_mul-first
 overflow_mul-first c = let fits = within c in search rules
 
+pub interpolate_below-requires-clause-points : goal.interpolate_below-requires-clause-points
+interpolate_below-requires-clause-points c =
+    let d = c.args.division.now in
+    let D = c.requires.division in
+    rw c.deref.ensures.value
+    (record { domain = D.domain; small = omega (arith, D.domain); tree = backward-tree (residue 1) d.lg d.domain.items D.domain D.domain_inverses; some = omega arith; within = omega (arith, D.domain_inverses.count) })
+
+pub evaluate_below-requires-clause-points : goal.evaluate_below-requires-clause-points
+evaluate_below-requires-clause-points c =
+    let d = c.args.division.now in
+    let D = c.requires.division in
+    let small : d.part ≤ 32 = omega (arith, D.part, D.domain) in
+    rw c.deref-2.ensures.value
+    (record { domain = small; small = omega (arith, small); tree = forward-tree shift_of d.part d.coset.items small D.coset_tree; some = omega arith; within = omega (arith, D.coset_tree.count) })
+
+pub interpolate_below-requires-2-clause-points : goal.interpolate_below-requires-2-clause-points
+interpolate_below-requires-2-clause-points c =
+    let d = c.args.division.now in
+    let D = c.requires.division in
+    let small : d.part ≤ 32 = omega (arith, D.part, D.domain) in
+    rw c.deref-4.ensures.value
+    (record { domain = small; small = omega (arith, small); tree = backward-tree (inverse shift_of) d.part d.coset_inverses.items small D.coset_inverses; some = omega arith; within = omega (arith, D.coset_inverses.count) })
+
 pub slice_bounds-first-end : goal.slice_bounds-first-end
 slice_bounds-first-end c = within c
 
 pub slice_bounds-first-end-2 : goal.slice_bounds-first-end-2
 slice_bounds-first-end-2 c = sym (length-take-le _ _ (within (goal.at.slice_bounds-first-end-2 c).After-size_of-2))
-
-pub interpolate_below-requires-clause-tree : goal.interpolate_below-requires-clause-tree
-interpolate_below-requires-clause-tree c =
-    let d = c.args.division.now in
-    rw c.deref.ensures.value (backward-tree (residue 1) d.lg d.domain.items c.requires.division.domain c.requires.division.domain_inverses)
-
-pub interpolate_below-requires-clause-one : goal.interpolate_below-requires-clause-one
-interpolate_below-requires-clause-one c = λ _. let d = c.args.division.now in rw c.deref.ensures.value (backward-ones d.lg d.domain.items c.requires.division.domain_inverses)
-
-pub evaluate_below-requires-clause-tree : goal.evaluate_below-requires-clause-tree
-evaluate_below-requires-clause-tree c =
-    let d = c.args.division.now in
-    let D = c.requires.division in
-    rw c.deref-2.ensures.value (forward-tree shift_of d.part d.coset.items (omega (arith, D.part, D.domain)) D.coset_tree)
 
 pub evaluate_below-requires-clause-size : goal.evaluate_below-requires-clause-size
 evaluate_below-requires-clause-size c = taken (goal.at.evaluate_below-requires-clause-size c).After-size_of-2
@@ -47,12 +56,6 @@ pub multiply_rows-requires : goal.multiply_rows-requires
 multiply_rows-requires c =
     c.evaluate_below.auto.cells ∙ taken (goal.at.multiply_rows-requires c).After-size_of-2
     ∙ ap (λ n. n * c.args.cols) (sym (ap length c.deref-3.ensures.value ∙ c.requires.division.inverse_count))
-
-pub interpolate_below-requires-2-clause-tree : goal.interpolate_below-requires-2-clause-tree
-interpolate_below-requires-2-clause-tree c =
-    let d = c.args.division.now in
-    let D = c.requires.division in
-    rw c.deref-4.ensures.value (backward-tree (inverse shift_of) d.part d.coset_inverses.items (omega (arith, D.part, D.domain)) D.coset_inverses)
 
 pub interpolate_below-requires-2-clause-size : goal.interpolate_below-requires-2-clause-size
 interpolate_below-requires-2-clause-size c =

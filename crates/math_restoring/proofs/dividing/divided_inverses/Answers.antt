@@ -18,6 +18,11 @@ within c =
 taken : (c : After-size_of) → length (take c.size_of.result c.fold.new.cells) ≡ 2 ^ c.args.part
 taken c = length-take-le c.size_of.result c.fold.new.cells (within c) ∙ c.size_of.ensures
 
+pub evaluate_below-requires-clause-points : goal.evaluate_below-requires-clause-points
+evaluate_below-requires-clause-points c =
+    let small : c.args.part ≤ 32 = omega (arith, c.requires.part, c.requires.domain) in
+    record { domain = small; small = omega (arith, small); tree = forward-tree shift_of c.args.part c.args.roots.now small c.requires.tree; some = omega arith; within = omega (arith, c.requires.tree.count) }
+
 pub slice_bounds-first-end : goal.slice_bounds-first-end
 slice_bounds-first-end c = within c
 
@@ -26,12 +31,6 @@ slice_bounds-first-end-2 c = c.size_of.ensures ∙ sym (taken (goal.at.slice_bou
 
 pub evaluate_below-requires-clause-size : goal.evaluate_below-requires-clause-size
 evaluate_below-requires-clause-size c = taken (goal.at.evaluate_below-requires-clause-size c).After-size_of ∙ omega arith
-
-pub evaluate_below-requires-clause-tree : goal.evaluate_below-requires-clause-tree
-evaluate_below-requires-clause-tree c = forward-tree shift_of c.args.part c.args.roots.now (omega (arith, c.requires.part, c.requires.domain)) c.requires.tree
-
-pub evaluate_below-requires-clause-within : goal.evaluate_below-requires-clause-within
-evaluate_below-requires-clause-within c = omega (arith, c.requires.tree.count)
 
 pub returns-clause-count : goal.returns-clause-count
 returns-clause-count c = c.in_ok-inverses.ensures.count ∙ c.evaluate_below.auto.cells ∙ taken (goal.at.returns-clause-count c).After-size_of

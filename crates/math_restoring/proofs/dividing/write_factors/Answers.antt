@@ -2,17 +2,12 @@ use Rattle.std.proofs.Common.{arith}
 use Rattle.math_base.specs.Elements.{residue}
 use Rattle.math_transforms.proofs.PowersOfTwo.{power_of_two-double}
 use Rattle.math_restoring.proofs.MadeDivisions.{high-factors, low-factors, whole-factors}
-use Rattle.math_restoring.proofs.PointsOfTrees.{forward-ones, forward-tree}
+use Rattle.math_restoring.proofs.PointsOfTrees.{forward-tree}
 use Rattle.math_restoring.proofs.dividing.write_factors.Goals as goal
 
-pub evaluate_below-requires-clause-tree : goal.evaluate_below-requires-clause-tree
-evaluate_below-requires-clause-tree c = forward-tree (residue 1) c.args.lg c.args.roots.now c.requires.domain c.requires.tree
-
-pub evaluate_below-requires-clause-within : goal.evaluate_below-requires-clause-within
-evaluate_below-requires-clause-within c = omega (arith, c.requires.tree.count)
-
-pub evaluate_below-requires-clause-one : goal.evaluate_below-requires-clause-one
-evaluate_below-requires-clause-one c = λ _. forward-ones c.args.lg c.args.roots.now c.requires.tree
+pub evaluate_below-requires-clause-points : goal.evaluate_below-requires-clause-points
+evaluate_below-requires-clause-points c =
+    record { domain = omega (arith, c.requires.domain); small = omega (arith, c.requires.domain); tree = forward-tree (residue 1) c.args.lg c.args.roots.now c.requires.domain c.requires.tree; some = omega arith; within = omega (arith, c.requires.tree.count) }
 
 pub multiply_rows-requires-else-part-lg : goal.multiply_rows-requires-else-part-lg
 multiply_rows-requires-else-part-lg c =

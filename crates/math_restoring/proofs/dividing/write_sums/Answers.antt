@@ -1,24 +1,17 @@
 use Rattle.std.proofs.Common.{◌≡◌, ◌∙◌, ◌+◌, ◌-◌, ◌*◌, ◌^◌, ap, arith}
 use Rattle.math_base.specs.Elements.{residue}
 use Rattle.math_transforms.proofs.PowersOfTwo.{power_of_two-double}
-use Rattle.math_restoring.proofs.PointsOfTrees.{backward-tree, second-ones}
+use Rattle.math_restoring.proofs.PointsOfTrees.{backward-tree}
 use Rattle.math_restoring.proofs.SummedHalves.{sums-of_halves}
 use Rattle.math_restoring.proofs.dividing.write_sums.Goals as goal
 
-pub interpolate_below-requires-clause-tree : goal.interpolate_below-requires-clause-tree
-interpolate_below-requires-clause-tree c = backward-tree (residue 1) c.args.lg c.args.inverses.now c.requires.domain c.requires.tree
+pub interpolate_below-requires-clause-points : goal.interpolate_below-requires-clause-points
+interpolate_below-requires-clause-points c =
+    record { domain = omega (arith, c.requires.domain); small = omega (arith, c.requires.domain); tree = backward-tree (residue 1) c.args.lg c.args.inverses.now c.requires.domain c.requires.tree; some = omega arith; within = omega (arith, c.requires.tree.count, power_of_two-double c.args.lg c.requires.some) }
 
-pub interpolate_below-requires-clause-within : goal.interpolate_below-requires-clause-within
-interpolate_below-requires-clause-within c = omega (arith, c.requires.tree.count, power_of_two-double c.args.lg c.requires.some)
-
-pub interpolate_below-requires-clause-one : goal.interpolate_below-requires-clause-one
-interpolate_below-requires-clause-one c = λ _. second-ones c.args.lg c.args.inverses.now c.requires.tree
-
-pub interpolate_below-requires-2-clause-tree : goal.interpolate_below-requires-2-clause-tree
-interpolate_below-requires-2-clause-tree c = backward-tree (residue 1) c.args.lg c.args.inverses.now c.requires.domain c.requires.tree
-
-pub interpolate_below-requires-2-clause-within : goal.interpolate_below-requires-2-clause-within
-interpolate_below-requires-2-clause-within c = omega (arith, c.requires.tree.count, power_of_two-double c.args.lg c.requires.some)
+pub interpolate_below-requires-2-clause-points : goal.interpolate_below-requires-2-clause-points
+interpolate_below-requires-2-clause-points c =
+    record { domain = omega (arith, c.requires.domain); small = omega (arith, c.requires.domain); tree = backward-tree (residue 1) c.args.lg c.args.inverses.now c.requires.domain c.requires.tree; some = omega arith; within = omega (arith, c.requires.tree.count, power_of_two-double c.args.lg c.requires.some) }
 
 pub add_cells-requires : goal.add_cells-requires
 add_cells-requires c =

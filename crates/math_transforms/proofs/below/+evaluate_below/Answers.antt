@@ -1,386 +1,242 @@
-use Rattle.std.proofs.Common.{◌≡◌, ◌∙◌, ℕ, ◌+◌, ◌-◌, ◌*◌, ◌<◌, ◌≤◌, ◌^◌, ◌++◌, length, inl, ap, ap₂, refl, subst, sym, rules, arith}
-use Rattle.math_transforms.specs.RootTrees.{AreValuesBelow, entry}
-use Rattle.math_transforms.proofs.BelowClasses.{values-level-same, values-quarters-same, row-values-same}
-use Rattle.math_transforms.proofs.BelowSteps.{turn-square, Quartered, ones-first, quartered}
-use Rattle.math_transforms.proofs.Levels.{adds-part, adds-then}
+use Rattle.std.proofs.Common.{◌≡◌, ◌∙◌, ℕ, ◌+◌, ◌-◌, ◌*◌, ◌<◌, ◌≤◌, ◌^◌, ◌++◌, length, ap, ap₂, refl, rules, arith}
 use Rattle.math_base.proofs.Members.{ring_members}
+use Rattle.math_transforms.proofs.BelowClasses.{row-values-same}
+use Rattle.math_transforms.proofs.BelowSteps.{at-level, turn-square, no-steps, one_level, quarter-within, some-level}
+use Rattle.math_transforms.proofs.Levels.{adds-exactly, adds-part, adds-then}
+use Rattle.math_transforms.proofs.RowsBelow.{AreQuarters, values-four, values-pair, values-turned}
 use Rattle.math_transforms.proofs.below.+evaluate_below.Goals as goal
 
-pub returns-then-lg-eq0-clause-values : goal.returns-then-lg-eq0-clause-values
-returns-then-lg-eq0-clause-values g t c =
+pub returns-then-count-cols-clause-values : goal.returns-then-count-cols-clause-values
+returns-then-count-cols-clause-values g t c =
     let F = g.met.F in
     let R = ring_members g.F.Multiplicative.product g.F.Debug.debug_output g.F.Object.same g.F.Object.NEVER_REFUSES g.F.Additive.zero g.F.Additive.sum g.F.Additive.negative g.F.Ring.one in
-    row-values-same R F.Object.equality F.Additive.group F.Multiplicative.commutes F.Ring.ring c.args.roots.now c.args.lg c.args.place c.args.cols c.args.cells.now c.if-lg-eq0.true
+    let p = c.args.points.now in
+    λ t k b l. row-values-same R F.Object.equality F.Additive.group F.Multiplicative.commutes F.Ring.ring p.roots.now p.lg p.place c.args.cols c.args.cells.now (one_level p.lg c.args.cols (length c.args.cells.now) c.requires.size c.if-count-cols.true (omega (arith, l))) t k b l
 
-pub returns-then-cols-eq0-clause-values : goal.returns-then-cols-eq0-clause-values
-returns-then-cols-eq0-clause-values g t c =
-    λ t k b l. absurd (omega (arith, l, c.if-cols-eq0.true))
+pub returns-then-count-cols-clause-counted : goal.returns-then-count-cols-clause-counted
+returns-then-count-cols-clause-counted g t c = omega (arith, no-steps c.args.points.now.lg c.args.cols (length c.args.cells.now) c.requires.size c.if-count-cols.true)
+
+pub returns-then-count-cols-clause-bounded : goal.returns-then-count-cols-clause-bounded
+returns-then-count-cols-clause-bounded g t c = adds-exactly 0 _ _ _ (omega arith) (omega arith) refl
+
+pub combine_rows_at-requires-clause-size : goal.combine_rows_at-requires-clause-size
+combine_rows_at-requires-clause-size g t c = let h = at-level 1 c.args.points.now.lg c.args.points.now.place c.args.cols c.if-lg-eq1.true in omega (arith, h.rows, c.requires.size)
+
+pub combine_rows_at-requires-clause-room : goal.combine_rows_at-requires-clause-room
+combine_rows_at-requires-clause-room g t c = let h = at-level 1 c.args.points.now.lg c.args.points.now.place c.args.cols c.if-lg-eq1.true in omega (arith, h.steps, c.requires.room)
+
+pub combine_rows_at-requires-clause-inside : goal.combine_rows_at-requires-clause-inside
+combine_rows_at-requires-clause-inside g t c = let h = at-level 1 c.args.points.now.lg c.args.points.now.place c.args.cols c.if-lg-eq1.true in omega (arith, h.points, c.requires.points.within)
+
+pub returns-in_err-combine_rows_at-clause-bounded : goal.returns-in_err-combine_rows_at-clause-bounded
+returns-in_err-combine_rows_at-clause-bounded g t c = let h = at-level 1 c.args.points.now.lg c.args.points.now.place c.args.cols c.if-lg-eq1.true in adds-exactly (c.args.cols) _ _ _ (omega (arith, h.steps)) c.combine_rows_at.ensures.counted c.combine_rows_at.ensures.root_products
+
+pub returns-in_err-combine_rows_at-clause-refused : goal.returns-in_err-combine_rows_at-clause-refused
+returns-in_err-combine_rows_at-clause-refused g t c =
+    let h = at-level 1 c.args.points.now.lg c.args.points.now.place c.args.cols c.if-lg-eq1.true in
+    let more : c.args.work.now.butterflies < c.combine_rows_at.new.work.butterflies = omega (arith, c.combine_rows_at.ensures.counted, c.requires.size, h.rows, c.if-count-cols.false) in
+    search rules
+
+pub returns-then-lg-eq1-clause-counted : goal.returns-then-lg-eq1-clause-counted
+returns-then-lg-eq1-clause-counted g t c = let h = at-level 1 c.args.points.now.lg c.args.points.now.place c.args.cols c.if-lg-eq1.true in omega (arith, h.steps, c.combine_rows_at.ensures.counted)
+
+pub returns-then-lg-eq1-clause-bounded : goal.returns-then-lg-eq1-clause-bounded
+returns-then-lg-eq1-clause-bounded g t c = let h = at-level 1 c.args.points.now.lg c.args.points.now.place c.args.cols c.if-lg-eq1.true in adds-exactly (c.args.cols) _ _ _ (omega (arith, h.steps)) c.combine_rows_at.ensures.counted c.combine_rows_at.ensures.root_products
 
 pub returns-then-lg-eq1-clause-values : goal.returns-then-lg-eq1-clause-values
 returns-then-lg-eq1-clause-values g t c =
     let F = g.met.F in
     let R = ring_members g.F.Multiplicative.product g.F.Debug.debug_output g.F.Object.same g.F.Object.NEVER_REFUSES g.F.Additive.zero g.F.Additive.sum g.F.Additive.negative g.F.Ring.one in
-    let row : 2 ^ (c.args.lg - 1) * c.args.cols ≡ c.args.cols = ap (λ i. 2 ^ (i - 1) * c.args.cols) c.if-lg-eq1.true ∙ omega arith in
-    let none : c.args.lg - 1 ≡ 0 = omega (arith, c.if-lg-eq1.true) in
-    let low_count : length c.split_at_mut-low.result.0.now ≡ 2 ^ (c.args.lg - 1) * c.args.cols = omega (arith, row, c.split_at_mut-low.ensures.front_len) in
-    let new_count : length c.turn_halves_at.new.low ≡ 2 ^ (c.args.lg - 1) * c.args.cols = omega (arith, low_count, c.turn_halves_at.auto.low) in
-    subst (λ cells. AreValuesBelow R c.args.roots.now c.args.lg c.args.place c.args.cols cells (c.turn_halves_at.new.low ++ c.turn_halves_at.new.high)) (sym c.split_at_mut-low.ensures.value)
-    (values-level-same R F.Object.equality F.Additive.group F.Multiplicative.commutes F.Ring.ring (g.F.FieldNTT.root 2) c.args.roots.now c.requires.tree c.args.lg c.args.place c.args.cols (λ l. absurd (omega (arith, l, c.if-lg-eq1.true))) c.requires.place c.requires.within (omega (arith, c.if-lg-eq1.true))
-    (entry R c.args.roots.now c.args.place) refl c.split_at_mut-low.result.0.now c.split_at_mut-low.result.1.now c.turn_halves_at.new.low c.turn_halves_at.new.high c.turn_halves_at.new.low c.turn_halves_at.new.high low_count new_count c.in_ok-turn_halves_at.ensures.combined
-    (row-values-same R F.Object.equality F.Additive.group F.Multiplicative.commutes F.Ring.ring c.args.roots.now (c.args.lg - 1) (2 * c.args.place) c.args.cols c.turn_halves_at.new.low none) (row-values-same R F.Object.equality F.Additive.group F.Multiplicative.commutes F.Ring.ring c.args.roots.now (c.args.lg - 1) (2 * c.args.place + 1) c.args.cols c.turn_halves_at.new.high none))
+    let p = c.args.points.now in
+    let h = at-level 1 c.args.points.now.lg c.args.points.now.place c.args.cols c.if-lg-eq1.true in
+    values-pair R F.Object.equality F.Additive.group F.Multiplicative.commutes F.Ring.ring (g.F.FieldNTT.root 2) p.roots.now c.requires.points.tree p.lg p.place c.args.cols c.requires.points.some c.requires.points.within c.if-lg-eq1.true
+    c.args.cells.now c.combine_rows_at.new.rows (omega (arith, h.rows, c.requires.size)) (omega (arith, h.rows, c.requires.size, c.combine_rows_at.auto.rows)) c.in_ok-combine_rows_at.ensures.combined
 
-pub overflow_mul-quarter : goal.overflow_mul-quarter
-overflow_mul-quarter g t c =
-    let two : 2 ≤ c.args.lg = omega (arith, c.if-lg-eq0.false, c.if-lg-eq1.false) in
-    let q : Quartered c.args.lg c.args.place c.args.cols (length c.args.roots.now) c.size_of.result = quartered c.args.lg c.args.place c.args.cols (length c.args.roots.now) c.size_of.result two c.requires.within c.size_of.ensures in
-    let all : length c.args.cells.now ≡ 4 * (c.size_of.result * c.args.cols) = c.requires.size ∙ q.cells in
+pub turn_rows_at-requires-clause-size : goal.turn_rows_at-requires-clause-size
+turn_rows_at-requires-clause-size g t c = let h = at-level 2 c.args.points.now.lg c.args.points.now.place c.args.cols c.if-lg-eq2.true in omega (arith, h.rows, c.requires.size)
+
+pub turn_rows_at-requires-clause-inside : goal.turn_rows_at-requires-clause-inside
+turn_rows_at-requires-clause-inside g t c = let h = at-level 2 c.args.points.now.lg c.args.points.now.place c.args.cols c.if-lg-eq2.true in omega (arith, h.points, c.requires.points.within)
+
+pub turn_rows_at-requires-clause-room : goal.turn_rows_at-requires-clause-room
+turn_rows_at-requires-clause-room g t c = let h = at-level 2 c.args.points.now.lg c.args.points.now.place c.args.cols c.if-lg-eq2.true in omega (arith, h.steps, c.requires.room)
+
+pub returns-in_err-turn_rows_at-clause-bounded : goal.returns-in_err-turn_rows_at-clause-bounded
+returns-in_err-turn_rows_at-clause-bounded g t c = let h = at-level 2 c.args.points.now.lg c.args.points.now.place c.args.cols c.if-lg-eq2.true in adds-exactly (4 * c.args.cols) _ _ _ (omega (arith, h.steps)) c.turn_rows_at.ensures.counted c.turn_rows_at.ensures.root_products
+
+pub returns-in_err-turn_rows_at-clause-refused : goal.returns-in_err-turn_rows_at-clause-refused
+returns-in_err-turn_rows_at-clause-refused g t c =
+    let h = at-level 2 c.args.points.now.lg c.args.points.now.place c.args.cols c.if-lg-eq2.true in
+    let more : c.args.work.now.butterflies < c.turn_rows_at.new.work.butterflies = omega (arith, c.turn_rows_at.ensures.counted, c.requires.size, h.rows, c.if-count-cols.false) in
     search rules
 
-pub overflow_mul-quarter-2 : goal.overflow_mul-quarter-2
-overflow_mul-quarter-2 g t c =
-    let two : 2 ≤ c.args.lg = omega (arith, c.if-lg-eq0.false, c.if-lg-eq1.false) in
-    let q : Quartered c.args.lg c.args.place c.args.cols (length c.args.roots.now) c.size_of.result = quartered c.args.lg c.args.place c.args.cols (length c.args.roots.now) c.size_of.result two c.requires.within c.size_of.ensures in
-    let all : length c.args.cells.now ≡ 4 * (c.size_of.result * c.args.cols) = c.requires.size ∙ q.cells in
-    search rules
+pub returns-then-lg-eq2-clause-counted : goal.returns-then-lg-eq2-clause-counted
+returns-then-lg-eq2-clause-counted g t c = let h = at-level 2 c.args.points.now.lg c.args.points.now.place c.args.cols c.if-lg-eq2.true in omega (arith, h.steps, c.turn_rows_at.ensures.counted)
 
-pub split_at_mut-front-requires : goal.split_at_mut-front-requires
-split_at_mut-front-requires g t c =
-    let two : 2 ≤ c.args.lg = omega (arith, c.if-lg-eq0.false, c.if-lg-eq1.false) in
-    let q : Quartered c.args.lg c.args.place c.args.cols (length c.args.roots.now) c.size_of.result = quartered c.args.lg c.args.place c.args.cols (length c.args.roots.now) c.size_of.result two c.requires.within c.size_of.ensures in
-    omega (arith, c.requires.size, q.cells)
+pub returns-then-lg-eq2-clause-bounded : goal.returns-then-lg-eq2-clause-bounded
+returns-then-lg-eq2-clause-bounded g t c = let h = at-level 2 c.args.points.now.lg c.args.points.now.place c.args.cols c.if-lg-eq2.true in adds-exactly (4 * c.args.cols) _ _ _ (omega (arith, h.steps)) c.turn_rows_at.ensures.counted c.turn_rows_at.ensures.root_products
 
-pub split_at_mut-c-requires : goal.split_at_mut-c-requires
-split_at_mut-c-requires g t c =
-    let two : 2 ≤ c.args.lg = omega (arith, c.if-lg-eq0.false, c.if-lg-eq1.false) in
-    let q : Quartered c.args.lg c.args.place c.args.cols (length c.args.roots.now) c.size_of.result = quartered c.args.lg c.args.place c.args.cols (length c.args.roots.now) c.size_of.result two c.requires.within c.size_of.ensures in
-    omega (arith, c.requires.size, q.cells, c.split_at_mut-front.ensures.back_len)
-
-pub turn_quarters_at-requires-clause-odd : goal.turn_quarters_at-requires-clause-odd
-turn_quarters_at-requires-clause-odd g t c =
-    let two : 2 ≤ c.args.lg = omega (arith, c.if-lg-eq0.false, c.if-lg-eq1.false) in
-    let q : Quartered c.args.lg c.args.place c.args.cols (length c.args.roots.now) c.size_of.result = quartered c.args.lg c.args.place c.args.cols (length c.args.roots.now) c.size_of.result two c.requires.within c.size_of.ensures in
+pub returns-then-lg-eq2-clause-values : goal.returns-then-lg-eq2-clause-values
+returns-then-lg-eq2-clause-values g t c =
     let F = g.met.F in
-    let E = F.Object.equality in
-    let long : 4 ≤ length c.args.roots.now = omega (arith, q.inside, c.requires.place) in
-    E.transitive _ _ _ (c.requires.tree.odd c.args.place c.requires.place (omega (arith, q.inside)))
-    (F.Multiplicative.commutes.respects _ _ _ _ (E.reflexive _) (E.symmetric _ _ (c.requires.tree.first long)))
+    let R = ring_members g.F.Multiplicative.product g.F.Debug.debug_output g.F.Object.same g.F.Object.NEVER_REFUSES g.F.Additive.zero g.F.Additive.sum g.F.Additive.negative g.F.Ring.one in
+    let p = c.args.points.now in
+    let h = at-level 2 c.args.points.now.lg c.args.points.now.place c.args.cols c.if-lg-eq2.true in
+    let square : R.same (R.product (g.F.FieldNTT.root 2) (g.F.FieldNTT.root 2)) (R.negative R.one) = turn-square F.Object.equality F.Additive.group F.Multiplicative.commutes F.Ring.ring F.Field.field F.FieldNTT.roots (omega (arith, c.if-lg-eq2.true, c.requires.points.domain)) in
+    values-four R F.Object.equality F.Additive.group F.Multiplicative.commutes F.Ring.ring (g.F.FieldNTT.root 2) p.roots.now c.requires.points.tree p.lg p.place c.args.cols c.requires.points.some c.requires.points.within square c.if-lg-eq2.true
+    c.args.cells.now c.turn_rows_at.new.rows (omega (arith, h.rows, c.requires.size)) (omega (arith, h.rows, c.requires.size, c.turn_rows_at.auto.rows)) c.in_ok-turn_rows_at.ensures.turned
 
-pub turn_quarters_at-requires-clause-turn : goal.turn_quarters_at-requires-clause-turn
-turn_quarters_at-requires-clause-turn g t c =
-    let two : 2 ≤ c.args.lg = omega (arith, c.if-lg-eq0.false, c.if-lg-eq1.false) in
-    let q : Quartered c.args.lg c.args.place c.args.cols (length c.args.roots.now) c.size_of.result = quartered c.args.lg c.args.place c.args.cols (length c.args.roots.now) c.size_of.result two c.requires.within c.size_of.ensures in
-    let long : 4 ≤ length c.args.roots.now = omega (arith, q.inside, c.requires.place) in
-    inl (c.requires.tree.first long)
+pub evaluate_sixteen-requires-clause-size : goal.evaluate_sixteen-requires-clause-size
+evaluate_sixteen-requires-clause-size g t c = let h = at-level 4 c.args.points.now.lg c.args.points.now.place c.args.cols c.if-lg-eq4.true in omega (arith, h.rows, c.requires.size)
 
-pub turn_quarters_at-requires-clause-fourth : goal.turn_quarters_at-requires-clause-fourth
-turn_quarters_at-requires-clause-fourth g t c =
-    let two : 2 ≤ c.args.lg = omega (arith, c.if-lg-eq0.false, c.if-lg-eq1.false) in
-    let q : Quartered c.args.lg c.args.place c.args.cols (length c.args.roots.now) c.size_of.result = quartered c.args.lg c.args.place c.args.cols (length c.args.roots.now) c.size_of.result two c.requires.within c.size_of.ensures in
-    let n : ℕ = 2 ^ (c.args.lg - 2) * c.args.cols in
-    let a_count : length c.split_at_mut-a.result.0.now ≡ n = omega (arith, q.part, c.split_at_mut-a.ensures.front_len) in
-    let b_count : length c.split_at_mut-a.result.1.now ≡ n = omega (arith, q.part, c.split_at_mut-a.ensures.back_len, c.split_at_mut-front.ensures.front_len) in
-    let c_count : length c.split_at_mut-c.result.0.now ≡ n = omega (arith, q.part, c.split_at_mut-c.ensures.front_len) in
-    let d_count : length c.split_at_mut-c.result.1.now ≡ n = omega (arith, q.part, c.split_at_mut-c.ensures.back_len, c.split_at_mut-front.ensures.back_len, q.cells, c.requires.size) in
-    omega (arith, a_count, d_count)
+pub evaluate_sixteen-requires-clause-room : goal.evaluate_sixteen-requires-clause-room
+evaluate_sixteen-requires-clause-room g t c = let h = at-level 4 c.args.points.now.lg c.args.points.now.place c.args.cols c.if-lg-eq4.true in omega (arith, h.steps, c.requires.room)
 
-pub turn_quarters_at-requires-clause-some : goal.turn_quarters_at-requires-clause-some
-turn_quarters_at-requires-clause-some g t c =
-    let two : 2 ≤ c.args.lg = omega (arith, c.if-lg-eq0.false, c.if-lg-eq1.false) in
-    let q : Quartered c.args.lg c.args.place c.args.cols (length c.args.roots.now) c.size_of.result = quartered c.args.lg c.args.place c.args.cols (length c.args.roots.now) c.size_of.result two c.requires.within c.size_of.ensures in
-    omega (arith, c.split_at_mut-a.ensures.front_len, q.above (omega (arith, c.if-cols-eq0.false)))
+pub evaluate_sixteen-requires-clause-some : goal.evaluate_sixteen-requires-clause-some
+evaluate_sixteen-requires-clause-some g t c = let h = at-level 4 c.args.points.now.lg c.args.points.now.place c.args.cols c.if-lg-eq4.true in omega (arith, h.rows, c.requires.size, c.if-count-cols.false)
 
-pub turn_quarters_at-requires-clause-inside : goal.turn_quarters_at-requires-clause-inside
-turn_quarters_at-requires-clause-inside g t c =
-    let two : 2 ≤ c.args.lg = omega (arith, c.if-lg-eq0.false, c.if-lg-eq1.false) in
-    let q : Quartered c.args.lg c.args.place c.args.cols (length c.args.roots.now) c.size_of.result = quartered c.args.lg c.args.place c.args.cols (length c.args.roots.now) c.size_of.result two c.requires.within c.size_of.ensures in
-    omega (arith, q.inside)
+pub evaluate_sixteen-requires-clause-inside : goal.evaluate_sixteen-requires-clause-inside
+evaluate_sixteen-requires-clause-inside g t c = let h = at-level 4 c.args.points.now.lg c.args.points.now.place c.args.cols c.if-lg-eq4.true in omega (arith, h.points, c.requires.points.within)
 
-pub turn_quarters_at-requires-clause-room : goal.turn_quarters_at-requires-clause-room
-turn_quarters_at-requires-clause-room g t c =
-    let two : 2 ≤ c.args.lg = omega (arith, c.if-lg-eq0.false, c.if-lg-eq1.false) in
-    let q : Quartered c.args.lg c.args.place c.args.cols (length c.args.roots.now) c.size_of.result = quartered c.args.lg c.args.place c.args.cols (length c.args.roots.now) c.size_of.result two c.requires.within c.size_of.ensures in
-    omega (arith, q.count, c.requires.room, c.split_at_mut-a.ensures.front_len)
+pub returns-in_err-evaluate_sixteen-clause-bounded : goal.returns-in_err-evaluate_sixteen-clause-bounded
+returns-in_err-evaluate_sixteen-clause-bounded g t c = let h = at-level 4 c.args.points.now.lg c.args.points.now.place c.args.cols c.if-lg-eq4.true in adds-part (64 * c.args.cols) _ _ _ (omega (arith, h.steps)) c.in_err-evaluate_sixteen.ensures.bounded
 
-pub overflow_mul-below : goal.overflow_mul-below
-overflow_mul-below g t c =
-    let two : 2 ≤ c.args.lg = omega (arith, c.if-lg-eq0.false, c.if-lg-eq1.false) in
-    let q : Quartered c.args.lg c.args.place c.args.cols (length c.args.roots.now) c.size_of.result = quartered c.args.lg c.args.place c.args.cols (length c.args.roots.now) c.size_of.result two c.requires.within c.size_of.ensures in
-    let there : 2 * c.args.place + 2 ≤ length c.args.roots.now = q.inside in
-    search rules
+pub returns-then-lg-eq4-clause-counted : goal.returns-then-lg-eq4-clause-counted
+returns-then-lg-eq4-clause-counted g t c = let h = at-level 4 c.args.points.now.lg c.args.points.now.place c.args.cols c.if-lg-eq4.true in omega (arith, h.steps, c.in_ok-evaluate_sixteen.ensures.counted)
 
-pub overflow_mul-first : goal.overflow_mul-first
-overflow_mul-first g t c =
-    let two : 2 ≤ c.args.lg = omega (arith, c.if-lg-eq0.false, c.if-lg-eq1.false) in
-    let q : Quartered c.args.lg c.args.place c.args.cols (length c.args.roots.now) c.size_of.result = quartered c.args.lg c.args.place c.args.cols (length c.args.roots.now) c.size_of.result two c.requires.within c.size_of.ensures in
-    let three : 2 < c.args.lg = omega (arith, two, c.if-lg-eq2.false) in
-    let there : 2 * (2 * c.args.place) + 4 ≤ length c.args.roots.now = q.deeper three in
-    search rules
+pub returns-then-lg-eq4-clause-bounded : goal.returns-then-lg-eq4-clause-bounded
+returns-then-lg-eq4-clause-bounded g t c = let h = at-level 4 c.args.points.now.lg c.args.points.now.place c.args.cols c.if-lg-eq4.true in adds-part (64 * c.args.cols) _ _ _ (omega (arith, h.steps)) c.in_ok-evaluate_sixteen.ensures.bounded
 
-pub overflow_add-first : goal.overflow_add-first
-overflow_add-first g t c =
-    let two : 2 ≤ c.args.lg = omega (arith, c.if-lg-eq0.false, c.if-lg-eq1.false) in
-    let q : Quartered c.args.lg c.args.place c.args.cols (length c.args.roots.now) c.size_of.result = quartered c.args.lg c.args.place c.args.cols (length c.args.roots.now) c.size_of.result two c.requires.within c.size_of.ensures in
-    let three : 2 < c.args.lg = omega (arith, two, c.if-lg-eq2.false) in
-    let there : 2 * (2 * c.args.place) + 4 ≤ length c.args.roots.now = q.deeper three in
-    search rules
+pub quarter_cells-part-requires-clause-level : goal.quarter_cells-part-requires-clause-level
+quarter_cells-part-requires-clause-level g t c = omega (arith, some-level c.args.points.now.lg c.args.cols (length c.args.cells.now) c.requires.size c.if-count-cols.false, c.if-lg-eq1.false, c.if-lg-eq2.false)
 
-pub overflow_add-first-2 : goal.overflow_add-first-2
-overflow_add-first-2 g t c =
-    let two : 2 ≤ c.args.lg = omega (arith, c.if-lg-eq0.false, c.if-lg-eq1.false) in
-    let q : Quartered c.args.lg c.args.place c.args.cols (length c.args.roots.now) c.size_of.result = quartered c.args.lg c.args.place c.args.cols (length c.args.roots.now) c.size_of.result two c.requires.within c.size_of.ensures in
-    let three : 2 < c.args.lg = omega (arith, two, c.if-lg-eq2.false) in
-    let there : 2 * (2 * c.args.place) + 4 ≤ length c.args.roots.now = q.deeper three in
-    search rules
-
-pub overflow_add-first-3 : goal.overflow_add-first-3
-overflow_add-first-3 g t c =
-    let two : 2 ≤ c.args.lg = omega (arith, c.if-lg-eq0.false, c.if-lg-eq1.false) in
-    let q : Quartered c.args.lg c.args.place c.args.cols (length c.args.roots.now) c.size_of.result = quartered c.args.lg c.args.place c.args.cols (length c.args.roots.now) c.size_of.result two c.requires.within c.size_of.ensures in
-    let three : 2 < c.args.lg = omega (arith, two, c.if-lg-eq2.false) in
-    let there : 2 * (2 * c.args.place) + 4 ≤ length c.args.roots.now = q.deeper three in
-    search rules
+pub quarter_cells-part-requires-clause-within : goal.quarter_cells-part-requires-clause-within
+quarter_cells-part-requires-clause-within g t c = c.requires.points.within
 
 pub evaluate_below-requires : goal.evaluate_below-requires
 evaluate_below-requires g t c κs within =
-    let F = g.met.F in
-    let R = ring_members g.F.Multiplicative.product g.F.Debug.debug_output g.F.Object.same g.F.Object.NEVER_REFUSES g.F.Additive.zero g.F.Additive.sum g.F.Additive.negative g.F.Ring.one in
-    let two : 2 ≤ c.args.lg = omega (arith, c.if-lg-eq0.false, c.if-lg-eq1.false) in
-    let q : Quartered c.args.lg c.args.place c.args.cols (length c.args.roots.now) c.size_of.result = quartered c.args.lg c.args.place c.args.cols (length c.args.roots.now) c.size_of.result two c.requires.within c.size_of.ensures in
-    let n : ℕ = 2 ^ (c.args.lg - 2) * c.args.cols in
-    let a_count : length c.split_at_mut-a.result.0.now ≡ n = omega (arith, q.part, c.split_at_mut-a.ensures.front_len) in
-    let b_count : length c.split_at_mut-a.result.1.now ≡ n = omega (arith, q.part, c.split_at_mut-a.ensures.back_len, c.split_at_mut-front.ensures.front_len) in
-    let c_count : length c.split_at_mut-c.result.0.now ≡ n = omega (arith, q.part, c.split_at_mut-c.ensures.front_len) in
-    let d_count : length c.split_at_mut-c.result.1.now ≡ n = omega (arith, q.part, c.split_at_mut-c.ensures.back_len, c.split_at_mut-front.ensures.back_len, q.cells, c.requires.size) in
-    let part : ℕ = c.args.cols * 2 ^ (c.args.lg - 2) * (c.args.lg - 2) in
-    let quad : length c.split_at_mut-a.result.0.now ≡ c.size_of.result * c.args.cols = c.split_at_mut-a.ensures.front_len in (
+    let p = c.args.points.now in
+    let two : 2 ≤ p.lg = c.quarter_cells-part.ensures.two in (
       omega (arith, two, c.decreases),
       (
         search rules,
         (
-          omega (arith, c.requires.domain),
-          (omega (arith, c.requires.small), (omega (arith, a_count, c.turn_quarters_at.auto.a), (c.requires.tree, (omega (arith, c.requires.place), (omega (arith, q.children 0 (omega arith)), ((λ s. ones-first R c.args.roots.now (2 * c.args.place) (ones-first R c.args.roots.now c.args.place (c.requires.one s))), omega (arith, quad, q.count, c.requires.room, c.in_ok-turn_quarters_at.ensures.counted))))))),
+          record {
+            domain = omega (arith, c.requires.points.domain);
+            small = omega (arith, c.requires.points.small);
+            tree = c.requires.points.tree;
+            some = omega (arith, c.requires.points.some);
+            within = quarter-within p.lg p.place (length p.roots.now) 0 (4 * p.place) two c.requires.points.within (omega arith) (omega arith);
+          },
+          (omega (arith, c.quarter_cells-part.ensures.rows, c.split_at_mut-a.ensures.front_len), omega (arith, c.quarter_cells-part.ensures.steps, c.requires.room, c.turn_rows_at-2.ensures.counted)),
         ),
       ),
     )
 
 pub evaluate_below-requires-2 : goal.evaluate_below-requires-2
 evaluate_below-requires-2 g t c κs within =
-    let F = g.met.F in
-    let R = ring_members g.F.Multiplicative.product g.F.Debug.debug_output g.F.Object.same g.F.Object.NEVER_REFUSES g.F.Additive.zero g.F.Additive.sum g.F.Additive.negative g.F.Ring.one in
-    let two : 2 ≤ c.args.lg = omega (arith, c.if-lg-eq0.false, c.if-lg-eq1.false) in
-    let q : Quartered c.args.lg c.args.place c.args.cols (length c.args.roots.now) c.size_of.result = quartered c.args.lg c.args.place c.args.cols (length c.args.roots.now) c.size_of.result two c.requires.within c.size_of.ensures in
-    let n : ℕ = 2 ^ (c.args.lg - 2) * c.args.cols in
-    let a_count : length c.split_at_mut-a.result.0.now ≡ n = omega (arith, q.part, c.split_at_mut-a.ensures.front_len) in
-    let b_count : length c.split_at_mut-a.result.1.now ≡ n = omega (arith, q.part, c.split_at_mut-a.ensures.back_len, c.split_at_mut-front.ensures.front_len) in
-    let c_count : length c.split_at_mut-c.result.0.now ≡ n = omega (arith, q.part, c.split_at_mut-c.ensures.front_len) in
-    let d_count : length c.split_at_mut-c.result.1.now ≡ n = omega (arith, q.part, c.split_at_mut-c.ensures.back_len, c.split_at_mut-front.ensures.back_len, q.cells, c.requires.size) in
-    let part : ℕ = c.args.cols * 2 ^ (c.args.lg - 2) * (c.args.lg - 2) in
-    let quad : length c.split_at_mut-a.result.0.now ≡ c.size_of.result * c.args.cols = c.split_at_mut-a.ensures.front_len in (
+    let p = c.args.points.now in
+    let two : 2 ≤ p.lg = c.quarter_cells-part.ensures.two in (
       omega (arith, two, c.decreases),
       (
         search rules,
         (
-          omega (arith, c.requires.domain),
-          (omega (arith, c.requires.small), (omega (arith, b_count, c.turn_quarters_at.auto.b), (c.requires.tree, (omega (arith, c.requires.place), (omega (arith, q.children 1 (omega arith)), (search rules, omega (arith, quad, q.count, c.requires.room, c.in_ok-turn_quarters_at.ensures.counted, c.in_ok-evaluate_below.ensures.counted))))))),
+          record {
+            domain = omega (arith, c.requires.points.domain);
+            small = omega (arith, c.requires.points.small);
+            tree = c.requires.points.tree;
+            some = omega (arith, c.requires.points.some);
+            within = quarter-within p.lg p.place (length p.roots.now) 1 (4 * p.place + 1) two c.requires.points.within (omega arith) (omega arith);
+          },
+          (omega (arith, c.quarter_cells-part.ensures.rows, c.split_at_mut-a.ensures.back_len, c.split_at_mut-front.ensures.front_len), omega (arith, c.quarter_cells-part.ensures.steps, c.requires.room, c.turn_rows_at-2.ensures.counted, c.in_ok-evaluate_below.ensures.counted)),
         ),
       ),
     )
 
 pub evaluate_below-requires-3 : goal.evaluate_below-requires-3
 evaluate_below-requires-3 g t c κs within =
-    let F = g.met.F in
-    let R = ring_members g.F.Multiplicative.product g.F.Debug.debug_output g.F.Object.same g.F.Object.NEVER_REFUSES g.F.Additive.zero g.F.Additive.sum g.F.Additive.negative g.F.Ring.one in
-    let two : 2 ≤ c.args.lg = omega (arith, c.if-lg-eq0.false, c.if-lg-eq1.false) in
-    let q : Quartered c.args.lg c.args.place c.args.cols (length c.args.roots.now) c.size_of.result = quartered c.args.lg c.args.place c.args.cols (length c.args.roots.now) c.size_of.result two c.requires.within c.size_of.ensures in
-    let n : ℕ = 2 ^ (c.args.lg - 2) * c.args.cols in
-    let a_count : length c.split_at_mut-a.result.0.now ≡ n = omega (arith, q.part, c.split_at_mut-a.ensures.front_len) in
-    let b_count : length c.split_at_mut-a.result.1.now ≡ n = omega (arith, q.part, c.split_at_mut-a.ensures.back_len, c.split_at_mut-front.ensures.front_len) in
-    let c_count : length c.split_at_mut-c.result.0.now ≡ n = omega (arith, q.part, c.split_at_mut-c.ensures.front_len) in
-    let d_count : length c.split_at_mut-c.result.1.now ≡ n = omega (arith, q.part, c.split_at_mut-c.ensures.back_len, c.split_at_mut-front.ensures.back_len, q.cells, c.requires.size) in
-    let part : ℕ = c.args.cols * 2 ^ (c.args.lg - 2) * (c.args.lg - 2) in
-    let quad : length c.split_at_mut-a.result.0.now ≡ c.size_of.result * c.args.cols = c.split_at_mut-a.ensures.front_len in (
+    let p = c.args.points.now in
+    let two : 2 ≤ p.lg = c.quarter_cells-part.ensures.two in (
       omega (arith, two, c.decreases),
       (
         search rules,
         (
-          omega (arith, c.requires.domain),
-          (omega (arith, c.requires.small), (omega (arith, c_count, c.turn_quarters_at.auto.c), (c.requires.tree, (omega (arith, c.requires.place), (omega (arith, q.children 2 (omega arith)), (search rules, omega (arith, quad, q.count, c.requires.room, c.in_ok-turn_quarters_at.ensures.counted, c.in_ok-evaluate_below.ensures.counted, c.in_ok-evaluate_below-2.ensures.counted))))))),
+          record {
+            domain = omega (arith, c.requires.points.domain);
+            small = omega (arith, c.requires.points.small);
+            tree = c.requires.points.tree;
+            some = omega (arith, c.requires.points.some);
+            within = quarter-within p.lg p.place (length p.roots.now) 2 (4 * p.place + 2) two c.requires.points.within (omega arith) (omega arith);
+          },
+          (omega (arith, c.quarter_cells-part.ensures.rows, c.split_at_mut-c.ensures.front_len), omega (arith, c.quarter_cells-part.ensures.steps, c.requires.room, c.turn_rows_at-2.ensures.counted, c.in_ok-evaluate_below.ensures.counted, c.in_ok-evaluate_below-2.ensures.counted)),
         ),
       ),
     )
 
 pub evaluate_below-requires-4 : goal.evaluate_below-requires-4
 evaluate_below-requires-4 g t c κs within =
-    let F = g.met.F in
-    let R = ring_members g.F.Multiplicative.product g.F.Debug.debug_output g.F.Object.same g.F.Object.NEVER_REFUSES g.F.Additive.zero g.F.Additive.sum g.F.Additive.negative g.F.Ring.one in
-    let two : 2 ≤ c.args.lg = omega (arith, c.if-lg-eq0.false, c.if-lg-eq1.false) in
-    let q : Quartered c.args.lg c.args.place c.args.cols (length c.args.roots.now) c.size_of.result = quartered c.args.lg c.args.place c.args.cols (length c.args.roots.now) c.size_of.result two c.requires.within c.size_of.ensures in
-    let n : ℕ = 2 ^ (c.args.lg - 2) * c.args.cols in
-    let a_count : length c.split_at_mut-a.result.0.now ≡ n = omega (arith, q.part, c.split_at_mut-a.ensures.front_len) in
-    let b_count : length c.split_at_mut-a.result.1.now ≡ n = omega (arith, q.part, c.split_at_mut-a.ensures.back_len, c.split_at_mut-front.ensures.front_len) in
-    let c_count : length c.split_at_mut-c.result.0.now ≡ n = omega (arith, q.part, c.split_at_mut-c.ensures.front_len) in
-    let d_count : length c.split_at_mut-c.result.1.now ≡ n = omega (arith, q.part, c.split_at_mut-c.ensures.back_len, c.split_at_mut-front.ensures.back_len, q.cells, c.requires.size) in
-    let part : ℕ = c.args.cols * 2 ^ (c.args.lg - 2) * (c.args.lg - 2) in
-    let quad : length c.split_at_mut-a.result.0.now ≡ c.size_of.result * c.args.cols = c.split_at_mut-a.ensures.front_len in (
+    let p = c.args.points.now in
+    let two : 2 ≤ p.lg = c.quarter_cells-part.ensures.two in (
       omega (arith, two, c.decreases),
       (
         search rules,
         (
-          omega (arith, c.requires.domain),
-          (omega (arith, c.requires.small), (omega (arith, d_count, c.turn_quarters_at.auto.d), (c.requires.tree, (omega (arith, c.requires.place), (omega (arith, q.children 3 (omega arith)), (search rules, omega (arith, quad, q.count, c.requires.room, c.in_ok-turn_quarters_at.ensures.counted, c.in_ok-evaluate_below.ensures.counted, c.in_ok-evaluate_below-2.ensures.counted, c.in_ok-evaluate_below-3.ensures.counted))))))),
+          record {
+            domain = omega (arith, c.requires.points.domain);
+            small = omega (arith, c.requires.points.small);
+            tree = c.requires.points.tree;
+            some = omega (arith, c.requires.points.some);
+            within = quarter-within p.lg p.place (length p.roots.now) 3 (4 * p.place + 3) two c.requires.points.within (omega arith) (omega arith);
+          },
+          (omega (arith, c.quarter_cells-part.ensures.rows, c.split_at_mut-c.ensures.back_len, c.split_at_mut-front.ensures.back_len, c.quarter_cells-part.ensures.whole, c.turn_rows_at-2.auto.rows), omega (arith, c.quarter_cells-part.ensures.steps, c.requires.room, c.turn_rows_at-2.ensures.counted, c.in_ok-evaluate_below.ensures.counted, c.in_ok-evaluate_below-2.ensures.counted, c.in_ok-evaluate_below-3.ensures.counted)),
         ),
       ),
     )
 
-pub returns-in_err-turn_quarters_at-clause-bounded : goal.returns-in_err-turn_quarters_at-clause-bounded
-returns-in_err-turn_quarters_at-clause-bounded g t c =
-    let two : 2 ≤ c.args.lg = omega (arith, c.if-lg-eq0.false, c.if-lg-eq1.false) in
-    let q : Quartered c.args.lg c.args.place c.args.cols (length c.args.roots.now) c.size_of.result = quartered c.args.lg c.args.place c.args.cols (length c.args.roots.now) c.size_of.result two c.requires.within c.size_of.ensures in
-    let part : ℕ = c.args.cols * 2 ^ (c.args.lg - 2) * (c.args.lg - 2) in
-    let quad : length c.split_at_mut-a.result.0.now ≡ c.size_of.result * c.args.cols = c.split_at_mut-a.ensures.front_len in
-    adds-part (8 * length c.split_at_mut-a.result.0.now) _ _ _ (omega (arith, quad, q.count)) c.in_err-turn_quarters_at.ensures.bounded
+pub returns-in_err-turn_rows_at-2-clause-bounded : goal.returns-in_err-turn_rows_at-2-clause-bounded
+returns-in_err-turn_rows_at-2-clause-bounded g t c =
+    adds-part _ _ _ _ (omega (arith, c.quarter_cells-part.ensures.steps)) (adds-exactly (4 * c.quarter_cells-part.result) (8 * c.quarter_cells-part.result) _ _ (omega arith) c.turn_rows_at-2.ensures.counted c.turn_rows_at-2.ensures.root_products)
 
 pub returns-in_err-evaluate_below-clause-bounded : goal.returns-in_err-evaluate_below-clause-bounded
 returns-in_err-evaluate_below-clause-bounded g t c =
-    let two : 2 ≤ c.args.lg = omega (arith, c.if-lg-eq0.false, c.if-lg-eq1.false) in
-    let q : Quartered c.args.lg c.args.place c.args.cols (length c.args.roots.now) c.size_of.result = quartered c.args.lg c.args.place c.args.cols (length c.args.roots.now) c.size_of.result two c.requires.within c.size_of.ensures in
-    let part : ℕ = c.args.cols * 2 ^ (c.args.lg - 2) * (c.args.lg - 2) in
-    let quad : length c.split_at_mut-a.result.0.now ≡ c.size_of.result * c.args.cols = c.split_at_mut-a.ensures.front_len in
-    adds-part (8 * length c.split_at_mut-a.result.0.now + part) _ _ _ (omega (arith, quad, q.count))
-    (adds-then _ _ _ _ _ c.in_ok-turn_quarters_at.ensures.bounded c.in_err-evaluate_below.ensures.bounded)
+    adds-part _ _ _ _ (omega (arith, c.quarter_cells-part.ensures.steps)) (adds-then _ _ _ _ _ (adds-exactly (4 * c.quarter_cells-part.result) (8 * c.quarter_cells-part.result) _ _ (omega arith) c.turn_rows_at-2.ensures.counted c.turn_rows_at-2.ensures.root_products) c.in_err-evaluate_below.ensures.bounded)
 
 pub returns-in_err-evaluate_below-2-clause-bounded : goal.returns-in_err-evaluate_below-2-clause-bounded
 returns-in_err-evaluate_below-2-clause-bounded g t c =
-    let two : 2 ≤ c.args.lg = omega (arith, c.if-lg-eq0.false, c.if-lg-eq1.false) in
-    let q : Quartered c.args.lg c.args.place c.args.cols (length c.args.roots.now) c.size_of.result = quartered c.args.lg c.args.place c.args.cols (length c.args.roots.now) c.size_of.result two c.requires.within c.size_of.ensures in
-    let part : ℕ = c.args.cols * 2 ^ (c.args.lg - 2) * (c.args.lg - 2) in
-    let quad : length c.split_at_mut-a.result.0.now ≡ c.size_of.result * c.args.cols = c.split_at_mut-a.ensures.front_len in
-    adds-part (8 * length c.split_at_mut-a.result.0.now + part + part) _ _ _ (omega (arith, quad, q.count))
-    (adds-then _ _ _ _ _ (adds-then _ _ _ _ _ c.in_ok-turn_quarters_at.ensures.bounded c.in_ok-evaluate_below.ensures.bounded) c.in_err-evaluate_below-2.ensures.bounded)
+    adds-part _ _ _ _ (omega (arith, c.quarter_cells-part.ensures.steps)) (adds-then _ _ _ _ _ (adds-then _ _ _ _ _ (adds-exactly (4 * c.quarter_cells-part.result) (8 * c.quarter_cells-part.result) _ _ (omega arith) c.turn_rows_at-2.ensures.counted c.turn_rows_at-2.ensures.root_products) c.in_ok-evaluate_below.ensures.bounded) c.in_err-evaluate_below-2.ensures.bounded)
 
 pub returns-in_err-evaluate_below-3-clause-bounded : goal.returns-in_err-evaluate_below-3-clause-bounded
 returns-in_err-evaluate_below-3-clause-bounded g t c =
-    let two : 2 ≤ c.args.lg = omega (arith, c.if-lg-eq0.false, c.if-lg-eq1.false) in
-    let q : Quartered c.args.lg c.args.place c.args.cols (length c.args.roots.now) c.size_of.result = quartered c.args.lg c.args.place c.args.cols (length c.args.roots.now) c.size_of.result two c.requires.within c.size_of.ensures in
-    let part : ℕ = c.args.cols * 2 ^ (c.args.lg - 2) * (c.args.lg - 2) in
-    let quad : length c.split_at_mut-a.result.0.now ≡ c.size_of.result * c.args.cols = c.split_at_mut-a.ensures.front_len in
-    adds-part (8 * length c.split_at_mut-a.result.0.now + part + part + part) _ _ _ (omega (arith, quad, q.count))
-    (adds-then _ _ _ _ _ (adds-then _ _ _ _ _ (adds-then _ _ _ _ _ c.in_ok-turn_quarters_at.ensures.bounded c.in_ok-evaluate_below.ensures.bounded) c.in_ok-evaluate_below-2.ensures.bounded) c.in_err-evaluate_below-3.ensures.bounded)
+    adds-part _ _ _ _ (omega (arith, c.quarter_cells-part.ensures.steps)) (adds-then _ _ _ _ _ (adds-then _ _ _ _ _ (adds-then _ _ _ _ _ (adds-exactly (4 * c.quarter_cells-part.result) (8 * c.quarter_cells-part.result) _ _ (omega arith) c.turn_rows_at-2.ensures.counted c.turn_rows_at-2.ensures.root_products) c.in_ok-evaluate_below.ensures.bounded) c.in_ok-evaluate_below-2.ensures.bounded) c.in_err-evaluate_below-3.ensures.bounded)
 
 pub returns-in_err-evaluate_below-4-clause-bounded : goal.returns-in_err-evaluate_below-4-clause-bounded
 returns-in_err-evaluate_below-4-clause-bounded g t c =
-    let two : 2 ≤ c.args.lg = omega (arith, c.if-lg-eq0.false, c.if-lg-eq1.false) in
-    let q : Quartered c.args.lg c.args.place c.args.cols (length c.args.roots.now) c.size_of.result = quartered c.args.lg c.args.place c.args.cols (length c.args.roots.now) c.size_of.result two c.requires.within c.size_of.ensures in
-    let part : ℕ = c.args.cols * 2 ^ (c.args.lg - 2) * (c.args.lg - 2) in
-    let quad : length c.split_at_mut-a.result.0.now ≡ c.size_of.result * c.args.cols = c.split_at_mut-a.ensures.front_len in
-    adds-part (8 * length c.split_at_mut-a.result.0.now + part + part + part + part) _ _ _ (omega (arith, quad, q.count))
-    (adds-then _ _ _ _ _ (adds-then _ _ _ _ _ (adds-then _ _ _ _ _ (adds-then _ _ _ _ _ c.in_ok-turn_quarters_at.ensures.bounded c.in_ok-evaluate_below.ensures.bounded) c.in_ok-evaluate_below-2.ensures.bounded) c.in_ok-evaluate_below-3.ensures.bounded) c.in_err-evaluate_below-4.ensures.bounded)
+    adds-part _ _ _ _ (omega (arith, c.quarter_cells-part.ensures.steps)) (adds-then _ _ _ _ _ (adds-then _ _ _ _ _ (adds-then _ _ _ _ _ (adds-then _ _ _ _ _ (adds-exactly (4 * c.quarter_cells-part.result) (8 * c.quarter_cells-part.result) _ _ (omega arith) c.turn_rows_at-2.ensures.counted c.turn_rows_at-2.ensures.root_products) c.in_ok-evaluate_below.ensures.bounded) c.in_ok-evaluate_below-2.ensures.bounded) c.in_ok-evaluate_below-3.ensures.bounded) c.in_err-evaluate_below-4.ensures.bounded)
 
 pub returns-clause-bounded : goal.returns-clause-bounded
 returns-clause-bounded g t c =
-    let two : 2 ≤ c.args.lg = omega (arith, c.if-lg-eq0.false, c.if-lg-eq1.false) in
-    let q : Quartered c.args.lg c.args.place c.args.cols (length c.args.roots.now) c.size_of.result = quartered c.args.lg c.args.place c.args.cols (length c.args.roots.now) c.size_of.result two c.requires.within c.size_of.ensures in
-    let part : ℕ = c.args.cols * 2 ^ (c.args.lg - 2) * (c.args.lg - 2) in
-    let quad : length c.split_at_mut-a.result.0.now ≡ c.size_of.result * c.args.cols = c.split_at_mut-a.ensures.front_len in
-    adds-part (8 * length c.split_at_mut-a.result.0.now + part + part + part + part) _ _ _ (omega (arith, quad, q.count))
-    (adds-then _ _ _ _ _ (adds-then _ _ _ _ _ (adds-then _ _ _ _ _ (adds-then _ _ _ _ _ c.in_ok-turn_quarters_at.ensures.bounded c.in_ok-evaluate_below.ensures.bounded) c.in_ok-evaluate_below-2.ensures.bounded) c.in_ok-evaluate_below-3.ensures.bounded) c.in_ok-evaluate_below-4.ensures.bounded)
-
-pub returns-clause-counted : goal.returns-clause-counted
-returns-clause-counted g t c =
-    let two : 2 ≤ c.args.lg = omega (arith, c.if-lg-eq0.false, c.if-lg-eq1.false) in
-    let q : Quartered c.args.lg c.args.place c.args.cols (length c.args.roots.now) c.size_of.result = quartered c.args.lg c.args.place c.args.cols (length c.args.roots.now) c.size_of.result two c.requires.within c.size_of.ensures in
-    let part : ℕ = c.args.cols * 2 ^ (c.args.lg - 2) * (c.args.lg - 2) in
-    let quad : length c.split_at_mut-a.result.0.now ≡ c.size_of.result * c.args.cols = c.split_at_mut-a.ensures.front_len in
-    omega (arith, quad, q.count, c.in_ok-turn_quarters_at.ensures.counted, c.in_ok-evaluate_below.ensures.counted, c.in_ok-evaluate_below-2.ensures.counted, c.in_ok-evaluate_below-3.ensures.counted, c.in_ok-evaluate_below-4.ensures.counted)
+    adds-part _ _ _ _ (omega (arith, c.quarter_cells-part.ensures.steps)) (adds-then _ _ _ _ _ (adds-then _ _ _ _ _ (adds-then _ _ _ _ _ (adds-then _ _ _ _ _ (adds-exactly (4 * c.quarter_cells-part.result) (8 * c.quarter_cells-part.result) _ _ (omega arith) c.turn_rows_at-2.ensures.counted c.turn_rows_at-2.ensures.root_products) c.in_ok-evaluate_below.ensures.bounded) c.in_ok-evaluate_below-2.ensures.bounded) c.in_ok-evaluate_below-3.ensures.bounded) c.in_ok-evaluate_below-4.ensures.bounded)
 
 pub returns-clause-values : goal.returns-clause-values
 returns-clause-values g t c =
     let F = g.met.F in
     let R = ring_members g.F.Multiplicative.product g.F.Debug.debug_output g.F.Object.same g.F.Object.NEVER_REFUSES g.F.Additive.zero g.F.Additive.sum g.F.Additive.negative g.F.Ring.one in
-    let two : 2 ≤ c.args.lg = omega (arith, c.if-lg-eq0.false, c.if-lg-eq1.false) in
-    let q : Quartered c.args.lg c.args.place c.args.cols (length c.args.roots.now) c.size_of.result = quartered c.args.lg c.args.place c.args.cols (length c.args.roots.now) c.size_of.result two c.requires.within c.size_of.ensures in
-    let n : ℕ = 2 ^ (c.args.lg - 2) * c.args.cols in
-    let a_count : length c.split_at_mut-a.result.0.now ≡ n = omega (arith, q.part, c.split_at_mut-a.ensures.front_len) in
-    let b_count : length c.split_at_mut-a.result.1.now ≡ n = omega (arith, q.part, c.split_at_mut-a.ensures.back_len, c.split_at_mut-front.ensures.front_len) in
-    let c_count : length c.split_at_mut-c.result.0.now ≡ n = omega (arith, q.part, c.split_at_mut-c.ensures.front_len) in
-    let d_count : length c.split_at_mut-c.result.1.now ≡ n = omega (arith, q.part, c.split_at_mut-c.ensures.back_len, c.split_at_mut-front.ensures.back_len, q.cells, c.requires.size) in
-    let whole : c.args.cells.now ≡ (c.split_at_mut-a.result.0.now ++ c.split_at_mut-a.result.1.now) ++ (c.split_at_mut-c.result.0.now ++ c.split_at_mut-c.result.1.now) =
-    c.split_at_mut-front.ensures.value ∙ ap₂ (λ x y. x ++ y) c.split_at_mut-a.ensures.value c.split_at_mut-c.ensures.value in
-    let square : R.same (R.product (g.F.FieldNTT.root 2) (g.F.FieldNTT.root 2)) (R.negative R.one) = turn-square F.Object.equality F.Additive.group F.Multiplicative.commutes F.Ring.ring F.Field.field F.FieldNTT.roots (omega (arith, two, c.requires.domain)) in
-    subst (λ cells. AreValuesBelow R c.args.roots.now c.args.lg c.args.place c.args.cols cells ((c.evaluate_below.new.cells ++ c.evaluate_below-2.new.cells) ++ (c.evaluate_below-3.new.cells ++ c.evaluate_below-4.new.cells))) (sym whole)
-    (values-quarters-same R F.Object.equality F.Additive.group F.Multiplicative.commutes F.Ring.ring (g.F.FieldNTT.root 2) c.args.roots.now c.requires.tree c.args.lg c.args.place c.args.cols (λ _. square) c.requires.place c.requires.within two _ _ _ refl refl refl
-    c.split_at_mut-a.result.0.now c.split_at_mut-a.result.1.now c.split_at_mut-c.result.0.now c.split_at_mut-c.result.1.now a_count b_count c_count d_count
-    c.turn_quarters_at.new.a c.turn_quarters_at.new.b c.turn_quarters_at.new.c c.turn_quarters_at.new.d c.evaluate_below.new.cells c.evaluate_below-2.new.cells c.evaluate_below-3.new.cells c.evaluate_below-4.new.cells
-    (omega (arith, a_count, c.turn_quarters_at.auto.a, c.in_ok-evaluate_below.ensures.size)) (omega (arith, b_count, c.turn_quarters_at.auto.b, c.in_ok-evaluate_below-2.ensures.size)) (omega (arith, c_count, c.turn_quarters_at.auto.c, c.in_ok-evaluate_below-3.ensures.size))
-    c.in_ok-turn_quarters_at.ensures.turned
-    c.in_ok-evaluate_below.ensures.values c.in_ok-evaluate_below-2.ensures.values c.in_ok-evaluate_below-3.ensures.values c.in_ok-evaluate_below-4.ensures.values)
-
-pub evaluate_four-requires-clause-size : goal.evaluate_four-requires-clause-size
-evaluate_four-requires-clause-size g t c =
-    let rows : 2 ^ c.args.lg * c.args.cols ≡ 4 * c.args.cols = ap (λ i. 2 ^ i * c.args.cols) c.if-lg-eq2.true ∙ omega arith in
-    omega (arith, rows, c.requires.size)
-
-pub evaluate_four-requires-clause-inside : goal.evaluate_four-requires-clause-inside
-evaluate_four-requires-clause-inside g t c =
-    let points : 2 ^ c.args.lg * (c.args.place + 1) ≡ 4 * (c.args.place + 1) = ap (λ i. 2 ^ i * (c.args.place + 1)) c.if-lg-eq2.true in
-    omega (arith, points, c.requires.within)
-
-pub evaluate_four-requires-clause-room : goal.evaluate_four-requires-clause-room
-evaluate_four-requires-clause-room g t c =
-    let count : c.args.cols * 2 ^ c.args.lg * c.args.lg ≡ 8 * c.args.cols = ap (λ i. c.args.cols * 2 ^ i * i) c.if-lg-eq2.true ∙ omega arith in
-    omega (arith, count, c.requires.room)
-
-pub returns-in_err-evaluate_four-clause-bounded : goal.returns-in_err-evaluate_four-clause-bounded
-returns-in_err-evaluate_four-clause-bounded g t c =
-    let count : c.args.cols * 2 ^ c.args.lg * c.args.lg ≡ 8 * c.args.cols = ap (λ i. c.args.cols * 2 ^ i * i) c.if-lg-eq2.true ∙ omega arith in
-    adds-part (8 * c.args.cols) _ _ _ (omega (arith, count)) c.in_err-evaluate_four.ensures.bounded
-
-pub returns-then-lg-eq2-clause-values : goal.returns-then-lg-eq2-clause-values
-returns-then-lg-eq2-clause-values g t c =
-    let R = ring_members g.F.Multiplicative.product g.F.Debug.debug_output g.F.Object.same g.F.Object.NEVER_REFUSES g.F.Additive.zero g.F.Additive.sum g.F.Additive.negative g.F.Ring.one in
-    subst (λ i. AreValuesBelow R c.args.roots.now i c.args.place c.args.cols c.args.cells.now c.evaluate_four.new.cells) (sym c.if-lg-eq2.true) c.in_ok-evaluate_four.ensures.values
-
-pub returns-then-lg-eq2-clause-counted : goal.returns-then-lg-eq2-clause-counted
-returns-then-lg-eq2-clause-counted g t c =
-    let count : c.args.cols * 2 ^ c.args.lg * c.args.lg ≡ 8 * c.args.cols = ap (λ i. c.args.cols * 2 ^ i * i) c.if-lg-eq2.true ∙ omega arith in
-    omega (arith, count, c.in_ok-evaluate_four.ensures.counted)
-
-pub returns-then-lg-eq2-clause-bounded : goal.returns-then-lg-eq2-clause-bounded
-returns-then-lg-eq2-clause-bounded g t c =
-    let count : c.args.cols * 2 ^ c.args.lg * c.args.lg ≡ 8 * c.args.cols = ap (λ i. c.args.cols * 2 ^ i * i) c.if-lg-eq2.true ∙ omega arith in
-    adds-part (8 * c.args.cols) _ _ _ (omega (arith, count)) c.in_ok-evaluate_four.ensures.bounded
-
-pub evaluate_sixteen-requires-clause-size : goal.evaluate_sixteen-requires-clause-size
-evaluate_sixteen-requires-clause-size g t c =
-    let rows : 2 ^ c.args.lg * c.args.cols ≡ 16 * c.args.cols = ap (λ i. 2 ^ i * c.args.cols) c.if-lg-eq4.true ∙ omega arith in
-    omega (arith, rows, c.requires.size)
-
-pub evaluate_sixteen-requires-clause-inside : goal.evaluate_sixteen-requires-clause-inside
-evaluate_sixteen-requires-clause-inside g t c =
-    let points : 2 ^ c.args.lg * (c.args.place + 1) ≡ 16 * (c.args.place + 1) = ap (λ i. 2 ^ i * (c.args.place + 1)) c.if-lg-eq4.true in
-    omega (arith, points, c.requires.within)
-
-pub evaluate_sixteen-requires-clause-room : goal.evaluate_sixteen-requires-clause-room
-evaluate_sixteen-requires-clause-room g t c =
-    let count : c.args.cols * 2 ^ c.args.lg * c.args.lg ≡ 64 * c.args.cols = ap (λ i. c.args.cols * 2 ^ i * i) c.if-lg-eq4.true ∙ omega arith in
-    omega (arith, count, c.requires.room)
-
-pub returns-in_err-evaluate_sixteen-clause-bounded : goal.returns-in_err-evaluate_sixteen-clause-bounded
-returns-in_err-evaluate_sixteen-clause-bounded g t c =
-    let count : c.args.cols * 2 ^ c.args.lg * c.args.lg ≡ 64 * c.args.cols = ap (λ i. c.args.cols * 2 ^ i * i) c.if-lg-eq4.true ∙ omega arith in
-    adds-part (64 * c.args.cols) _ _ _ (omega (arith, count)) c.in_err-evaluate_sixteen.ensures.bounded
-
-pub returns-then-lg-eq4-clause-values : goal.returns-then-lg-eq4-clause-values
-returns-then-lg-eq4-clause-values g t c =
-    let R = ring_members g.F.Multiplicative.product g.F.Debug.debug_output g.F.Object.same g.F.Object.NEVER_REFUSES g.F.Additive.zero g.F.Additive.sum g.F.Additive.negative g.F.Ring.one in
-    subst (λ i. AreValuesBelow R c.args.roots.now i c.args.place c.args.cols c.args.cells.now c.evaluate_sixteen.new.cells) (sym c.if-lg-eq4.true) c.in_ok-evaluate_sixteen.ensures.values
-
-pub returns-then-lg-eq4-clause-counted : goal.returns-then-lg-eq4-clause-counted
-returns-then-lg-eq4-clause-counted g t c =
-    let count : c.args.cols * 2 ^ c.args.lg * c.args.lg ≡ 64 * c.args.cols = ap (λ i. c.args.cols * 2 ^ i * i) c.if-lg-eq4.true ∙ omega arith in
-    omega (arith, count, c.in_ok-evaluate_sixteen.ensures.counted)
-
-pub returns-then-lg-eq4-clause-bounded : goal.returns-then-lg-eq4-clause-bounded
-returns-then-lg-eq4-clause-bounded g t c =
-    let count : c.args.cols * 2 ^ c.args.lg * c.args.lg ≡ 64 * c.args.cols = ap (λ i. c.args.cols * 2 ^ i * i) c.if-lg-eq4.true ∙ omega arith in
-    adds-part (64 * c.args.cols) _ _ _ (omega (arith, count)) c.in_ok-evaluate_sixteen.ensures.bounded
+    let p = c.args.points.now in
+    let s = c.quarter_cells-part.result in
+    let two : 2 ≤ p.lg = c.quarter_cells-part.ensures.two in
+    let square : R.same (R.product (g.F.FieldNTT.root 2) (g.F.FieldNTT.root 2)) (R.negative R.one) = turn-square F.Object.equality F.Additive.group F.Multiplicative.commutes F.Ring.ring F.Field.field F.FieldNTT.roots (omega (arith, two, c.requires.points.domain)) in
+    let parts : AreQuarters s c.turn_rows_at-2.new.rows c.split_at_mut-a.result.0.now c.split_at_mut-a.result.1.now c.split_at_mut-c.result.0.now c.split_at_mut-c.result.1.now = record {
+      whole = c.split_at_mut-front.ensures.value ∙ ap₂ (λ x y. x ++ y) c.split_at_mut-a.ensures.value c.split_at_mut-c.ensures.value;
+      first = omega (arith, c.split_at_mut-a.ensures.front_len);
+      second = omega (arith, c.split_at_mut-a.ensures.back_len, c.split_at_mut-front.ensures.front_len);
+      third = omega (arith, c.split_at_mut-c.ensures.front_len);
+      fourth = omega (arith, c.split_at_mut-c.ensures.back_len, c.split_at_mut-front.ensures.back_len, c.quarter_cells-part.ensures.whole, c.turn_rows_at-2.auto.rows);
+    } in
+    values-turned R F.Object.equality F.Additive.group F.Multiplicative.commutes F.Ring.ring (g.F.FieldNTT.root 2) p.roots.now c.requires.points.tree p.lg p.place c.args.cols c.requires.points.some c.requires.points.within square two s c.quarter_cells-part.ensures.rows
+    c.args.cells.now c.turn_rows_at-2.new.rows c.split_at_mut-a.result.0.now c.split_at_mut-a.result.1.now c.split_at_mut-c.result.0.now c.split_at_mut-c.result.1.now c.evaluate_below.new.cells c.evaluate_below-2.new.cells c.evaluate_below-3.new.cells c.evaluate_below-4.new.cells c.quarter_cells-part.ensures.whole parts
+    (omega (arith, parts.first, c.in_ok-evaluate_below.ensures.size)) (omega (arith, parts.second, c.in_ok-evaluate_below-2.ensures.size)) (omega (arith, parts.third, c.in_ok-evaluate_below-3.ensures.size))
+    c.in_ok-turn_rows_at-2.ensures.turned
+    c.in_ok-evaluate_below.ensures.values
+    c.in_ok-evaluate_below-2.ensures.values
+    c.in_ok-evaluate_below-3.ensures.values
+    c.in_ok-evaluate_below-4.ensures.values

@@ -1,75 +1,96 @@
-use Rattle.std.proofs.Common.{inl, ◌≡◌, ◌∙◌, ℕ, ◌+◌, ◌-◌, ◌*◌, ◌≤◌, ◌^◌, ◌++◌, length, ap₂, refl, subst, sym, arith}
-use Rattle.math_transforms.specs.RootTrees.{AreValuesBelow}
-use Rattle.math_transforms.proofs.BelowClasses.{values-quarters-same}
-use Rattle.math_transforms.proofs.BelowSteps.{turn-square, ones-first}
-use Rattle.math_transforms.proofs.Levels.{adds-part, adds-then}
+use Rattle.std.proofs.Common.{◌≡◌, ◌∙◌, ◌+◌, ◌-◌, ◌*◌, ◌<◌, ◌≤◌, ◌^◌, ◌++◌, length, ap, ap₂, refl, rules, arith}
 use Rattle.math_base.proofs.Members.{ring_members}
+use Rattle.math_transforms.proofs.BelowSteps.{turn-square, quarter-within}
+use Rattle.math_transforms.proofs.Levels.{adds-exactly}
+use Rattle.math_transforms.proofs.RowsBelow.{AreQuarters, values-sixteen}
 use Rattle.math_transforms.proofs.below.evaluate_sixteen.Goals as goal
 
-pub turn_quarters_at-requires-clause-odd : goal.turn_quarters_at-requires-clause-odd
-turn_quarters_at-requires-clause-odd g c =
-    let F = g.met.F in
-    let E = F.Object.equality in
-    let long : 4 ≤ length c.args.roots.now = omega (arith, c.requires.inside, c.requires.place) in
-    E.transitive _ _ _ (c.requires.tree.odd c.args.place c.requires.place (omega (arith, c.requires.inside)))
-    (F.Multiplicative.commutes.respects _ _ _ _ (E.reflexive _) (E.symmetric _ _ (c.requires.tree.first long)))
+pub turn_rows_at-requires-2-clause-points : goal.turn_rows_at-requires-2-clause-points
+turn_rows_at-requires-2-clause-points g c =
+    let p = c.args.points.now in
+    record {
+      domain = omega (arith, c.requires.points.domain);
+      small = omega (arith, c.requires.points.small);
+      tree = c.requires.points.tree;
+      some = omega (arith, c.requires.points.some);
+      within = quarter-within p.lg p.place (length p.roots.now) 0 (4 * p.place) (omega (arith, c.requires.level)) c.requires.points.within (omega arith) (omega arith);
+    }
 
-pub turn_quarters_at-requires-clause-turn : goal.turn_quarters_at-requires-clause-turn
-turn_quarters_at-requires-clause-turn g c =
-    let long : 4 ≤ length c.args.roots.now = omega (arith, c.requires.inside, c.requires.place) in
-    inl (c.requires.tree.first long)
+pub turn_rows_at-requires-3-clause-points : goal.turn_rows_at-requires-3-clause-points
+turn_rows_at-requires-3-clause-points g c =
+    let p = c.args.points.now in
+    record {
+      domain = omega (arith, c.requires.points.domain);
+      small = omega (arith, c.requires.points.small);
+      tree = c.requires.points.tree;
+      some = omega (arith, c.requires.points.some);
+      within = quarter-within p.lg p.place (length p.roots.now) 1 (4 * p.place + 1) (omega (arith, c.requires.level)) c.requires.points.within (omega arith) (omega arith);
+    }
 
-pub evaluate_four-requires-clause-one : goal.evaluate_four-requires-clause-one
-evaluate_four-requires-clause-one g c =
-    let R = ring_members g.F.Multiplicative.product g.F.Debug.debug_output g.F.Object.same g.F.Object.NEVER_REFUSES g.F.Additive.zero g.F.Additive.sum g.F.Additive.negative g.F.Ring.one in
-    λ s. ones-first R c.args.roots.now (2 * c.args.place) (ones-first R c.args.roots.now c.args.place (c.requires.one s))
+pub turn_rows_at-requires-4-clause-points : goal.turn_rows_at-requires-4-clause-points
+turn_rows_at-requires-4-clause-points g c =
+    let p = c.args.points.now in
+    record {
+      domain = omega (arith, c.requires.points.domain);
+      small = omega (arith, c.requires.points.small);
+      tree = c.requires.points.tree;
+      some = omega (arith, c.requires.points.some);
+      within = quarter-within p.lg p.place (length p.roots.now) 2 (4 * p.place + 2) (omega (arith, c.requires.level)) c.requires.points.within (omega arith) (omega arith);
+    }
 
-pub returns-in_err-turn_quarters_at-clause-bounded : goal.returns-in_err-turn_quarters_at-clause-bounded
-returns-in_err-turn_quarters_at-clause-bounded g c =
-    let quad : length c.split_at_mut-a.result.0.now ≡ 4 * c.args.cols = c.split_at_mut-a.ensures.front_len in
-    adds-part (8 * length c.split_at_mut-a.result.0.now) _ _ _ (omega (arith, quad)) c.in_err-turn_quarters_at.ensures.bounded
+pub turn_rows_at-requires-5-clause-points : goal.turn_rows_at-requires-5-clause-points
+turn_rows_at-requires-5-clause-points g c =
+    let p = c.args.points.now in
+    record {
+      domain = omega (arith, c.requires.points.domain);
+      small = omega (arith, c.requires.points.small);
+      tree = c.requires.points.tree;
+      some = omega (arith, c.requires.points.some);
+      within = quarter-within p.lg p.place (length p.roots.now) 3 (4 * p.place + 3) (omega (arith, c.requires.level)) c.requires.points.within (omega arith) (omega arith);
+    }
 
-pub returns-in_err-evaluate_four-clause-bounded : goal.returns-in_err-evaluate_four-clause-bounded
-returns-in_err-evaluate_four-clause-bounded g c =
-    let quad : length c.split_at_mut-a.result.0.now ≡ 4 * c.args.cols = c.split_at_mut-a.ensures.front_len in
-    adds-part (8 * length c.split_at_mut-a.result.0.now + 8 * c.args.cols) _ _ _ (omega (arith, quad)) (adds-then _ _ _ _ _ c.in_ok-turn_quarters_at.ensures.bounded c.in_err-evaluate_four.ensures.bounded)
+pub returns-in_err-turn_rows_at-clause-bounded : goal.returns-in_err-turn_rows_at-clause-bounded
+returns-in_err-turn_rows_at-clause-bounded g c = adds-exactly (16 * c.args.cols) _ _ _ (omega arith) (omega (arith, c.turn_rows_at.ensures.counted)) (c.turn_rows_at.ensures.root_products)
 
-pub returns-in_err-evaluate_four-2-clause-bounded : goal.returns-in_err-evaluate_four-2-clause-bounded
-returns-in_err-evaluate_four-2-clause-bounded g c =
-    let quad : length c.split_at_mut-a.result.0.now ≡ 4 * c.args.cols = c.split_at_mut-a.ensures.front_len in
-    adds-part (8 * length c.split_at_mut-a.result.0.now + 8 * c.args.cols + 8 * c.args.cols) _ _ _ (omega (arith, quad)) (adds-then _ _ _ _ _ (adds-then _ _ _ _ _ c.in_ok-turn_quarters_at.ensures.bounded c.in_ok-evaluate_four.ensures.bounded) c.in_err-evaluate_four-2.ensures.bounded)
+pub returns-in_err-turn_rows_at-2-clause-bounded : goal.returns-in_err-turn_rows_at-2-clause-bounded
+returns-in_err-turn_rows_at-2-clause-bounded g c = adds-exactly (20 * c.args.cols) _ _ _ (omega arith) (omega (arith, c.turn_rows_at.ensures.counted, c.turn_rows_at-2.ensures.counted)) (c.turn_rows_at-2.ensures.root_products ∙ c.turn_rows_at.ensures.root_products)
 
-pub returns-in_err-evaluate_four-3-clause-bounded : goal.returns-in_err-evaluate_four-3-clause-bounded
-returns-in_err-evaluate_four-3-clause-bounded g c =
-    let quad : length c.split_at_mut-a.result.0.now ≡ 4 * c.args.cols = c.split_at_mut-a.ensures.front_len in
-    adds-part (8 * length c.split_at_mut-a.result.0.now + 8 * c.args.cols + 8 * c.args.cols + 8 * c.args.cols) _ _ _ (omega (arith, quad)) (adds-then _ _ _ _ _ (adds-then _ _ _ _ _ (adds-then _ _ _ _ _ c.in_ok-turn_quarters_at.ensures.bounded c.in_ok-evaluate_four.ensures.bounded) c.in_ok-evaluate_four-2.ensures.bounded) c.in_err-evaluate_four-3.ensures.bounded)
+pub returns-in_err-turn_rows_at-3-clause-bounded : goal.returns-in_err-turn_rows_at-3-clause-bounded
+returns-in_err-turn_rows_at-3-clause-bounded g c = adds-exactly (24 * c.args.cols) _ _ _ (omega arith) (omega (arith, c.turn_rows_at.ensures.counted, c.turn_rows_at-2.ensures.counted, c.turn_rows_at-3.ensures.counted)) (c.turn_rows_at-3.ensures.root_products ∙ c.turn_rows_at-2.ensures.root_products ∙ c.turn_rows_at.ensures.root_products)
 
-pub returns-in_err-evaluate_four-4-clause-bounded : goal.returns-in_err-evaluate_four-4-clause-bounded
-returns-in_err-evaluate_four-4-clause-bounded g c =
-    let quad : length c.split_at_mut-a.result.0.now ≡ 4 * c.args.cols = c.split_at_mut-a.ensures.front_len in
-    adds-part (8 * length c.split_at_mut-a.result.0.now + 8 * c.args.cols + 8 * c.args.cols + 8 * c.args.cols + 8 * c.args.cols) _ _ _ (omega (arith, quad)) (adds-then _ _ _ _ _ (adds-then _ _ _ _ _ (adds-then _ _ _ _ _ (adds-then _ _ _ _ _ c.in_ok-turn_quarters_at.ensures.bounded c.in_ok-evaluate_four.ensures.bounded) c.in_ok-evaluate_four-2.ensures.bounded) c.in_ok-evaluate_four-3.ensures.bounded) c.in_err-evaluate_four-4.ensures.bounded)
+pub returns-in_err-turn_rows_at-4-clause-bounded : goal.returns-in_err-turn_rows_at-4-clause-bounded
+returns-in_err-turn_rows_at-4-clause-bounded g c = adds-exactly (28 * c.args.cols) _ _ _ (omega arith) (omega (arith, c.turn_rows_at.ensures.counted, c.turn_rows_at-2.ensures.counted, c.turn_rows_at-3.ensures.counted, c.turn_rows_at-4.ensures.counted)) (c.turn_rows_at-4.ensures.root_products ∙ c.turn_rows_at-3.ensures.root_products ∙ c.turn_rows_at-2.ensures.root_products ∙ c.turn_rows_at.ensures.root_products)
+
+pub returns-in_err-turn_rows_at-5-clause-bounded : goal.returns-in_err-turn_rows_at-5-clause-bounded
+returns-in_err-turn_rows_at-5-clause-bounded g c = adds-exactly (32 * c.args.cols) _ _ _ (omega arith) (omega (arith, c.turn_rows_at.ensures.counted, c.turn_rows_at-2.ensures.counted, c.turn_rows_at-3.ensures.counted, c.turn_rows_at-4.ensures.counted, c.turn_rows_at-5.ensures.counted)) (c.turn_rows_at-5.ensures.root_products ∙ c.turn_rows_at-4.ensures.root_products ∙ c.turn_rows_at-3.ensures.root_products ∙ c.turn_rows_at-2.ensures.root_products ∙ c.turn_rows_at.ensures.root_products)
 
 pub returns-clause-bounded : goal.returns-clause-bounded
-returns-clause-bounded g c =
-    let quad : length c.split_at_mut-a.result.0.now ≡ 4 * c.args.cols = c.split_at_mut-a.ensures.front_len in
-    adds-part (8 * length c.split_at_mut-a.result.0.now + 8 * c.args.cols + 8 * c.args.cols + 8 * c.args.cols + 8 * c.args.cols) _ _ _ (omega (arith, quad)) (adds-then _ _ _ _ _ (adds-then _ _ _ _ _ (adds-then _ _ _ _ _ (adds-then _ _ _ _ _ c.in_ok-turn_quarters_at.ensures.bounded c.in_ok-evaluate_four.ensures.bounded) c.in_ok-evaluate_four-2.ensures.bounded) c.in_ok-evaluate_four-3.ensures.bounded) c.in_ok-evaluate_four-4.ensures.bounded)
+returns-clause-bounded g c = adds-exactly (32 * c.args.cols) _ _ _ (omega arith) (omega (arith, c.turn_rows_at.ensures.counted, c.turn_rows_at-2.ensures.counted, c.turn_rows_at-3.ensures.counted, c.turn_rows_at-4.ensures.counted, c.turn_rows_at-5.ensures.counted)) (c.turn_rows_at-5.ensures.root_products ∙ c.turn_rows_at-4.ensures.root_products ∙ c.turn_rows_at-3.ensures.root_products ∙ c.turn_rows_at-2.ensures.root_products ∙ c.turn_rows_at.ensures.root_products)
 
 pub returns-clause-values : goal.returns-clause-values
 returns-clause-values g c =
     let F = g.met.F in
     let R = ring_members g.F.Multiplicative.product g.F.Debug.debug_output g.F.Object.same g.F.Object.NEVER_REFUSES g.F.Additive.zero g.F.Additive.sum g.F.Additive.negative g.F.Ring.one in
-    let n : ℕ = 2 ^ (4 - 2) * c.args.cols in
-    let a_count : length c.split_at_mut-a.result.0.now ≡ n = omega (arith, c.split_at_mut-a.ensures.front_len) in
-    let b_count : length c.split_at_mut-a.result.1.now ≡ n = omega (arith, c.split_at_mut-a.ensures.back_len, c.split_at_mut-front.ensures.front_len) in
-    let c_count : length c.split_at_mut-c.result.0.now ≡ n = omega (arith, c.split_at_mut-c.ensures.front_len) in
-    let d_count : length c.split_at_mut-c.result.1.now ≡ n = omega (arith, c.split_at_mut-c.ensures.back_len, c.split_at_mut-front.ensures.back_len, c.requires.size) in
-    let whole : c.args.cells.now ≡ (c.split_at_mut-a.result.0.now ++ c.split_at_mut-a.result.1.now) ++ (c.split_at_mut-c.result.0.now ++ c.split_at_mut-c.result.1.now) =
-    c.split_at_mut-front.ensures.value ∙ ap₂ (λ x y. x ++ y) c.split_at_mut-a.ensures.value c.split_at_mut-c.ensures.value in
-    let square : R.same (R.product (g.F.FieldNTT.root 2) (g.F.FieldNTT.root 2)) (R.negative R.one) = turn-square F.Object.equality F.Additive.group F.Multiplicative.commutes F.Ring.ring F.Field.field F.FieldNTT.roots (omega (arith, c.requires.domain)) in
-    subst (λ cells. AreValuesBelow R c.args.roots.now 4 c.args.place c.args.cols cells ((c.evaluate_four.new.cells ++ c.evaluate_four-2.new.cells) ++ (c.evaluate_four-3.new.cells ++ c.evaluate_four-4.new.cells))) (sym whole)
-    (values-quarters-same R F.Object.equality F.Additive.group F.Multiplicative.commutes F.Ring.ring (g.F.FieldNTT.root 2) c.args.roots.now c.requires.tree 4 c.args.place c.args.cols (λ _. square) c.requires.place (omega (arith, c.requires.inside)) (omega arith) _ _ _ refl refl refl
-    c.split_at_mut-a.result.0.now c.split_at_mut-a.result.1.now c.split_at_mut-c.result.0.now c.split_at_mut-c.result.1.now a_count b_count c_count d_count
-    c.turn_quarters_at.new.a c.turn_quarters_at.new.b c.turn_quarters_at.new.c c.turn_quarters_at.new.d c.evaluate_four.new.cells c.evaluate_four-2.new.cells c.evaluate_four-3.new.cells c.evaluate_four-4.new.cells
-    (omega (arith, a_count, c.turn_quarters_at.auto.a, c.in_ok-evaluate_four.ensures.size)) (omega (arith, b_count, c.turn_quarters_at.auto.b, c.in_ok-evaluate_four-2.ensures.size)) (omega (arith, c_count, c.turn_quarters_at.auto.c, c.in_ok-evaluate_four-3.ensures.size))
-    c.in_ok-turn_quarters_at.ensures.turned
-    c.in_ok-evaluate_four.ensures.values c.in_ok-evaluate_four-2.ensures.values c.in_ok-evaluate_four-3.ensures.values c.in_ok-evaluate_four-4.ensures.values)
+    let p = c.args.points.now in
+    let s = 4 * c.args.cols in
+    let square : R.same (R.product (g.F.FieldNTT.root 2) (g.F.FieldNTT.root 2)) (R.negative R.one) = turn-square F.Object.equality F.Additive.group F.Multiplicative.commutes F.Ring.ring F.Field.field F.FieldNTT.roots (omega (arith, c.requires.level, c.requires.points.domain)) in
+    let parts : AreQuarters s c.turn_rows_at.new.rows c.split_at_mut-a.result.0.now c.split_at_mut-a.result.1.now c.split_at_mut-c.result.0.now c.split_at_mut-c.result.1.now = record {
+      whole = c.split_at_mut-front.ensures.value ∙ ap₂ (λ x y. x ++ y) c.split_at_mut-a.ensures.value c.split_at_mut-c.ensures.value;
+      first = omega (arith, c.split_at_mut-a.ensures.front_len);
+      second = omega (arith, c.split_at_mut-a.ensures.back_len, c.split_at_mut-front.ensures.front_len);
+      third = omega (arith, c.split_at_mut-c.ensures.front_len);
+      fourth = omega (arith, c.split_at_mut-c.ensures.back_len, c.split_at_mut-front.ensures.back_len, c.turn_rows_at.auto.rows, c.requires.size);
+    } in
+    let turned : AreQuarters s ((c.turn_rows_at-2.new.rows ++ c.turn_rows_at-3.new.rows) ++ (c.turn_rows_at-4.new.rows ++ c.turn_rows_at-5.new.rows)) c.turn_rows_at-2.new.rows c.turn_rows_at-3.new.rows c.turn_rows_at-4.new.rows c.turn_rows_at-5.new.rows = record {
+      whole = refl;
+      first = omega (arith, parts.first, c.turn_rows_at-2.auto.rows);
+      second = omega (arith, parts.second, c.turn_rows_at-3.auto.rows);
+      third = omega (arith, parts.third, c.turn_rows_at-4.auto.rows);
+      fourth = omega (arith, parts.fourth, c.turn_rows_at-5.auto.rows);
+    } in
+    values-sixteen R F.Object.equality F.Additive.group F.Multiplicative.commutes F.Ring.ring (g.F.FieldNTT.root 2) p.roots.now c.requires.points.tree p.lg p.place c.args.cols c.requires.points.some c.requires.points.within square c.requires.level
+    c.args.cells.now c.turn_rows_at.new.rows c.split_at_mut-a.result.0.now c.split_at_mut-a.result.1.now c.split_at_mut-c.result.0.now c.split_at_mut-c.result.1.now c.turn_rows_at-2.new.rows c.turn_rows_at-3.new.rows c.turn_rows_at-4.new.rows c.turn_rows_at-5.new.rows c.requires.size parts turned c.in_ok-turn_rows_at.ensures.turned
+    c.in_ok-turn_rows_at-2.ensures.turned
+    c.in_ok-turn_rows_at-3.ensures.turned
+    c.in_ok-turn_rows_at-4.ensures.turned
+    c.in_ok-turn_rows_at-5.ensures.turned

@@ -1,28 +1,19 @@
-use Rattle.std.proofs.Common.{arith}
+use Rattle.std.proofs.Common.{refl, arith}
 use Rattle.math_base.proofs.Members.{ring_members}
 use Rattle.math_transforms.proofs.PowersOfTwo.{power_of_two-word}
-use Rattle.math_transforms.proofs.TreeEntries.{root-tree, tree-ones}
+use Rattle.math_transforms.proofs.TreeEntries.{all-points}
 use Rattle.math_transforms.proofs.TreeValues.{few-reversed}
 use Rattle.math_transforms.proofs.transform.evaluate_few.Goals as goal
 
-pub evaluate_few_below-requires-clause-tree : goal.evaluate_few_below-requires-clause-tree
-evaluate_few_below-requires-clause-tree g c =
+pub evaluate_few_below-requires-clause-points : goal.evaluate_few_below-requires-clause-points
+evaluate_few_below-requires-clause-points g c =
     let R = ring_members g.F.Multiplicative.product g.F.Debug.debug_output g.F.Object.same g.F.Object.NEVER_REFUSES g.F.Additive.zero g.F.Additive.sum g.F.Additive.negative g.F.Ring.one in
     let F = g.met.F in
-    root-tree R F.Object.equality F.Additive.group F.Multiplicative.commutes F.Ring.ring g.F.FieldNTT.root g.F.Ring.one c.args.lg c.args.table.now
+    all-points R F.Object.equality F.Additive.group F.Multiplicative.commutes F.Ring.ring g.F.FieldNTT.root g.F.Ring.one _ _ refl c.requires.domain c.requires.small
     (λ l within. F.FieldNTT.roots.square l (omega (arith, within, c.requires.domain))) c.requires.table
 
 pub evaluate_few_below-requires-clause-entries : goal.evaluate_few_below-requires-clause-entries
 evaluate_few_below-requires-clause-entries g c = omega (arith, c.requires.table.count, power_of_two-word c.args.lg c.requires.small)
-
-pub evaluate_few_below-requires-clause-one : goal.evaluate_few_below-requires-clause-one
-evaluate_few_below-requires-clause-one g c =
-    let R = ring_members g.F.Multiplicative.product g.F.Debug.debug_output g.F.Object.same g.F.Object.NEVER_REFUSES g.F.Additive.zero g.F.Additive.sum g.F.Additive.negative g.F.Ring.one in
-    let F = g.met.F in
-    λ one. tree-ones R F.Object.equality F.Additive.group F.Multiplicative.commutes F.Ring.ring g.F.FieldNTT.root c.args.lg c.args.table.now c.requires.table
-
-pub evaluate_few_below-requires-clause-within : goal.evaluate_few_below-requires-clause-within
-evaluate_few_below-requires-clause-within g c = omega (arith, c.requires.table.count)
 
 pub returns-clause-values : goal.returns-clause-values
 returns-clause-values g c =

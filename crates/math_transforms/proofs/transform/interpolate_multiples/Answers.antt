@@ -1,26 +1,17 @@
-use Rattle.std.proofs.Common.{arith}
+use Rattle.std.proofs.Common.{refl, arith}
 use Rattle.math_theory.proofs.domains.MergedPieces.{root-inverse}
 use Rattle.math_base.proofs.Members.{ring_members}
 use Rattle.math_transforms.proofs.RootInverses.{inverse-tree_squares}
-use Rattle.math_transforms.proofs.TreeEntries.{root-tree, tree-ones}
+use Rattle.math_transforms.proofs.TreeEntries.{all-points}
 use Rattle.math_transforms.proofs.TreeValues.{multiples-natural, multiples-none}
 use Rattle.math_transforms.proofs.transform.interpolate_multiples.Goals as goal
 
-pub interpolate_below-requires-clause-tree : goal.interpolate_below-requires-clause-tree
-interpolate_below-requires-clause-tree g c =
+pub interpolate_below-requires-clause-points : goal.interpolate_below-requires-clause-points
+interpolate_below-requires-clause-points g c =
     let R = ring_members g.F.Multiplicative.product g.F.Debug.debug_output g.F.Object.same g.F.Object.NEVER_REFUSES g.F.Additive.zero g.F.Additive.sum g.F.Additive.negative g.F.Ring.one in
     let F = g.met.F in
-    root-tree R F.Object.equality F.Additive.group F.Multiplicative.commutes F.Ring.ring (λ l. g.F.Field.inverse (g.F.FieldNTT.root l)) g.F.Ring.one c.args.lg c.args.table.now
+    all-points R F.Object.equality F.Additive.group F.Multiplicative.commutes F.Ring.ring (λ l. g.F.Field.inverse (g.F.FieldNTT.root l)) g.F.Ring.one _ _ refl c.requires.domain c.requires.small
     (inverse-tree_squares F.Object.equality F.Additive.group F.Multiplicative.commutes F.Ring.ring F.Field.field F.FieldNTT.roots c.args.lg c.requires.domain) c.requires.table
-
-pub interpolate_below-requires-clause-one : goal.interpolate_below-requires-clause-one
-interpolate_below-requires-clause-one g c =
-    let R = ring_members g.F.Multiplicative.product g.F.Debug.debug_output g.F.Object.same g.F.Object.NEVER_REFUSES g.F.Additive.zero g.F.Additive.sum g.F.Additive.negative g.F.Ring.one in
-    let F = g.met.F in
-    λ one. tree-ones R F.Object.equality F.Additive.group F.Multiplicative.commutes F.Ring.ring (λ l. g.F.Field.inverse (g.F.FieldNTT.root l)) c.args.lg c.args.table.now c.requires.table
-
-pub interpolate_below-requires-clause-within : goal.interpolate_below-requires-clause-within
-interpolate_below-requires-clause-within g c = omega (arith, c.requires.table.count)
 
 pub returns-then-lg-eq0-clause-values : goal.returns-then-lg-eq0-clause-values
 returns-then-lg-eq0-clause-values g c =

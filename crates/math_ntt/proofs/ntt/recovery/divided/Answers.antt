@@ -1,27 +1,18 @@
-use Rattle.std.proofs.Common.{◌≡◌, ◌≢◌, ◌∙◌, ◌^◌, length, ap, arith}
+use Rattle.std.proofs.Common.{◌≡◌, ◌≢◌, ◌∙◌, ◌^◌, length, refl, ap, arith}
 use Rattle.math_base.proofs.Members.{ring_members}
 use Rattle.math_transforms.specs.CountedWork.{WorkOf}
 use Rattle.math_transforms.proofs.SomeCells.{some-cells}
-use Rattle.math_transforms.proofs.TreeEntries.{root-tree, tree-ones}
+use Rattle.math_transforms.proofs.TreeEntries.{all-points}
 use Rattle.math_ntt.proofs.RecoverySteps.{products-on_domain, values-again, values-in_order}
 use Rattle.math_ntt.proofs.AddedWork.{on-err}
 use Rattle.math_ntt.proofs.ntt.recovery.divided.Goals as goal
 
-pub evaluate_below-requires-clause-tree : goal.evaluate_below-requires-clause-tree
-evaluate_below-requires-clause-tree g c =
+pub evaluate_below-requires-clause-points : goal.evaluate_below-requires-clause-points
+evaluate_below-requires-clause-points g c =
     let R = ring_members g.F.Multiplicative.product g.F.Debug.debug_output g.F.Object.same g.F.Object.NEVER_REFUSES g.F.Additive.zero g.F.Additive.sum g.F.Additive.negative g.F.Ring.one in
     let F = g.met.F in
-    root-tree R F.Object.equality F.Additive.group F.Multiplicative.commutes F.Ring.ring g.F.FieldNTT.root g.F.Ring.one c.args.lg c.args.evaluation.now
+    all-points R F.Object.equality F.Additive.group F.Multiplicative.commutes F.Ring.ring g.F.FieldNTT.root g.F.Ring.one _ _ refl c.requires.domain c.requires.small
     (λ l within. F.FieldNTT.roots.square l (omega (arith, within, c.requires.domain))) c.requires.evaluation
-
-pub evaluate_below-requires-clause-one : goal.evaluate_below-requires-clause-one
-evaluate_below-requires-clause-one g c =
-    let R = ring_members g.F.Multiplicative.product g.F.Debug.debug_output g.F.Object.same g.F.Object.NEVER_REFUSES g.F.Additive.zero g.F.Additive.sum g.F.Additive.negative g.F.Ring.one in
-    let F = g.met.F in
-    λ one. tree-ones R F.Object.equality F.Additive.group F.Multiplicative.commutes F.Ring.ring g.F.FieldNTT.root c.args.lg c.args.evaluation.now c.requires.evaluation
-
-pub evaluate_below-requires-clause-within : goal.evaluate_below-requires-clause-within
-evaluate_below-requires-clause-within g c = omega (arith, c.requires.evaluation.count)
 
 pub start_at-requires-clause-size : goal.start_at-requires-clause-size
 start_at-requires-clause-size g c = c.requires.evaluation.count

@@ -1,22 +1,18 @@
-use Rattle.std.proofs.Common.{◌≡◌, ◌∙◌, ◌^◌, ◌<◌, length, arith}
+use Rattle.std.proofs.Common.{◌≡◌, ◌∙◌, ◌^◌, ◌<◌, length, refl, arith}
 use Rattle.std.proofs.lemmas.List.{get_or_default}
 use Rattle.math_theory.proofs.domains.MergedPieces.{root-inverse}
 use Rattle.math_base.proofs.Members.{ring_members}
 use Rattle.math_transforms.proofs.RootInverses.{inverse-tree_squares}
-use Rattle.math_transforms.proofs.TreeEntries.{root-tree}
+use Rattle.math_transforms.proofs.TreeEntries.{all-points}
 use Rattle.math_ntt.proofs.RecoverySteps.{nonzero-values, quotients-on_coset}
 use Rattle.math_ntt.proofs.ntt.recovery.quotients_from_coset.Goals as goal
 
-pub interpolate_below-requires-clause-tree : goal.interpolate_below-requires-clause-tree
-interpolate_below-requires-clause-tree g c =
+pub interpolate_below-requires-clause-points : goal.interpolate_below-requires-clause-points
+interpolate_below-requires-clause-points g c =
     let R = ring_members g.F.Multiplicative.product g.F.Debug.debug_output g.F.Object.same g.F.Object.NEVER_REFUSES g.F.Additive.zero g.F.Additive.sum g.F.Additive.negative g.F.Ring.one in
     let F = g.met.F in
-    root-tree R F.Object.equality F.Additive.group F.Multiplicative.commutes F.Ring.ring (λ l. g.F.Field.inverse (g.F.FieldNTT.root l)) (g.F.Field.inverse g.F.FieldNTT.shift) c.args.lg
-    c.args.back.now
+    all-points R F.Object.equality F.Additive.group F.Multiplicative.commutes F.Ring.ring (λ l. g.F.Field.inverse (g.F.FieldNTT.root l)) (g.F.Field.inverse g.F.FieldNTT.shift) _ _ refl c.requires.domain c.requires.small
     (inverse-tree_squares F.Object.equality F.Additive.group F.Multiplicative.commutes F.Ring.ring F.Field.field F.FieldNTT.roots c.args.lg c.requires.domain) c.requires.back
-
-pub interpolate_below-requires-clause-within : goal.interpolate_below-requires-clause-within
-interpolate_below-requires-clause-within g c = omega (arith, c.requires.back.count)
 
 pub returns-clause-quotients : goal.returns-clause-quotients
 returns-clause-quotients g c = λ p v e at_cells at_divisors nonzero.

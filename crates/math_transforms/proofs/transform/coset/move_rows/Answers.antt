@@ -1,37 +1,24 @@
-use Rattle.std.proofs.Common.{◌∙◌, arith}
+use Rattle.std.proofs.Common.{◌∙◌, refl, arith}
 use Rattle.math_theory.proofs.domains.MergedPieces.{root-inverse}
 use Rattle.math_transforms.proofs.CosetRows.{values-moved}
 use Rattle.math_base.proofs.Members.{ring_members}
 use Rattle.math_transforms.proofs.RootInverses.{inverse-tree_squares}
-use Rattle.math_transforms.proofs.TreeEntries.{root-tree, tree-ones}
+use Rattle.math_transforms.proofs.TreeEntries.{all-points}
 use Rattle.math_transforms.proofs.transform.coset.move_rows.Goals as goal
 
-pub interpolate_below-requires-clause-tree : goal.interpolate_below-requires-clause-tree
-interpolate_below-requires-clause-tree g c =
+pub interpolate_below-requires-clause-points : goal.interpolate_below-requires-clause-points
+interpolate_below-requires-clause-points g c =
     let R = ring_members g.F.Multiplicative.product g.F.Debug.debug_output g.F.Object.same g.F.Object.NEVER_REFUSES g.F.Additive.zero g.F.Additive.sum g.F.Additive.negative g.F.Ring.one in
     let F = g.met.F in
-    root-tree R F.Object.equality F.Additive.group F.Multiplicative.commutes F.Ring.ring (λ l. g.F.Field.inverse (g.F.FieldNTT.root l)) g.F.Ring.one c.args.lg c.args.interpolation.now
+    all-points R F.Object.equality F.Additive.group F.Multiplicative.commutes F.Ring.ring (λ l. g.F.Field.inverse (g.F.FieldNTT.root l)) g.F.Ring.one _ _ refl c.requires.domain c.requires.small
     (inverse-tree_squares F.Object.equality F.Additive.group F.Multiplicative.commutes F.Ring.ring F.Field.field F.FieldNTT.roots c.args.lg c.requires.domain) c.requires.interpolation
 
-pub interpolate_below-requires-clause-one : goal.interpolate_below-requires-clause-one
-interpolate_below-requires-clause-one g c =
+pub evaluate_below-requires-clause-points : goal.evaluate_below-requires-clause-points
+evaluate_below-requires-clause-points g c =
     let R = ring_members g.F.Multiplicative.product g.F.Debug.debug_output g.F.Object.same g.F.Object.NEVER_REFUSES g.F.Additive.zero g.F.Additive.sum g.F.Additive.negative g.F.Ring.one in
     let F = g.met.F in
-    λ one. tree-ones R F.Object.equality F.Additive.group F.Multiplicative.commutes F.Ring.ring (λ l. g.F.Field.inverse (g.F.FieldNTT.root l)) c.args.lg c.args.interpolation.now
-    c.requires.interpolation
-
-pub interpolate_below-requires-clause-within : goal.interpolate_below-requires-clause-within
-interpolate_below-requires-clause-within g c = omega (arith, c.requires.interpolation.count)
-
-pub evaluate_below-requires-clause-tree : goal.evaluate_below-requires-clause-tree
-evaluate_below-requires-clause-tree g c =
-    let R = ring_members g.F.Multiplicative.product g.F.Debug.debug_output g.F.Object.same g.F.Object.NEVER_REFUSES g.F.Additive.zero g.F.Additive.sum g.F.Additive.negative g.F.Ring.one in
-    let F = g.met.F in
-    root-tree R F.Object.equality F.Additive.group F.Multiplicative.commutes F.Ring.ring g.F.FieldNTT.root g.F.FieldNTT.shift c.args.lg c.args.coset.now
+    all-points R F.Object.equality F.Additive.group F.Multiplicative.commutes F.Ring.ring g.F.FieldNTT.root g.F.FieldNTT.shift _ _ refl c.requires.domain c.requires.small
     (λ l within. F.FieldNTT.roots.square l (omega (arith, within, c.requires.domain))) c.requires.coset
-
-pub evaluate_below-requires-clause-within : goal.evaluate_below-requires-clause-within
-evaluate_below-requires-clause-within g c = omega (arith, c.requires.coset.count)
 
 pub returns-clause-moved : goal.returns-clause-moved
 returns-clause-moved g c =
