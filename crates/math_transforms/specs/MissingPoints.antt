@@ -1,12 +1,15 @@
 -- Polynomials that vanish at the missing points of a domain, and the pieces of which they are built.
 use Rattle.std.specs.List.{range_with_len, count_by}
-use Rattle.std.specs.Prelude.{ℕ, ◌+◌, ◌*◌, ◌≤◌, List, Bool, false, not, map, slice_index_or, vec_len}
+use Rattle.std.specs.Prelude.{◌≡◌, ℕ, ◌+◌, ◌*◌, ◌<◌, ◌≤◌, ◌^◌, List, Bool, false, length, not, map, slice_index_or, vec_len}
 use Rattle.math_theory.specs.Powers.{power}
 use Rattle.math_theory.specs.Vanishing.{VanishesAt, missing_points}
 use Rattle.math_theory.specs.Vanishing as Vanishing
 use Rattle.math_base.specs.Members.{RingOf}
 use Rattle.math_base.specs.Polynomials.{value_in_ring}
+use Rattle.math_transforms.specs.RootTrees.{IsTreeOf}
 use Rattle.math_transforms.specs.declared.vanishing.Piece.{Piece}
+use Rattle.math_transforms.specs.declared.vanishing.Spaced.{Spaced}
+use Rattle.math_transforms.specs.declared.vanishing.Trees.{Trees}
 use Rattle.math_transforms.specs.declared.vanishing.Piece.TheVariants.{Nowhere, Everywhere, Somewhere}
 
 -- how many places are false
@@ -16,6 +19,23 @@ count_false filled = count_by not filled
 -- the n truth values from place `start` on that are `stride` places apart
 unfoldable pub every : ℕ → ℕ → ℕ → List Bool → List Bool
 every start stride n filled = map (λ j. slice_index_or filled (start + j * stride) false) (range_with_len 0 n)
+
+-- the truth values of the first n points
+abbrev pub places : ℕ → Spaced → List Bool
+places n spaced = every spaced.start spaced.stride n spaced.points.now
+
+-- n points, so far apart that they are all whose index has the same remainder
+pub record IsSpaced (n : ℕ) (spaced : Spaced) : Type 0 where
+  pub start : spaced.start < spaced.stride
+  pub covers : n * spaced.stride ≡ length spaced.points.now
+  pub fits : length spaced.points.now < 2 ^ 64
+
+-- the trees of the powers of root lg, and of their inverses
+pub record AreTrees {A : Type 0} (R : RingOf A) (greatest : ℕ) (root : ℕ → A) (inverse : A → A) (trees : Trees A) : Type 0 where
+  pub domain : trees.lg ≤ greatest
+  pub small : trees.lg < 64
+  pub evaluation : IsTreeOf R root R.one trees.lg trees.evaluation.now
+  pub interpolation : IsTreeOf R (λ l. inverse (root l)) R.one trees.lg trees.interpolation.now
 
 -- up to one factor that is not zero, v gives at each r the product of r - w ^ j over the places j that are false
 abbrev pub VanishesAtFalse : {A : Type 0} → RingOf A → A → List Bool → (A → A) → Type 0

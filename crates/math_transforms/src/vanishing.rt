@@ -36,12 +36,14 @@ ghost use Rattle.math_base.specs.Polynomials.{value_in_ring};
 ghost use Rattle.math_transforms.specs.CountedWork.{AddsAtMost, AddsWithin};
 ghost use Rattle.math_transforms.specs.MissingPoints.{
   count_false,
-  every,
   missing_product,
   piece_value,
+  places,
+  AreTrees,
   HasAtMost,
   IsEverywhere,
   IsMerged,
+  IsSpaced,
   IsVanishing,
   VanishesAtFalse,
 };
@@ -72,6 +74,22 @@ pub(super) enum Piece<F: Drop> {
     Nowhere,
     Everywhere,
     Somewhere(Vec<F>),
+}
+
+/// Points of a bitmap, `stride` apart from `start` on.
+#[derive(Drop)]
+pub(super) struct Spaced<'a> {
+    pub(super) points: &'a VanishingPoints,
+    pub(super) start: usize,
+    pub(super) stride: usize,
+}
+
+/// The trees of a domain of 2^lg points: that of the points, and that of their inverses.
+#[derive(Drop)]
+pub(super) struct Trees<'a, F> {
+    pub(super) evaluation: &'a [F],
+    pub(super) interpolation: &'a [F],
+    pub(super) lg: u8,
 }
 
 /// Multiplies a coefficient by a root. No other code counts root products.
@@ -117,38 +135,33 @@ fn times_root<F: Ring>(
     Ok(())
 }
 
-/// The product of X - root^j over the missing ones of the points `start + j * stride`, j below
-/// `count`.
+/// The product of X - root^j over the missing ones of the first `count` points.
 fn chunk_product<F: Ring>(
     alloc: Global,
-    points: &VanishingPoints,
-    start: usize,
-    stride: usize,
+    spaced: &Spaced<'_>,
     count: usize,
     root: &F,
     work: &mut Work,
 ) -> Mem<Vec<F>>
-    requires start { start < stride }
-    requires covers { count * stride ≡ length points.now }
-    requires fits { length points.now < 2 ^ 64 }
+    requires spaced { IsSpaced count spaced.now }
     requires few { count ≤ 256 }
     requires room { work.old.root_products + 2 ^ 16 < 2 ^ 128 }
     ensures length { IfOk result
-        (λ p. vec_len p ≡ count_false (every start stride count points.now) + 1) }
+        (λ p. vec_len p ≡ count_false (places count spaced.now) + 1) }
     ensures values { IfOk result (λ p. (r : F) → F.same (value_in_ring F.Ring p.items r)
-        (missing_product F.Ring r root.now (every start stride count points.now))) }
+        (missing_product F.Ring r root.now (places count spaced.now))) }
     ensures butterflies { work.new.butterflies ≡ work.old.butterflies }
-    ensures exact { IfOk result (λ _. let v = count_false (every start stride count points.now) in
+    ensures exact { IfOk result (λ _. let v = count_false (places count spaced.now) in
         2 * work.new.root_products ≡ 2 * work.old.root_products + v * (v + 1)) }
     ensures no_fewer { work.old.root_products ≤ work.new.root_products }
-    ensures no_more { let v = count_false (every start stride count points.now) in
+    ensures no_more { let v = count_false (places count spaced.now) in
         2 * work.new.root_products ≤ 2 * work.old.root_products + v * (v + 1) }
 {
     let mut coefficients = Vec::new(alloc);
     coefficients.push(F::one(alloc)?)?;
     let mut power = F::one(alloc)?;
     for j in 0..count {
-        if !points.get((start + j * stride) as u64) {
+        if !spaced.points.get((spaced.start + j * spaced.stride) as u64) {
             times_root(alloc, &mut coefficients, &power, work)?;
         }
         power.mul_assign(alloc, root)?;
@@ -156,53 +169,42 @@ fn chunk_product<F: Ring>(
     Ok(coefficients)
 }
 
-/// How many of the points `start + j * stride`, j below `count`, are missing.
-fn count_missing(points: &VanishingPoints, start: usize, stride: usize, count: usize) -> usize
-    requires start { start < stride }
-    requires covers { count * stride ≡ length points.now }
-    requires fits { length points.now < 2 ^ 64 }
-    ensures { result ≡ count_false (every start stride count points.now) }
+/// How many of the first `count` points are missing.
+fn count_missing(spaced: &Spaced<'_>, count: usize) -> usize
+    requires spaced { IsSpaced count spaced.now }
+    ensures { result ≡ count_false (places count spaced.now) }
 {
     let mut missing = 0;
     for j in 0..count {
-        if !points.get((start + j * stride) as u64) {
+        if !spaced.points.get((spaced.start + j * spaced.stride) as u64) {
             missing += 1;
         }
     }
     missing
 }
 
-/// The piece for the 2^lg points `start + j * stride`, built factor by factor.
-fn chunk<F: FieldNTT>(
-    alloc: Global,
-    points: &VanishingPoints,
-    start: usize,
-    stride: usize,
-    lg: u8,
-    work: &mut Work,
-) -> Mem<Piece<F>>
+/// The piece for 2^lg points, built factor by factor.
+fn chunk<F: FieldNTT>(alloc: Global, spaced: &Spaced<'_>, lg: u8, work: &mut Work) -> Mem<Piece<F>>
     requires small { lg ≤ 8 }
     requires domain { lg ≤ F.MAX_LG_ROOT_ORDER }
-    requires start { start < stride }
-    requires covers { 2 ^ lg * stride ≡ length points.now }
-    requires fits { length points.now < 2 ^ 64 }
+    requires spaced { IsSpaced (2 ^ lg) spaced.now }
     requires room { work.old.root_products + 2 ^ 16 < 2 ^ 128 }
     ensures length { IfOk result (λ piece. HasAtMost (2 ^ lg) piece) }
     ensures vanishes { IfOk result (λ piece.
-        VanishesAtFalse F.Ring (F.root lg) (every start stride (2 ^ lg) points.now)
+        VanishesAtFalse F.Ring (F.root lg) (places (2 ^ lg) spaced.now)
         (piece_value F.Ring (2 ^ lg) piece)) }
     ensures everywhere { IfOk result (λ piece. IsEverywhere piece
-        → count_true (every start stride (2 ^ lg) points.now) ≡ 0) }
+        → count_true (places (2 ^ lg) spaced.now) ≡ 0) }
     ensures butterflies { work.new.butterflies ≡ work.old.butterflies }
     ensures exact { IfOk result
-        (λ _. let v = count_false (every start stride (2 ^ lg) points.now) in v < 2 ^ lg
+        (λ _. let v = count_false (places (2 ^ lg) spaced.now) in v < 2 ^ lg
         → 2 * work.new.root_products ≡ 2 * work.old.root_products + v * (v + 1)) }
-    ensures no_more { let v = count_false (every start stride (2 ^ lg) points.now) in
+    ensures no_more { let v = count_false (places (2 ^ lg) spaced.now) in
         2 * work.new.root_products ≤ 2 * work.old.root_products + v * (v + 1) }
     ensures bounded { AddsWithin 0 (128 * 2 ^ lg) work.old work.new }
 {
     let count = size_of(lg);
-    let missing = count_missing(points, start, stride, count);
+    let missing = count_missing(spaced, count);
     if missing == 0 {
         return Ok(Piece::Nowhere);
     }
@@ -212,7 +214,7 @@ fn chunk<F: FieldNTT>(
     let Some(root) = F::root_of_unity(alloc, lg)? else {
         unreachable!()
     };
-    let product = chunk_product(alloc, points, start, stride, count, &root, work)?;
+    let product = chunk_product(alloc, spaced, count, &root, work)?;
     Ok(Piece::Somewhere(product))
 }
 
@@ -281,30 +283,25 @@ fn multiply_values<F: FieldNTT>(
     alloc: Global,
     left: &mut [F],
     right: &mut [F],
-    lg: u8,
-    evaluation: &[F],
-    interpolation: &[F],
+    trees: &Trees<'_, F>,
     work: &mut Work,
 ) -> Mem<()>
-    requires domain { lg ≤ F.MAX_LG_ROOT_ORDER }
-    requires small { lg < 64 }
-    requires left { length left.old ≡ 2 ^ lg }
-    requires right { length right.old ≡ 2 ^ lg }
-    requires evaluation { IsTreeOf F.Ring F.root F.one lg evaluation.now }
-    requires interpolation { IsTreeOf F.Ring
-        (λ l. F.inverse (F.root l)) F.one lg interpolation.now }
-    requires room { 2 * work.old.butterflies + 3 * 2 ^ lg * lg < 2 ^ 129 }
+    requires trees { AreTrees F.Ring F.MAX_LG_ROOT_ORDER F.root F.inverse trees.now }
+    requires left { length left.old ≡ 2 ^ trees.now.lg }
+    requires right { length right.old ≡ 2 ^ trees.now.lg }
+    requires room { 2 * work.old.butterflies + 3 * 2 ^ trees.now.lg * trees.now.lg < 2 ^ 129 }
     ensures size { length left.new ≡ length left.old }
     ensures values { OnOk result
-        ((i : ℕ) → i < 2 ^ lg → let x = power F.one F.product (F.root lg) i in
+        ((i : ℕ) → i < 2 ^ trees.now.lg → let x = power F.one F.product (F.root trees.now.lg) i in
         F.same (value_in_ring F.Ring left.new x)
         (F.product (value_in_ring F.Ring left.old x) (value_in_ring F.Ring right.old x))) }
-    ensures bounded { AddsAtMost (3 * 2 ^ lg * lg) work.old work.new }
+    ensures bounded { AddsAtMost (3 * 2 ^ trees.now.lg * trees.now.lg) work.old work.new }
 {
-    evaluate_rows(alloc, left, 1, lg, evaluation, work)?;
-    evaluate_rows(alloc, right, 1, lg, evaluation, work)?;
+    let lg = trees.lg;
+    evaluate_rows(alloc, left, 1, lg, trees.evaluation, work)?;
+    evaluate_rows(alloc, right, 1, lg, trees.evaluation, work)?;
     multiply_rows(alloc, left, 1, right)?;
-    interpolate_rows(alloc, left, 1, lg, interpolation, work)?;
+    interpolate_rows(alloc, left, 1, lg, trees.interpolation, work)?;
     Ok(())
 }
 
@@ -315,42 +312,34 @@ fn multiplied<F: FieldNTT>(
     alloc: Global,
     left: Vec<F>,
     right: Vec<F>,
-    lg: u8,
-    evaluation: &[F],
-    interpolation: &[F],
+    trees: &Trees<'_, F>,
     work: &mut Work,
 ) -> Mem<Vec<F>>
-    requires domain { lg ≤ F.MAX_LG_ROOT_ORDER }
-    requires small { lg < 64 }
-    requires few { vec_len left + vec_len right ≤ 2 ^ lg }
-    requires evaluation { IsTreeOf F.Ring F.root F.one lg evaluation.now }
-    requires interpolation { IsTreeOf F.Ring
-        (λ l. F.inverse (F.root l)) F.one lg interpolation.now }
-    requires room { 2 * work.old.butterflies + 3 * 2 ^ lg * lg < 2 ^ 129 }
-    ensures length { IfOk result (λ p. vec_len p ≤ 2 ^ lg) }
+    requires trees { AreTrees F.Ring F.MAX_LG_ROOT_ORDER F.root F.inverse trees.now }
+    requires few { vec_len left + vec_len right ≤ 2 ^ trees.now.lg }
+    requires room { 2 * work.old.butterflies + 3 * 2 ^ trees.now.lg * trees.now.lg < 2 ^ 129 }
+    ensures length { IfOk result (λ p. vec_len p ≤ 2 ^ trees.now.lg) }
     ensures values { IfOk result (λ p. (r : F) → F.same (value_in_ring F.Ring p.items r)
         (F.product (value_in_ring F.Ring left.items r) (value_in_ring F.Ring right.items r))) }
-    ensures bounded { AddsAtMost (3 * 2 ^ lg * lg) work.old work.new }
+    ensures bounded { AddsAtMost (3 * 2 ^ trees.now.lg * trees.now.lg) work.old work.new }
 {
+    let lg = trees.lg;
     if lg > 0 && left.len() + right.len() <= size_of(lg - 1) {
         let half = size_of(lg - 1);
-        let (lower, _) = evaluation.split_at(half);
-        let (lower_back, _) = interpolation.split_at(half);
-        let product = multiplied(alloc, left, right, lg - 1, lower, lower_back, work)?;
+        let (evaluation, _) = trees.evaluation.split_at(half);
+        let (interpolation, _) = trees.interpolation.split_at(half);
+        let lower = Trees {
+            evaluation,
+            interpolation,
+            lg: lg - 1,
+        };
+        let product = multiplied(alloc, left, right, &lower, work)?;
         return Ok(product);
     }
     let n = size_of(lg);
     let mut product = filled_up(alloc, left, n)?;
     let mut other = filled_up(alloc, right, n)?;
-    multiply_values(
-        alloc,
-        &mut product,
-        &mut other,
-        lg,
-        evaluation,
-        interpolation,
-        work,
-    )?;
+    multiply_values(alloc, &mut product, &mut other, trees, work)?;
     let out = trimmed(alloc, product)?;
     Ok(out)
 }
@@ -379,28 +368,24 @@ fn merged<F: FieldNTT>(
     alloc: Global,
     left: Piece<F>,
     right: Piece<F>,
-    lg: u8,
-    evaluation: &[F],
-    interpolation: &[F],
+    trees: &Trees<'_, F>,
     work: &mut Work,
 ) -> Mem<Piece<F>>
-    requires domain { lg ≤ F.MAX_LG_ROOT_ORDER }
-    requires small { lg < 64 }
-    requires positive { 0 < lg }
-    requires left { HasAtMost (2 ^ (lg - 1)) left }
-    requires right { HasAtMost (2 ^ (lg - 1)) right }
-    requires evaluation { IsTreeOf F.Ring F.root F.one lg evaluation.now }
-    requires interpolation { IsTreeOf F.Ring
-        (λ l. F.inverse (F.root l)) F.one lg interpolation.now }
-    requires room { 2 * work.old.butterflies + 3 * 2 ^ lg * lg < 2 ^ 129 }
-    ensures length { IfOk result (λ piece. HasAtMost (2 ^ lg) piece) }
-    ensures merged { IfOk result (λ piece. IsMerged F.Ring (F.inverse (F.root lg))
-        (piece_value F.Ring (2 ^ (lg - 1)) left) (piece_value F.Ring (2 ^ (lg - 1)) right)
-        (piece_value F.Ring (2 ^ lg) piece)) }
+    requires trees { AreTrees F.Ring F.MAX_LG_ROOT_ORDER F.root F.inverse trees.now }
+    requires positive { 0 < trees.now.lg }
+    requires left { HasAtMost (2 ^ (trees.now.lg - 1)) left }
+    requires right { HasAtMost (2 ^ (trees.now.lg - 1)) right }
+    requires room { 2 * work.old.butterflies + 3 * 2 ^ trees.now.lg * trees.now.lg < 2 ^ 129 }
+    ensures length { IfOk result (λ piece. HasAtMost (2 ^ trees.now.lg) piece) }
+    ensures merged { IfOk result (λ piece. IsMerged F.Ring (F.inverse (F.root trees.now.lg))
+        (piece_value F.Ring (2 ^ (trees.now.lg - 1)) left)
+        (piece_value F.Ring (2 ^ (trees.now.lg - 1)) right)
+        (piece_value F.Ring (2 ^ trees.now.lg) piece)) }
     ensures everywhere { IfOk result
         (λ piece. IsEverywhere piece → IsEverywhere left × IsEverywhere right) }
-    ensures bounded { AddsAtMost (3 * 2 ^ lg * lg) work.old work.new }
+    ensures bounded { AddsAtMost (3 * 2 ^ trees.now.lg * trees.now.lg) work.old work.new }
 {
+    let lg = trees.lg;
     let half = size_of(lg - 1);
     match right {
         Piece::Nowhere => match left {
@@ -439,7 +424,7 @@ fn merged<F: FieldNTT>(
                     Ok(Piece::Somewhere(all))
                 }
                 Piece::Somewhere(p) => {
-                    let all = multiplied(alloc, p, moved, lg, evaluation, interpolation, work)?;
+                    let all = multiplied(alloc, p, moved, trees, work)?;
                     Ok(Piece::Somewhere(all))
                 }
             }
@@ -447,75 +432,68 @@ fn merged<F: FieldNTT>(
     }
 }
 
-/// The piece for the 2^lg points `start + j * stride`: that of the even ones and that of the odd
-/// ones, merged, down to chunks of 2^base points.
+/// The piece for 2^lg points: that of the even ones and that of the odd ones, merged, down to
+/// chunks of 2^base points.
 fn tree<F: FieldNTT>(
     alloc: Global,
-    points: &VanishingPoints,
-    start: usize,
-    stride: usize,
-    lg: u8,
+    spaced: &Spaced<'_>,
     base: u8,
-    evaluation: &[F],
-    interpolation: &[F],
+    trees: &Trees<'_, F>,
     work: &mut Work,
 ) -> Mem<Piece<F>>
-    requires domain { lg ≤ F.MAX_LG_ROOT_ORDER }
-    requires small { lg < 64 }
+    requires trees { AreTrees F.Ring F.MAX_LG_ROOT_ORDER F.root F.inverse trees.now }
     requires base { 0 < base }
     requires few { base ≤ 8 }
-    requires start { start < stride }
-    requires covers { 2 ^ lg * stride ≡ length points.now }
-    requires fits { length points.now < 2 ^ 64 }
-    requires evaluation { IsTreeOf F.Ring F.root F.one lg evaluation.now }
-    requires interpolation { IsTreeOf F.Ring
-        (λ l. F.inverse (F.root l)) F.one lg interpolation.now }
-    requires room { 2 * work.old.butterflies + 2 ^ lg * lg * (3 * lg - 1) < 2 ^ 129 }
-    requires product_room { work.old.root_products + 128 * 2 ^ lg + 2 ^ 16 < 2 ^ 128 }
-    ensures length { IfOk result (λ piece. HasAtMost (2 ^ lg) piece) }
+    requires spaced { IsSpaced (2 ^ trees.now.lg) spaced.now }
+    requires room { 2 * work.old.butterflies
+        + 2 ^ trees.now.lg * trees.now.lg * (3 * trees.now.lg - 1) < 2 ^ 129 }
+    requires product_room { work.old.root_products + 128 * 2 ^ trees.now.lg + 2 ^ 16 < 2 ^ 128 }
+    ensures length { IfOk result (λ piece. HasAtMost (2 ^ trees.now.lg) piece) }
     ensures vanishes { IfOk result (λ piece.
-        VanishesAtFalse F.Ring (F.root lg) (every start stride (2 ^ lg) points.now)
-        (piece_value F.Ring (2 ^ lg) piece)) }
+        VanishesAtFalse F.Ring (F.root trees.now.lg) (places (2 ^ trees.now.lg) spaced.now)
+        (piece_value F.Ring (2 ^ trees.now.lg) piece)) }
     ensures everywhere { IfOk result (λ piece. IsEverywhere piece
-        → count_true (every start stride (2 ^ lg) points.now) ≡ 0) }
-    ensures butterflies { lg ≤ base → work.new.butterflies ≡ work.old.butterflies }
+        → count_true (places (2 ^ trees.now.lg) spaced.now) ≡ 0) }
+    ensures butterflies { trees.now.lg ≤ base → work.new.butterflies ≡ work.old.butterflies }
     ensures exact { IfOk result
-        (λ _. let v = count_false (every start stride (2 ^ lg) points.now) in lg ≤ base
-        → v < 2 ^ lg → 2 * work.new.root_products ≡ 2 * work.old.root_products + v * (v + 1)) }
-    ensures no_more { let v = count_false (every start stride (2 ^ lg) points.now) in lg ≤ base
+        (λ _. let v = count_false (places (2 ^ trees.now.lg) spaced.now) in trees.now.lg ≤ base
+        → v < 2 ^ trees.now.lg
+        → 2 * work.new.root_products ≡ 2 * work.old.root_products + v * (v + 1)) }
+    ensures no_more { let v = count_false (places (2 ^ trees.now.lg) spaced.now) in trees.now.lg ≤ base
         → 2 * work.new.root_products ≤ 2 * work.old.root_products + v * (v + 1) }
-    ensures bounded { AddsWithin (2 ^ lg * lg * (3 * lg - 1)) (128 * 2 ^ lg) work.old work.new }
+    ensures bounded { AddsWithin (2 ^ trees.now.lg * trees.now.lg * (3 * trees.now.lg - 1))
+        (128 * 2 ^ trees.now.lg) work.old work.new }
 {
+    let lg = trees.lg;
     if lg <= base {
-        let piece = chunk(alloc, points, start, stride, lg, work)?;
+        let piece = chunk(alloc, spaced, lg, work)?;
         return Ok(piece);
     }
     let half = size_of(lg - 1);
-    let (lower, _) = evaluation.split_at(half);
-    let (lower_back, _) = interpolation.split_at(half);
-    let left = tree(
-        alloc,
+    let (evaluation, _) = trees.evaluation.split_at(half);
+    let (interpolation, _) = trees.interpolation.split_at(half);
+    let lower = Trees {
+        evaluation,
+        interpolation,
+        lg: lg - 1,
+    };
+    let points = spaced.points;
+    let start = spaced.start;
+    let stride = spaced.stride * 2;
+    let even = Spaced {
         points,
         start,
-        stride * 2,
-        lg - 1,
-        base,
-        lower,
-        lower_back,
-        work,
-    )?;
-    let right = tree(
-        alloc,
+        stride,
+    };
+    let left = tree(alloc, &even, base, &lower, work)?;
+    let start = start + spaced.stride;
+    let odd = Spaced {
         points,
-        start + stride,
-        stride * 2,
-        lg - 1,
-        base,
-        lower,
-        lower_back,
-        work,
-    )?;
-    let all = merged(alloc, left, right, lg, evaluation, interpolation, work)?;
+        start,
+        stride,
+    };
+    let right = tree(alloc, &odd, base, &lower, work)?;
+    let all = merged(alloc, left, right, trees, work)?;
     Ok(all)
 }
 
@@ -549,17 +527,17 @@ pub fn vanishing_coefficients<F: FieldNTT>(
     ensures bounded { AddsWithin (2 ^ lg * lg * (3 * lg - 1)) (128 * 2 ^ lg) work.old work.new }
 {
     let base = if lg <= WHOLE_LG { WHOLE_LG } else { CHUNK_LG };
-    let piece = tree::<F>(
-        alloc,
+    let whole = Spaced {
         points,
-        0,
-        1,
-        lg,
-        base,
+        start: 0,
+        stride: 1,
+    };
+    let trees = Trees {
         evaluation,
         interpolation,
-        work,
-    )?;
+        lg,
+    };
+    let piece = tree::<F>(alloc, &whole, base, &trees, work)?;
     match piece {
         Piece::Nowhere => {
             let one = constant_one(alloc, size_of(lg))?;

@@ -10,7 +10,7 @@ use Rattle.math_transforms.proofs.vanishing.+multiplied.Goals as goal
 
 pub multiplied-requires : goal.multiplied-requires
 multiplied-requires g t c κs within =
-    let lg = c.args.lg in
+    let lg = c.args.trees.now.lg in
     let positive : lg ≢ 0 = omega arith in
     let fewer = fewer-transforms lg (omega arith) in
     let inverse_root : ℕ → _ = λ l. g.F.Field.inverse (g.F.FieldNTT.root l) in
@@ -19,31 +19,22 @@ multiplied-requires g t c κs within =
       (
         search rules,
         (
-          omega arith,
-          (
-            omega arith,
-            (
-              omega arith,
-              (
-                tree-below ring g.met.F.Object.equality g.met.F.Additive.group g.met.F.Multiplicative.commutes g.met.F.Ring.ring g.F.FieldNTT.root lg c.size_of-half.result c.args.evaluation.now positive c.size_of-half.ensures c.requires.evaluation c.split_at.result.0.now
-                    c.split_at.ensures.front,
-                (
-                  tree-below ring g.met.F.Object.equality g.met.F.Additive.group g.met.F.Multiplicative.commutes g.met.F.Ring.ring inverse_root lg c.size_of-half.result c.args.interpolation.now positive c.size_of-half.ensures c.requires.interpolation
-                      c.split_at-then-len-size_of.result.0.now c.split_at-then-len-size_of.ensures.front,
-                  omega (arith, fewer),
-                ),
-              ),
-            ),
-          ),
+          record {
+            domain = omega (arith, c.requires.trees.domain);
+            small = omega (arith, c.requires.trees.small);
+            evaluation = tree-below ring g.met.F.Object.equality g.met.F.Additive.group g.met.F.Multiplicative.commutes g.met.F.Ring.ring g.F.FieldNTT.root lg c.size_of-half.result c.args.trees.now.evaluation.now positive c.size_of-half.ensures c.requires.trees.evaluation c.split_at.result.0.now c.split_at.ensures.front;
+            interpolation = tree-below ring g.met.F.Object.equality g.met.F.Additive.group g.met.F.Multiplicative.commutes g.met.F.Ring.ring inverse_root lg c.size_of-half.result c.args.trees.now.interpolation.now positive c.size_of-half.ensures c.requires.trees.interpolation c.split_at-then-len-size_of.result.0.now c.split_at-then-len-size_of.ensures.front;
+          },
+          (omega arith, omega (arith, fewer)),
         ),
       ),
     )
 
 pub returns-in_err-product-clause-bounded : goal.returns-in_err-product-clause-bounded
-returns-in_err-product-clause-bounded g t c = adds-part _ _ _ _ (fewer-transforms c.args.lg (omega arith)) c.in_err-product.ensures.bounded
+returns-in_err-product-clause-bounded g t c = adds-part _ _ _ _ (fewer-transforms c.args.trees.now.lg (omega arith)) c.in_err-product.ensures.bounded
 
 pub returns-then-len-size_of-clause-bounded : goal.returns-then-len-size_of-clause-bounded
-returns-then-len-size_of-clause-bounded g t c = adds-part _ _ _ _ (fewer-transforms c.args.lg (omega arith)) c.in_ok-product.ensures.bounded
+returns-then-len-size_of-clause-bounded g t c = adds-part _ _ _ _ (fewer-transforms c.args.trees.now.lg (omega arith)) c.in_ok-product.ensures.bounded
 
 pub returns-clause-values : goal.returns-clause-values
 returns-clause-values g t c = λ r.
@@ -65,6 +56,6 @@ returns-clause-values g t c = λ r.
     let values = rw (c.deref_mut.ensures.value, c.deref_mut-2.ensures.value, low.1, high.1) at c.in_ok-multiply_values.ensures.values in
     E.transitive _ _ _ (c.in_ok-out.ensures.values r)
     (rw written
-    (domain_product E G P R F.Field.field (g.F.FieldNTT.root c.args.lg) (2 ^ c.args.lg) (F.FieldNTT.roots.order c.args.lg c.requires.domain) new left right
+    (domain_product E G P R F.Field.field (g.F.FieldNTT.root c.args.trees.now.lg) (2 ^ c.args.trees.now.lg) (F.FieldNTT.roots.order c.args.trees.now.lg c.requires.trees.domain) new left right
     (omega arith) (omega (arith, c.requires.few, c.args.left.ok.0)) (omega (arith, c.requires.few, c.args.left.ok.0, c.args.right.ok.0))
     (λ i l. E.transitive _ _ _ (values i l) (P.respects _ _ _ _ (value-zeros_after E G P R _ left low.0 low.2) (value-zeros_after E G P R _ right high.0 high.2))) r))

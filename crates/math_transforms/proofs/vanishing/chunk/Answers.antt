@@ -9,23 +9,23 @@ use Rattle.math_transforms.proofs.vanishing.chunk.Goals as goal
 pub returns-then-missing-eq0-clause-vanishes : goal.returns-then-missing-eq0-clause-vanishes
 returns-then-missing-eq0-clause-vanishes g c =
     let F = g.met.F in
-    let places = every c.args.start c.args.stride (2 ^ c.args.lg) c.args.points.now in
+    let places = every c.args.spaced.now.start c.args.spaced.now.stride (2 ^ c.args.lg) c.args.spaced.now.points.now in
     let few : c.count_missing-missing.result ≡ count_false places = rw c.size_of-count.ensures at c.count_missing-missing.ensures in
     VanishesAt-none F.Object.equality F.Additive.group F.Multiplicative.commutes F.Ring.ring F.Field.field (g.F.FieldNTT.root c.args.lg) (2 ^ c.args.lg) places
-    (all_filled places (2 ^ c.args.lg) (length-every c.args.start c.args.stride c.args.points.now (2 ^ c.args.lg)) (sym few ∙ c.if-missing-eq0.true))
+    (all_filled places (2 ^ c.args.lg) (length-every c.args.spaced.now.start c.args.spaced.now.stride c.args.spaced.now.points.now (2 ^ c.args.lg)) (sym few ∙ c.if-missing-eq0.true))
 
 pub returns-then-missing-eq0-clause-exact : goal.returns-then-missing-eq0-clause-exact
 returns-then-missing-eq0-clause-exact g c =
-    let places = every c.args.start c.args.stride (2 ^ c.args.lg) c.args.points.now in
+    let places = every c.args.spaced.now.start c.args.spaced.now.stride (2 ^ c.args.lg) c.args.spaced.now.points.now in
     let few : c.count_missing-missing.result ≡ count_false places = rw c.size_of-count.ensures at c.count_missing-missing.ensures in
     λ _. none-missing c.args.work.now.root_products (count_false places) (sym few ∙ c.if-missing-eq0.true)
 
 pub returns-then-missing-count-clause-vanishes : goal.returns-then-missing-count-clause-vanishes
 returns-then-missing-count-clause-vanishes g c =
     let F = g.met.F in
-    let places = every c.args.start c.args.stride (2 ^ c.args.lg) c.args.points.now in
+    let places = every c.args.spaced.now.start c.args.spaced.now.stride (2 ^ c.args.lg) c.args.spaced.now.points.now in
     let few : c.count_missing-missing.result ≡ count_false places = rw c.size_of-count.ensures at c.count_missing-missing.ensures in
-    let long = length-every c.args.start c.args.stride c.args.points.now (2 ^ c.args.lg) in
+    let long = length-every c.args.spaced.now.start c.args.spaced.now.stride c.args.spaced.now.points.now (2 ^ c.args.lg) in
     let size = c.size_of-count.ensures in
     let all = c.if-missing-count.true in
     VanishesAt-all F.Object.equality F.Additive.group F.Multiplicative.commutes F.Ring.ring F.Field.field (g.F.FieldNTT.root c.args.lg) c.args.lg places
@@ -33,16 +33,16 @@ returns-then-missing-count-clause-vanishes g c =
 
 pub returns-then-missing-count-clause-everywhere : goal.returns-then-missing-count-clause-everywhere
 returns-then-missing-count-clause-everywhere g c = λ _.
-    let places = every c.args.start c.args.stride (2 ^ c.args.lg) c.args.points.now in
+    let places = every c.args.spaced.now.start c.args.spaced.now.stride (2 ^ c.args.lg) c.args.spaced.now.points.now in
     let few : c.count_missing-missing.result ≡ count_false places = rw c.size_of-count.ensures at c.count_missing-missing.ensures in
-    let long = length-every c.args.start c.args.stride c.args.points.now (2 ^ c.args.lg) in
+    let long = length-every c.args.spaced.now.start c.args.spaced.now.stride c.args.spaced.now.points.now (2 ^ c.args.lg) in
     let size = c.size_of-count.ensures in
     let all = c.if-missing-count.true in
     omega (arith, count_both places)
 
 pub returns-then-missing-count-clause-exact : goal.returns-then-missing-count-clause-exact
 returns-then-missing-count-clause-exact g c = λ l.
-    let places = every c.args.start c.args.stride (2 ^ c.args.lg) c.args.points.now in
+    let places = every c.args.spaced.now.start c.args.spaced.now.stride (2 ^ c.args.lg) c.args.spaced.now.points.now in
     let few : c.count_missing-missing.result ≡ count_false places = rw c.size_of-count.ensures at c.count_missing-missing.ensures in
     let size = c.size_of-count.ensures in
     let all = c.if-missing-count.true in
@@ -54,16 +54,16 @@ returns-clause-length g c =
     let few = c.count_missing-missing.ensures in
     let long = c.in_ok-product.ensures.length in
     let other = c.if-missing-count.false in
-    let below = count_false-within c.args.start c.args.stride c.args.points.now c.size_of-count.result in
+    let below = count_false-within c.args.spaced.now.start c.args.spaced.now.stride c.args.spaced.now.points.now c.size_of-count.result in
     omega (arith, c.in_ok-product.product.ok.0)
 
 pub returns-in_err-product-clause-bounded : goal.returns-in_err-product-clause-bounded
 returns-in_err-product-clause-bounded g c =
     let few = c.count_missing-missing.ensures in
     let other = c.if-missing-count.false in
-    let below = count_false-within c.args.start c.args.stride c.args.points.now c.size_of-count.result in
+    let below = count_false-within c.args.spaced.now.start c.args.spaced.now.stride c.args.spaced.now.points.now c.size_of-count.result in
     rw (← c.size_of-count.ensures)
-    (chunk-bounded c.args.work.now _ (count_false (every c.args.start c.args.stride c.size_of-count.result c.args.points.now)) c.size_of-count.result (omega arith)
+    (chunk-bounded c.args.work.now _ (count_false (every c.args.spaced.now.start c.args.spaced.now.stride c.size_of-count.result c.args.spaced.now.points.now)) c.size_of-count.result (omega arith)
     (omega (arith, c.size_of-count.ensures, power_of_two-few c.args.lg c.requires.small))
     c.in_err-product.ensures.butterflies c.in_err-product.ensures.no_fewer c.in_err-product.ensures.no_more)
 
@@ -71,9 +71,9 @@ pub returns-clause-bounded : goal.returns-clause-bounded
 returns-clause-bounded g c =
     let few = c.count_missing-missing.ensures in
     let other = c.if-missing-count.false in
-    let below = count_false-within c.args.start c.args.stride c.args.points.now c.size_of-count.result in
+    let below = count_false-within c.args.spaced.now.start c.args.spaced.now.stride c.args.spaced.now.points.now c.size_of-count.result in
     rw (← c.size_of-count.ensures)
-    (chunk-bounded c.args.work.now _ (count_false (every c.args.start c.args.stride c.size_of-count.result c.args.points.now)) c.size_of-count.result (omega arith)
+    (chunk-bounded c.args.work.now _ (count_false (every c.args.spaced.now.start c.args.spaced.now.stride c.size_of-count.result c.args.spaced.now.points.now)) c.size_of-count.result (omega arith)
     (omega (arith, c.size_of-count.ensures, power_of_two-few c.args.lg c.requires.small))
     c.in_ok-product.ensures.butterflies c.in_ok-product.ensures.no_fewer c.in_ok-product.ensures.no_more)
 
@@ -88,7 +88,7 @@ returns-clause-vanishes g c =
     let P = F.Multiplicative.commutes in
     let R = F.Ring.ring in
     let root = rw c.in-Some.is at c.in_ok-root.ensures.ok in
-    VanishesAt-product E G P R F.Field.field (g.F.FieldNTT.root c.args.lg) c.in-Some.root (every c.args.start c.args.stride (2 ^ c.args.lg) c.args.points.now) _ root
+    VanishesAt-product E G P R F.Field.field (g.F.FieldNTT.root c.args.lg) c.in-Some.root (every c.args.spaced.now.start c.args.spaced.now.stride (2 ^ c.args.lg) c.args.spaced.now.points.now) _ root
     (λ r. rw c.size_of-count.ensures at (c.in_ok-product.ensures.values r))
 
 pub returns-in_err-product-clause-no_more : goal.returns-in_err-product-clause-no_more

@@ -11,12 +11,12 @@ use Rattle.math_transforms.proofs.vanishing.chunk_product.Goals as goal
 pub loop-j-init : goal.loop-j-init
 loop-j-init g c =
     let F = g.met.F in
-    let none : count_false (every c.args.start c.args.stride 0 c.args.points.now) ≡ 0 = sym (count_false-start c.args.start c.args.stride c.args.points.now 0) in
+    let none : count_false (every c.args.spaced.now.start c.args.spaced.now.stride 0 c.args.spaced.now.points.now) ≡ 0 = sym (count_false-start c.args.spaced.now.start c.args.spaced.now.stride c.args.spaced.now.points.now 0) in
     let pushed = c.in_ok-push.ensures.len in
     record {
       count = omega arith;
       power = rw (power-zero g.F.Ring.one g.F.Multiplicative.product c.args.root.now) c.in_ok-power.ensures.ok;
-      values = λ r. rw (every-none c.args.start c.args.stride c.args.points.now)
+      values = λ r. rw (every-none c.args.spaced.now.start c.args.spaced.now.stride c.args.spaced.now.points.now)
           (value-of_one F.Object.equality F.Additive.group F.Multiplicative.commutes F.Ring.ring r c.in_ok-one.field-0 c.push.new.self.items (search rules) c.in_ok-one.ensures.ok);
       butterflies = refl;
       root_products = rw none (omega arith);
@@ -29,9 +29,9 @@ loop-j-preserved g c =
     let G = F.Additive.group in
     let P = F.Multiplicative.commutes in
     let R = F.Ring.ring in
-    let start = c.args.start in
-    let stride = c.args.stride in
-    let points = c.args.points.now in
+    let start = c.args.spaced.now.start in
+    let stride = c.args.spaced.now.stride in
+    let points = c.args.spaced.now.points.now in
     let root = c.args.root.now in
     let j = c.loop-j.j in
     let inv = c.loop-j.invariant in
@@ -70,17 +70,17 @@ loop-j-preserved g c =
 
 pub times_root-requires : goal.times_root-requires
 times_root-requires g c =
-    let few = count_false-within c.args.start c.args.stride c.args.points.now c.loop-j.j in
+    let few = count_false-within c.args.spaced.now.start c.args.spaced.now.stride c.args.spaced.now.points.now c.loop-j.j in
     record {
-      room = room-next c.loop-j.work.root_products c.args.work.now.root_products (vec_len c.loop-j.coefficients) (count_false (every c.args.start c.args.stride c.loop-j.j c.args.points.now)) (2 ^ 128)
+      room = room-next c.loop-j.work.root_products c.args.work.now.root_products (vec_len c.loop-j.coefficients) (count_false (every c.args.spaced.now.start c.args.spaced.now.stride c.loop-j.j c.args.spaced.now.points.now)) (2 ^ 128)
           (omega arith) c.loop-j.invariant.count c.loop-j.invariant.root_products c.requires.room;
     }
 
 pub returns-in_err-times_root-clause-no_more : goal.returns-in_err-times_root-clause-no_more
 returns-in_err-times_root-clause-no_more g c =
-    let start = c.args.start in
-    let stride = c.args.stride in
-    let points = c.args.points.now in
+    let start = c.args.spaced.now.start in
+    let stride = c.args.spaced.now.stride in
+    let points = c.args.spaced.now.points.now in
     let j = c.loop-j.j in
     let more = count_false-next_missing start stride points j (c.get.ensures ∙ ap Some c.if-not-get.true) in
     let rises = count_false-rises start stride points c.args.count (j + 1) (omega arith) in
@@ -91,9 +91,9 @@ returns-in_err-times_root-clause-no_more g c =
 
 pub returns-in_err-mul_assign-clause-no_more : goal.returns-in_err-mul_assign-clause-no_more
 returns-in_err-mul_assign-clause-no_more g c =
-    let start = c.args.start in
-    let stride = c.args.stride in
-    let points = c.args.points.now in
+    let start = c.args.spaced.now.start in
+    let stride = c.args.spaced.now.stride in
+    let points = c.args.spaced.now.points.now in
     let j = c.loop-j.j in
     let rises = count_false-rises start stride points c.args.count (j + 1) (omega arith) in
     elim c.if-not-get.branch [

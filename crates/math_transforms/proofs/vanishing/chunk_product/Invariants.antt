@@ -12,7 +12,7 @@ invariant-loop-j g l =
     let sum = g.F.Additive.sum in
     let product = g.F.Multiplicative.product in
     let one = g.F.Ring.one in
-    let places = every l.start l.stride l.j l.points in
+    let places = every l.spaced.start l.spaced.stride l.j l.spaced.points.now in
     record {
       count : vec_len l.coefficients ≡ count_false places + 1;
       power : same l.power (power one product l.root l.j);

@@ -13,8 +13,11 @@ tree-requires-clause-room g c = omega (arith, merges-room c.args.lg c.requires.s
 pub tree-requires-clause-product_room : goal.tree-requires-clause-product_room
 tree-requires-clause-product_room g c = omega (arith, points-room c.args.lg c.requires.small)
 
-pub tree-requires-clause-fits : goal.tree-requires-clause-fits
-tree-requires-clause-fits g c = omega (arith, power_of_two-word c.args.lg c.requires.small)
+pub tree-requires-clause-spaced : goal.tree-requires-clause-spaced
+tree-requires-clause-spaced g c = record { start = omega arith; covers = omega (arith, c.requires.points); fits = omega (arith, c.requires.points, power_of_two-word c.args.lg c.requires.small) }
+
+pub tree-requires-clause-trees : goal.tree-requires-clause-trees
+tree-requires-clause-trees g c = record { domain = c.requires.domain; small = c.requires.small; evaluation = c.requires.evaluation; interpolation = c.requires.interpolation }
 
 pub unreachable-requires : goal.unreachable-requires
 unreachable-requires g c =
