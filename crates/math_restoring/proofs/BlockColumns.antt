@@ -17,7 +17,7 @@ use Rattle.math_transforms.proofs.WrittenRows.{part-read, put-before, put-within
 use Rattle.math_restoring.specs.CosetDivisions.{raised}
 use Rattle.math_restoring.specs.Restored.{item}
 use Rattle.math_restoring.proofs.CombinedColumns.{at, column, columns-equal, combined, combined-item, combined-length, combined-value, nought}
-use Rattle.math_restoring.proofs.ElementRing.{elements}
+use Rattle.math_values.proofs.ElementRing.{elements}
 
 -- where each coefficient is a sum of multiples, the value is that of the values
 at-total : (x u v : F) (p q s : List F) → length q ≡ length p → length s ≡ length p → ((i : ℕ) → i < length p → same (item s i) (sum (product (item p i) u) (product (item q i) v)))

@@ -1,25 +1,18 @@
 -- Values of columns of rows of cells: of combined columns, of rows after others, and of one row.
-use Rattle.std.proofs.Common.{◌≡◌, ◌∙◌, inl, inr, ℕ, ◌+◌, ◌-◌, ◌*◌, ◌<◌, List, [], ◌∷◌, ◌++◌, length, take, drop, get_or, refl, sym, ap, ap₂, subst, length-append, arith}
-use Rattle.std.proofs.Math.Seq.{drop-append_seam, take-append_seam}
-use Rattle.std.proofs.lemmas.Bool.{cases_lt}
-use Rattle.std.proofs.lemmas.List.{ext_get_or, get_or_append_left, get_or-append-add, get_or-take, get_or_past, length-map}
+use Rattle.std.proofs.Common.{◌≡◌, ◌∙◌, ℕ, ◌+◌, ◌*◌, ◌<◌, List, [], ◌∷◌, length, take, get_or, refl, sym, ap₂, arith}
+use Rattle.std.proofs.lemmas.List.{ext_get_or, get_or-take, length-map}
 use Rattle.std.proofs.lemmas.Nat.{mul-add-lt}
-use Rattle.math_theory.specs.Coefficients.{HaveSameCoefficients}
 use Rattle.math_theory.specs.OverRing as OverRing
-use Rattle.math_theory.proofs.polynomials.Coefficients.{coefficient-multiple, coefficient-sum, length-sum, value-HaveSameCoefficients}
+use Rattle.math_theory.proofs.polynomials.Coefficients.{coefficient-multiple, coefficient-sum, length-sum}
 use Rattle.math_theory.proofs.polynomials.Values.{value-horner, value-multiple, value-sum}
-use Rattle.math_theory.proofs.rings.Normal.{ring, ◌⊕◌, ◌⊗◌, 𝟘, v0, v1, v2, v3}
-use Rattle.math_theory.proofs.transforms.EvenOddItems.{value-append}
+use Rattle.math_theory.proofs.rings.Normal.{ring, ◌⊕◌, ◌⊗◌, 𝟘, v0, v1}
 use Rattle.math_base.specs.declared.fields.goldilocks.F.{F}
-use Rattle.math_base.specs.Elements.{number, residue, same, sum, product}
-use Rattle.math_base.proofs.ElementNumbers.{same_number}
+use Rattle.math_base.specs.Elements.{residue, sum, product}
 use Rattle.math_transforms.specs.DomainValues.{matrix_of}
 use Rattle.math_transforms.specs.Matrices.{column_of}
-use Rattle.math_transforms.proofs.ColumnHalves.{column-halves}
 use Rattle.math_transforms.proofs.DomainSteps.{column-cell}
 use Rattle.math_transforms.proofs.MatrixRows.{length-column}
-use Rattle.math_restoring.specs.CosetDivisions.{raised}
-use Rattle.math_restoring.proofs.ElementRing.{elements}
+use Rattle.math_values.proofs.ElementRing.{elements}
 
 -- zero
 abbrev pub nought : F
@@ -32,10 +25,6 @@ column n c k cells = column_of nought (matrix_of n c cells) k
 -- the value of a list of coefficients
 abbrev pub at : F → List F → F
 at x p = OverRing.value elements x p
-
--- polynomials with the same coefficients have the same value at each point
-pub same_values : (x : F) (p q : List F) → HaveSameCoefficients same nought p q → same (at x p) (at x q)
-same_values x p q h = ap number (value-HaveSameCoefficients elements x p q (λ i. same_number _ _ (h i)))
 
 -- multiples of two lists of coefficients, added
 abbrev pub combined : F → F → List F → List F → List F

@@ -1,5 +1,5 @@
 -- Powers of the points of a coset and of the shift.
-use Rattle.std.proofs.Common.{◌≡◌, ◌≢◌, ◌∙◌, ℕ, suc, ◌+◌, ◌-◌, ◌*◌, ◌<◌, ◌≤◌, ◌^◌, List, [], ◌∷◌, refl, sym, ap, ap₂, pow-add, mul_comm, lit<, arith}
+use Rattle.std.proofs.Common.{◌≡◌, ◌≢◌, ◌∙◌, ℕ, suc, ◌+◌, ◌-◌, ◌*◌, ◌<◌, ◌≤◌, ◌^◌, [], ◌∷◌, refl, sym, ap, ap₂, pow-add, mul_comm, lit<, arith}
 use Rattle.math_numbers.specs.Goldilocks.{P}
 use Rattle.math_numbers.specs.PowersModulo.{power_mod}
 use Rattle.math_numbers.proofs.PowersModulo.{power_mod-by_squaring, power_mod-of_mod, power_by_squaring}
@@ -23,7 +23,7 @@ use Rattle.math_transforms.specs.RootTrees.{twos}
 use Rattle.math_transforms.proofs.PowersOfTwo.{power_of_two-double}
 use Rattle.math_restoring.specs.CosetDivisions.{coset_point, domain_point, power_below, raised}
 use Rattle.math_restoring.proofs.CombinedColumns.{nought}
-use Rattle.math_restoring.proofs.ElementRing.{elements}
+use Rattle.math_values.proofs.ElementRing.{elements}
 use Rattle.math_restoring.proofs.RaisedElements.{one, root-half, root-turn}
 use Rattle.math_transforms.proofs.ReversedBits.{reversed-high}
 

@@ -26,7 +26,7 @@ use Rattle.math_restoring.specs.Restored.{item}
 use Rattle.math_restoring.proofs.BlockColumns.{blocks-all, column-before, column-taken, rows-within}
 use Rattle.math_restoring.proofs.CombinedColumns.{at, column, combined, combined-length, combined-value, nought}
 use Rattle.math_restoring.proofs.CosetPowers.{coset-power, even-power, minus-nonzero, odd-power, plus-nonzero, power-below, shift_coset, twos-more}
-use Rattle.math_restoring.proofs.ElementRing.{elements}
+use Rattle.math_values.proofs.ElementRing.{elements}
 use Rattle.math_restoring.proofs.PointsOfTrees.{inverse-coset_point, inverse-domain_point, tree-coset_point}
 use Rattle.math_restoring.proofs.RaisedElements.{lower_root}
 

@@ -2,7 +2,6 @@ pub mod BlockColumns
 pub mod CombinedColumns
 pub mod CosetPowers
 pub mod DividedColumns
-pub mod ElementRing
 pub mod FilledPoints
 pub mod MadeDivisions
 pub mod PlacedRows

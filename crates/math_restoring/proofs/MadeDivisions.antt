@@ -26,7 +26,6 @@ use Rattle.math_restoring.specs.Restored.{item}
 use Rattle.math_restoring.proofs.BlockColumns.{blocks-all}
 use Rattle.math_restoring.proofs.CombinedColumns.{column, columns-equal, nought}
 use Rattle.math_restoring.proofs.CosetPowers.{coset-power, shift_coset}
-use Rattle.math_restoring.proofs.ElementRing.{elements}
 use Rattle.math_restoring.proofs.PointsOfTrees.{tree-coset_point, tree-domain_point}
 use Rattle.math_restoring.proofs.RaisedElements.{lower_root}
 

@@ -1,5 +1,5 @@
 -- The points below trees of square roots, of the powers of a root of unity and of their inverses.
-use Rattle.std.proofs.Common.{◌≡◌, ◌∙◌, ℕ, zero, suc, ◌+◌, ◌-◌, ◌*◌, ◌<◌, ◌≤◌, ◌^◌, List, [], ◌∷◌, length, refl, sym, ap, arith}
+use Rattle.std.proofs.Common.{◌≡◌, ◌∙◌, ℕ, zero, suc, ◌+◌, ◌<◌, ◌≤◌, ◌^◌, List, [], ◌∷◌, refl, sym, ap, arith}
 use Rattle.math_theory.specs.BitReversal.{bit_reversed}
 use Rattle.math_theory.specs.Rings.{CommutativeRing}
 use Rattle.math_theory.proofs.classes.Classes.{Class, class, class_same, same_class, ring_of_classes}
@@ -17,7 +17,7 @@ use Rattle.math_transforms.proofs.RootInverses.{inverse-tree_squares}
 use Rattle.math_transforms.proofs.TreeEntries.{root-tree}
 use Rattle.math_transforms.proofs.TreePoints.{point-class}
 use Rattle.math_restoring.specs.CosetDivisions.{coset_point, domain_point, raised}
-use Rattle.math_restoring.proofs.ElementRing.{elements}
+use Rattle.math_values.proofs.ElementRing.{elements}
 use Rattle.math_restoring.proofs.RaisedElements.{one, root-apart, root-half}
 
 -- both kinds of trees are trees of square roots

@@ -9,7 +9,7 @@ use Rattle.math_base.specs.ElementRootLaws.{field, roots}
 use Rattle.math_base.specs.Elements.{negative, number, residue, root_of, same, product}
 use Rattle.math_base.proofs.ElementNumbers.{same_number}
 use Rattle.math_restoring.specs.CosetDivisions.{raised}
-use Rattle.math_restoring.proofs.ElementRing.{elements}
+use Rattle.math_values.proofs.ElementRing.{elements}
 
 -- one
 abbrev pub one : F

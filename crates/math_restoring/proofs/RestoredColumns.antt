@@ -17,8 +17,9 @@ use Rattle.math_transforms.proofs.MatrixRows.{length-column}
 use Rattle.math_restoring.specs.declared.dividing.CosetDivision.{CosetDivision}
 use Rattle.math_restoring.specs.CosetDivisions.{DoColumnsFit, IsCosetDivision, raised}
 use Rattle.math_restoring.specs.Restored.{AreDistinct, AreFilled, ArePlaced, ArePlacesOf, AreTaken, HaveCellsAsValues}
-use Rattle.math_restoring.proofs.CombinedColumns.{at, column, column_kept, nought, one_row, same_values}
-use Rattle.math_restoring.proofs.ElementRing.{elements}
+use Rattle.math_restoring.proofs.CombinedColumns.{at, column, column_kept, nought, one_row}
+use Rattle.math_values.proofs.ElementRing.{elements}
+use Rattle.math_values.proofs.ElementValues.{same_values}
 use Rattle.math_transforms.proofs.ReversedBits.{reversed-only}
 
 -- the value at power i of the root of order 2^lg

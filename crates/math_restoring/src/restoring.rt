@@ -7,7 +7,6 @@
 
 ghost use Rattle.std.specs.Prelude.{◌≡◌, ◌+◌, ◌*◌, ◌<◌, ◌≤◌, ◌^◌, ℕ, All, length};
 ghost use Rattle.std.specs.Prelude.{IfOk, OnOk};
-ghost use Rattle.math_theory.specs.BitReversal.{bit_reversed};
 ghost use Rattle.math_theory.specs.Recovery.{count_true};
 ghost use Rattle.math_base.specs.Elements.{product, same};
 ghost use Rattle.math_restoring.specs.CosetDivisions.{IsCosetDivision};
@@ -17,16 +16,14 @@ ghost use Rattle.math_restoring.specs.Restored.{AreTaken, HaveCellsAsValues, ite
 use crate::dividing::{CosetDivision, coset_division, divide};
 use math_base::algebra::Mem;
 use math_base::fields::goldilocks::F;
+use math_transforms::transform::order::reversed;
 use math_transforms::transform::size_of;
 use math_transforms::vanishing_points::VanishingPoints;
+use math_values::strips::{most_cols, strip_room};
 use std::alloc::Global;
 
 /// How many cells a strip has at most, where eight columns have no more: 128 KiB.
 const STRIP_CELLS: usize = 16384;
-
-/// How many columns a strip has at least, where so many are left: a line of a cache has eight
-/// cells.
-const LEAST_COLS: usize = 8;
 
 /// The 2^lg points of a domain, of which those of the indices are filled.
 fn points_of(alloc: Global, indices: &[u32], lg: u8) -> Mem<VanishingPoints>
@@ -44,49 +41,17 @@ fn points_of(alloc: Global, indices: &[u32], lg: u8) -> Mem<VanishingPoints>
     Ok(points)
 }
 
-/// The number whose lg bits are those of i in the opposite order.
-fn bit_reversed(i: usize, lg: u8) -> usize
-    requires small { lg < 64 }
-    ensures { result ≡ bit_reversed lg i }
-{
-    if lg == 0 {
-        return 0;
-    }
-    i % 2 * size_of(lg - 1) + bit_reversed(i / 2, lg - 1)
-}
-
 /// The places of the indices in the order of the tree.
 fn places_of(alloc: Global, indices: &[u32], lg: u8) -> Mem<Vec<usize>>
     requires small { lg < 64 }
+    requires below { All (λ i. i < 2 ^ lg) indices.now }
     ensures { IfOk result (λ v. ArePlacesOf lg indices.now v.items) }
 {
     let mut places = Vec::with_capacity(alloc, indices.len())?;
     for t in 0..indices.len() {
-        places.push(bit_reversed(indices[t] as usize, lg))?;
+        places.push(reversed(indices[t] as usize, lg))?;
     }
     Ok(places)
-}
-
-/// How many columns a strip has at most.
-fn most_cols(width: usize, lg: u8) -> usize
-    requires domain { lg ≤ 32 }
-    requires wide { 1 ≤ width }
-    ensures some { 1 ≤ result }
-    ensures size { 2 ^ lg * result < 2 ^ 64 }
-{
-    (STRIP_CELLS >> lg).max(LEAST_COLS).min(width)
-}
-
-/// Room for 2^lg rows of so many columns: zeros.
-fn strip_room(alloc: Global, lg: u8, cols: usize) -> Mem<Vec<F>>
-    requires small { lg ≤ 32 }
-    requires size { 2 ^ lg * cols < 2 ^ 64 }
-    ensures { IfOk result (λ room. length room.items ≡ 2 ^ lg * cols) }
-{
-    let count = size_of(lg) * cols;
-    let mut room = Vec::with_capacity(alloc, count)?;
-    room.resize(count, F::from(0))?;
-    Ok(room)
 }
 
 /// Writes over the room the cells times the factor.
@@ -207,8 +172,8 @@ pub fn put_restored(
     let points = points_of(alloc, indices, lg)?;
     let places = places_of(alloc, indices, lg)?;
     let division = coset_division(alloc, points, lg, part)?;
-    let most = most_cols(width, lg);
-    let mut room = strip_room(alloc, lg, most)?;
+    let most = most_cols(STRIP_CELLS, lg, width);
+    let mut room = strip_room(alloc, size_of(lg), most)?;
     restore_strips(
         alloc, cells, width, indices, &places, &division, most, &mut room,
     )?;

@@ -16,8 +16,8 @@ use Rattle.math_ntt.specs.Evaluations.{EvaluationsOf}
 use Rattle.math_ntt.proofs.MarkedRows.{inside-true}
 use Rattle.math_ntt.proofs.MatrixPlaces.{columns_are_full, columns_hold_cells}
 use Rattle.math_splitting.specs.declared.shards.Shard.{Shard}
-use Rattle.math_shards.specs.Correcting.{CorrectTo, HaveOneCorrection, settled, settled_indices}
-use Rattle.math_shards.specs.Joining.{ArePolynomialsOf, HoldsShards, IsSound}
+use Rattle.math_shards.specs.Correcting.{AreSettledRows, CorrectTo, HaveOneCorrection, settled, settled_indices}
+use Rattle.math_shards.specs.Joining.{ArePolynomialsOf, IsSound}
 use Rattle.math_splitting.specs.Shards.{IsShardOf, JoinTo, distinct_indices, has_index, rows_for, value_at_index, width_for}
 use Rattle.math_shards.proofs.CountedIndices.{indices-outside, lost_outside, outside, outside_not_among, is_outside}
 use Rattle.math_shards.proofs.FilledShards.{count_filled, count_marks, index_found, index_there, indices_below, no_indices}
@@ -25,7 +25,7 @@ use Rattle.math_shards.proofs.OnlyData.{only_data}
 use Rattle.math_shards.proofs.RecoveredShards.{cell_of_shard}
 use Rattle.math_splitting.proofs.SameCells.{nought}
 use Rattle.math_shards.proofs.SettledShards.{settled_sound}
-use Rattle.math_restoring.proofs.CombinedColumns.{same_values}
+use Rattle.math_values.proofs.ElementValues.{same_values}
 
 -- the settled shards but those of wrong indices are shards of the data
 abbrev pub right_of : (words : List ℕ) (shards : List Shard) → CorrectTo words shards → List Shard
@@ -99,14 +99,6 @@ one_correction words others (first ∷ rest) c d =
     only_data words others (outside both (settled shards))
     (joined_outside words shards c d.wrong (omega (arith, c.enough, d.enough, least, as_many)) both (λ i n m. n (Contains-append_left c.wrong d.wrong i m)) count)
     (joined_outside others shards d c.wrong (omega (arith, c.enough, d.enough, least, as_many)) both (λ i n m. n (Contains-append_right c.wrong d.wrong i m)) (omega (arith, count)))
-
--- the shards are the first one and others, all sound, and the rows of e are filled with those of settled indices
-pub record AreSettledRows (lg : ℕ) (first : Shard) (shards : List Shard) (e : EvaluationsOf F) : Type 0 where
-  pub short : first.total < 2 ^ 32
-  pub next : IsNextPowerOfTwo first.total (2 ^ lg)
-  pub holds : HoldsShards lg (length first.cells.items) (settled shards) e
-  pub some : 0 < length shards
-  pub sound : All (IsSound first) shards
 
 module _ (lg : ℕ) (first : Shard) (shards : List Shard) (e : EvaluationsOf F) (r : AreSettledRows lg first shards e) where
   -- the numbers of the first one are such as shards have

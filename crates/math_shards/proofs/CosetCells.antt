@@ -11,7 +11,8 @@ use Rattle.math_transforms.specs.Matrices.{column_of}
 use Rattle.math_transforms.proofs.MatrixRows.{cell-of_column}
 use Rattle.math_transforms.proofs.WrittenRows.{part-read, row-done}
 use Rattle.math_shards.specs.Cosets.{AreCosetValues, AreMultiples}
-use Rattle.math_shards.proofs.RootPowers.{dilated_values, nought-product, product-one, raised, raised-none}
+use Rattle.math_restoring.specs.CosetDivisions.{raised}
+use Rattle.math_shards.proofs.RootPowers.{dilated_values, nought-product, product-one, raised-none}
 use Rattle.math_splitting.proofs.SameCells.{nought}
 use Rattle.math_splitting.proofs.StripColumns.{zeros-behind}
 

@@ -8,13 +8,13 @@ use Rattle.std.proofs.lemmas.Nat.{shr_below, shr_split}
 use Rattle.math_theory.specs.Values.{value}
 use Rattle.math_base.specs.declared.fields.goldilocks.F.{F}
 use Rattle.math_base.specs.Elements.{number, residue, root_of, same, sum, product}
-use Rattle.math_base.proofs.ElementNumbers.{same_number}
 use Rattle.math_ntt.proofs.MatrixPlaces.{rows_are_full, rows_hold_cells}
 use Rattle.math_transforms.specs.DomainValues.{matrix_of}
 use Rattle.math_transforms.specs.Matrices.{MatrixOf, column_of}
 use Rattle.math_shards.specs.Cosets.{AreCosetValues, HasCosetCells, HasValuesFrom}
 use Rattle.math_splitting.specs.Shards.{value_at_index}
-use Rattle.math_shards.proofs.RootPowers.{coset_point, raised}
+use Rattle.math_restoring.specs.CosetDivisions.{raised}
+use Rattle.math_shards.proofs.RootPowers.{coset_point}
 use Rattle.math_splitting.proofs.SameCells.{nought, same_by_items}
 
 -- the first n cells of the row are the values, at power `index` of the root of order 2^lg, of the polynomials whose coefficients are the first columns of m
@@ -38,8 +38,7 @@ module _ (lg s start : ℕ) (m : MatrixOf F) (from c : ℕ) (ratio : F) (strip :
   strip_at k b =
       let v = matrix_of (2 ^ lg) c strip in
       let at : start + 2 ^ s * t ≡ i = omega (arith, here, shr_split i s) in
-      let point : product ratio (raised (root_of lg) t) ≡ raised (root_of (lg + s)) i =
-      same_number (product ratio (raised (root_of lg) t)) (raised (root_of (lg + s)) (start + 2 ^ s * t)) (coset_point lg s start t ratio small is) ∙ ap (raised (root_of (lg + s))) at in
+      let point : product ratio (raised (root_of lg) t) ≡ raised (root_of (lg + s)) i = coset_point lg s start t ratio small is ∙ ap (raised (root_of (lg + s))) at in
       ap number (rows_hold_cells v t k nought b) ∙ values t k inside b ∙ ap (λ x. number (value nought sum product (residue 1) x (column_of nought m (from + k)))) point
 
   row_at : (k : ℕ) → k < c → get_or (take c (drop from row)) k nought ≡ get_or row (from + k) nought

@@ -14,7 +14,7 @@ use Rattle.math_ntt.specs.MatrixPlaces.{IsFull}
 use Rattle.math_ntt.proofs.MatrixPlaces.{rows_are_full, rows_hold_cells, rows_are_filled_alone}
 use Rattle.math_splitting.specs.declared.shards.Shard.{Shard}
 use Rattle.math_splitting.specs.Shards.{has_index}
-use Rattle.math_restoring.proofs.ElementRing.{same_are_equal}
+use Rattle.math_values.proofs.ElementRing.{same_are_equal}
 use Rattle.math_splitting.proofs.SameCells.{nought, same_by_items}
 use Rattle.math_shards.specs.Joining.{IsSound, HaveConflict, HoldsShards}
 

@@ -1,6 +1,5 @@
 -- Rows that fit data, and the shards that they are.
-use Rattle.std.proofs.Common.{◌≡◌, ◌∙◌, ℕ, ◌*◌, ◌/◌, ◌<◌, ◌≤◌, ◌^◌, ◌==◌, ◌||◌, List, [], ◌∷◌, Bool, cond, length, map, get_or, refl, sym, ap, ap₂, subst, arith}
-use Rattle.std.specs.Int.{IsNextPowerOfTwo}
+use Rattle.std.proofs.Common.{◌≡◌, ◌∙◌, ℕ, ◌*◌, ◌/◌, ◌<◌, ◌≤◌, ◌==◌, ◌||◌, List, [], ◌∷◌, Bool, cond, length, map, get_or, refl, sym, ap, ap₂, subst, arith}
 use Rattle.std.specs.List.{All, AllZip, count_by, filter, list_any, range_with_len}
 use Rattle.std.proofs.Math.ListN.{get_or-map}
 use Rattle.std.proofs.Math.Nat.{mul-div_cancel_left}
@@ -13,12 +12,14 @@ use Rattle.math_transforms.specs.Matrices.{IsOfSize, MatrixOf, column_of}
 use Rattle.math_shards.specs.declared.shards.Error.{Error}
 use Rattle.math_shards.specs.declared.shards.Error.TheVariants.{Memory, TooFew, Mismatch, Index, Conflict, Inconsistent}
 use Rattle.math_splitting.specs.declared.shards.Shard.{Shard}
-use Rattle.math_shards.specs.Fitting.{AreDataOf, DoRowsFit, HasValuesOf, distinct_among}
+use Rattle.math_splitting.specs.declared.shards.layouts.Layout.{Layout}
+use Rattle.math_transforms.proofs.PresentIndices.{lg-only}
+use Rattle.math_shards.specs.Fitting.{AreDataOf, AreRowsOf, DoRowsFit, HasValuesOf, distinct_among}
 use Rattle.math_shards.specs.Joining.{HaveUnequalCells, IsDueOfRows, IsSound}
 use Rattle.math_splitting.specs.Shards.{IsShardOf, JoinTo, distinct_indices, has_index, rows_for, value_at_index, width_for}
 use Rattle.math_shards.proofs.ChosenRows.{distinct-most}
 use Rattle.math_shards.proofs.JoinedShards.{joined_numbers}
-use Rattle.math_splitting.proofs.LeastDomains.{domain_of}
+use Rattle.math_splitting.proofs.LayoutNumbers.{next_of}
 use Rattle.math_splitting.proofs.SameCells.{nought}
 use Rattle.math_splitting.proofs.LaidOutData.{rows_are_whole}
 
@@ -194,44 +195,45 @@ fit_of_join words first shards sound there j =
     }
 
 -- The elements of data that rows fit.
-module _ {R : Type 0} (index : R → ℕ) (cells : R → List F) (words : List ℕ) (min total width : ℕ) (elements : List F) (rows : List R) (size : length elements ≡ min * width)
-    (count : All (λ row. length (cells row) ≡ width) rows) (fit : DoRowsFit index cells words min total rows)
-    (only : (lg : ℕ) (m : MatrixOf F) → IsNextPowerOfTwo total (2 ^ lg) → IsOfSize m min width → All (λ row. HasValuesOf lg m (index row) (cells row)) rows → elements ≡ m.cells) where
+module _ {R : Type 0} (index : R → ℕ) (cells : R → List F) (words : List ℕ) (layout : Layout) (elements : List F) (rows : List R) (size : length elements ≡ layout.min * layout.width)
+    (held : AreRowsOf index cells layout rows) (fit : DoRowsFit index cells words layout.min layout.total rows)
+    (only : (m : MatrixOf F) → IsOfSize m layout.min layout.width → All (λ row. HasValuesOf layout.lg m (index row) (cells row)) rows → elements ≡ m.cells) where
   -- the rows are as wide as those that the data fill
-  width_of_fit : width ≡ width_for min words
+  width_of_fit : layout.width ≡ width_for layout.min words
   width_of_fit = go rows refl
     where
-      go : (all : List R) → rows ≡ all → width ≡ width_for min words
-      go [] e = absurd (omega (arith, fit.some, fit.enough, distinct-most total (map index rows), length-map rows index, ap length e))
-      go (r ∷ rest) e = let there : 0 < length rows = omega (arith, ap length e) in sym (count 0 r there) ∙ fit.count 0 r there
+      go : (all : List R) → rows ≡ all → layout.width ≡ width_for layout.min words
+      go [] e = absurd (omega (arith, layout.some, fit.enough, distinct-most layout.total (map index rows), length-map rows index, ap length e))
+      go (r ∷ rest) e = let there : 0 < length rows = omega (arith, ap length e) in sym (held.count 0 r there) ∙ fit.count 0 r there
 
   -- so where the coefficients that were found are the only ones, they are the elements of the data
-  pub data_of_fit : AreDataOf words min elements
-  data_of_fit =
-      let domain = domain_of total (omega (arith, fit.some, fit.within)) fit.short in
-      record {
-        each_word = fit.each_word;
-        few = fit.few;
-        packed = only domain.0 (rows_for min words) domain.1 (refl, sym width_of_fit, rows_are_whole min words fit.some ∙ ap (λ w. min * w) (sym width_of_fit)) (fit.values domain.0 domain.1);
-      }
+  pub data_of_fit : AreDataOf words layout.min elements
+  data_of_fit = record {
+    each_word = fit.each_word;
+    few = fit.few;
+    packed = only (rows_for layout.min words) (refl, sym width_of_fit, rows_are_whole layout.min words layout.some ∙ ap (λ w. layout.min * w) (sym width_of_fit)) (fit.values layout.lg (next_of layout));
+  }
 
   -- and the rows have the values of their columns
-  pub values_of_fit : (lg : ℕ) → IsNextPowerOfTwo total (2 ^ lg) → All (λ row. HasValuesOf lg (matrix_of min width elements) (index row) (cells row)) rows
-  values_of_fit lg next =
-      subst (λ (m : MatrixOf F). All (λ (row : R). HasValuesOf lg m (index row) (cells row)) rows) (sym (rows_of_data words min width elements fit.some size data_of_fit)) (fit.values lg next)
+  pub values_of_fit : All (λ row. HasValuesOf layout.lg (matrix_of layout.min layout.width elements) (index row) (cells row)) rows
+  values_of_fit =
+      subst (λ (m : MatrixOf F). All (λ (row : R). HasValuesOf layout.lg m (index row) (cells row)) rows) (sym (rows_of_data words layout.min layout.width elements layout.some size data_of_fit))
+      (fit.values layout.lg (next_of layout))
 
 -- rows that have the values of the columns of the elements of data fit the data
-pub rows_fit : {R : Type 0} (index : R → ℕ) (cells : R → List F) (words : List ℕ) (min total width : ℕ) (elements : List F) (rows : List R) → 1 ≤ min → min ≤ total → total < 2 ^ 32
-    → length elements ≡ min * width → AreDataOf words min elements → min ≤ distinct_among total (map index rows) → All (λ row. index row < total) rows → All (λ row. length (cells row) ≡ width) rows
-    → ((lg : ℕ) → IsNextPowerOfTwo total (2 ^ lg) → All (λ row. HasValuesOf lg (matrix_of min width elements) (index row) (cells row)) rows) → DoRowsFit index cells words min total rows
-rows_fit index cells words min total width elements rows some within short size h enough below count values = record {
-  some = some;
-  within = within;
-  short = short;
+pub rows_fit : {R : Type 0} (index : R → ℕ) (cells : R → List F) (words : List ℕ) (layout : Layout) (elements : List F) (rows : List R) → AreRowsOf index cells layout rows
+    → length elements ≡ layout.min * layout.width → AreDataOf words layout.min elements → layout.min ≤ distinct_among layout.total (map index rows)
+    → All (λ row. HasValuesOf layout.lg (matrix_of layout.min layout.width elements) (index row) (cells row)) rows → DoRowsFit index cells words layout.min layout.total rows
+rows_fit {R} index cells words layout elements rows held size h enough values = record {
+  some = layout.some;
+  within = layout.within;
+  short = layout.short;
   each_word = h.each_word;
   few = h.few;
   enough = enough;
-  below = below;
-  count = λ i r l. count i r l ∙ width_of_data words min width elements some size h;
-  values = λ lg next. values_of_data index cells words min width lg elements rows some size h (values lg next);
+  below = held.below;
+  count = λ i r l. held.count i r l ∙ width_of_data words layout.min layout.width elements layout.some size h;
+  values = λ lg next.
+      subst (λ n. All (λ (row : R). HasValuesOf n (rows_for layout.min words) (index row) (cells row)) rows) (lg-only layout.total layout.lg lg (omega (arith, layout.some, layout.within)) (next_of layout) next)
+      (values_of_data index cells words layout.min layout.width layout.lg elements rows layout.some size h values);
 }

@@ -12,7 +12,7 @@ use Rattle.math_splitting.specs.ShardEncoding.{AreSameShards}
 use Rattle.math_splitting.specs.Shards.{ChosenShardsJoin, IsSameAsOne, IsShardOf, JoinTo, rows_for, value_at_index, width_for}
 use Rattle.math_shards.proofs.FilledShards.{no_indices}
 use Rattle.math_splitting.proofs.LeastDomains.{domain_of}
-use Rattle.math_restoring.proofs.ElementRing.{same_are_equal}
+use Rattle.math_values.proofs.ElementRing.{same_are_equal}
 use Rattle.math_splitting.proofs.SameCells.{nought, same_by_items}
 
 -- shards of one index for the same data have same cells

@@ -18,7 +18,7 @@ pub mod JoinedCorrection
 pub mod SplitShards
 pub mod WeightedColumns
 pub mod ChosenRows
-pub mod UnitShards
+pub mod UnitRows
 pub mod WeighedRows
 pub mod PutCoefficients
 pub mod OnlyCoefficients

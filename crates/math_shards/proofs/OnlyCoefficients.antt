@@ -17,7 +17,7 @@ use Rattle.math_ntt.proofs.MatrixPlaces.{columns_are_full}
 use Rattle.math_transforms.specs.DomainValues.{matrix_of}
 use Rattle.math_transforms.specs.Matrices.{AreSameMatrices, IsOfSize, MatrixOf, column_of}
 use Rattle.math_restoring.specs.Restored.{AreDistinct, HaveCellsAsValues}
-use Rattle.math_restoring.proofs.ElementRing.{same_are_equal}
+use Rattle.math_values.proofs.ElementRing.{same_are_equal}
 use Rattle.math_splitting.specs.Shards.{value_at_index}
 use Rattle.math_splitting.proofs.SameCells.{nought}
 use Rattle.math_shards.proofs.ShardRows.{same_by_columns}

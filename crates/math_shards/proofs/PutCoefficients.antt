@@ -8,7 +8,7 @@ use Rattle.math_base.specs.declared.fields.goldilocks.F.{F}
 use Rattle.math_base.specs.Elements.{product, sum}
 use Rattle.math_ntt.proofs.MatrixPlaces.{cells_are_written_alone, columns_are_full}
 use Rattle.math_transforms.specs.DomainValues.{matrix_of}
-use Rattle.math_transforms.specs.Matrices.{MatrixOf, column_of, row_of}
+use Rattle.math_transforms.specs.Matrices.{column_of, row_of}
 use Rattle.math_transforms.proofs.MatrixRows.{cell-of_column}
 use Rattle.math_shards.specs.Weights.{coefficient_of}
 use Rattle.math_splitting.proofs.SameCells.{nought}
@@ -42,19 +42,19 @@ column-more rows width column r value start cells v size l m e h =
     }
 
 -- in the first columns the coefficients of the columns of the start are written, and the cells of the further ones are as they were
-pub record ArePutBefore (weights : MatrixOf F) (count width : ℕ) (start : List F) (column : ℕ) (cells : List F) : Type 0 where
+pub record ArePutBefore (weights : List F) (count width : ℕ) (start : List F) (column : ℕ) (cells : List F) : Type 0 where
   pub done : (r k : ℕ) → r < count → k < column → get_or cells (r * width + k) nought ≡ coefficient_of weights (matrix_of count width start) r k
   pub others : (r k : ℕ) → r < count → column ≤ k → k < width → get_or cells (r * width + k) nought ≡ get_or start (r * width + k) nought
 
 -- no column yet
-pub columns-none : (weights : MatrixOf F) (count width : ℕ) (start : List F) → ArePutBefore weights count width start 0 start
+pub columns-none : (weights : List F) (count width : ℕ) (start : List F) → ArePutBefore weights count width start 0 start
 columns-none weights count width start = record {
   done = λ r k a b. absurd (omega (arith, b));
   others = λ r k a b l. refl;
 }
 
 -- a further column is that of the start
-pub column-kept : (weights : MatrixOf F) (count width column : ℕ) (start cells : List F) → length start ≡ count * width → length cells ≡ count * width → column < width
+pub column-kept : (weights : List F) (count width column : ℕ) (start cells : List F) → length start ≡ count * width → length cells ≡ count * width → column < width
     → ArePutBefore weights count width start column cells → column_in count width cells column ≡ column_in count width start column
 column-kept weights count width column start cells size other l h =
     let m = matrix_of count width cells in
@@ -64,9 +64,9 @@ column-kept weights count width column start cells size other l h =
     cell-of_column nought m column r l other ∙ h.others r column inside (omega arith) l ∙ sym (cell-of_column nought n column r l size))
 
 -- one column more
-pub columns-more : (weights : MatrixOf F) (count width column : ℕ) (start old new room : List F) → length start ≡ count * width → length old ≡ count * width
+pub columns-more : (weights : List F) (count width column : ℕ) (start old new room : List F) → length start ≡ count * width → length old ≡ count * width
     → room ≡ column_in count width old column → column < width
-    → ((r : ℕ) → r < length room → get_or new (r * width + column) nought ≡ weighted_sum nought sum product room (row_of weights r))
+    → ((r : ℕ) → r < length room → get_or new (r * width + column) nought ≡ weighted_sum nought sum product room (row_of (matrix_of (length room) (length room) weights) r))
     → ((r k : ℕ) → r < length room → k < width → ¬ (k ≡ column) → get_or new (r * width + k) nought ≡ get_or old (r * width + k) nought)
     → ArePutBefore weights count width start column old → ArePutBefore weights count width start (column + 1) new
 columns-more weights count width column start old new room size other is l put kept h =
@@ -79,7 +79,8 @@ columns-more weights count width column start old new room size other is l put k
             | inl before ↦ kept r k inside (omega (arith, before, l)) (λ same. omega (arith, same, before)) ∙ h.done r k a before
             | inr after ↦
                 let same : k ≡ column = omega (arith, after, b) in
-                ap (λ j. get_or new (r * width + j) nought) same ∙ put r inside ∙ ap (λ xs. weighted_sum nought sum product xs (row_of weights r)) from_start
+                ap (λ j. get_or new (r * width + j) nought) same ∙ put r inside ∙ ap (λ n. weighted_sum nought sum product room (row_of (matrix_of n n weights) r)) long
+                ∙ ap (λ xs. weighted_sum nought sum product xs (row_of (matrix_of count count weights) r)) from_start
                 ∙ ap (λ j. coefficient_of weights (matrix_of count width start) r j) (sym same)
           ];
       others = λ r k a b m.

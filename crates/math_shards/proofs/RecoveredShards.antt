@@ -14,7 +14,7 @@ use Rattle.math_base.specs.ElementRootLaws.{field, roots}
 use Rattle.math_base.specs.Elements.{number, residue, same, sum, product, root_of}
 use Rattle.math_ntt.specs.Evaluations.{EvaluationsOf}
 use Rattle.math_ntt.specs.MatrixPlaces.{IsFull}
-use Rattle.math_transforms.specs.Matrices.{MatrixOf, column_of, row_of}
+use Rattle.math_transforms.specs.Matrices.{column_of, row_of}
 use Rattle.math_ntt.proofs.MatrixPlaces.{columns_hold_cells, rows_are_full, rows_hold_cells}
 use Rattle.math_splitting.specs.declared.shards.Shard.{Shard}
 use Rattle.math_shards.specs.Joining.{HoldsShards}
@@ -25,10 +25,6 @@ use Rattle.math_splitting.proofs.SameCells.{nought}
 -- p has the filled cells as its values at the powers of the root of order 2^lg, and no more coefficients than these
 abbrev pub FitsCells : ℕ → List F → List Bool → List F → Type 0
 FitsCells lg cells filled p = Fits same nought sum product (residue 1) (root_of lg) cells filled p
-
--- each column of q does, for the column of e and its filled rows
-abbrev pub FitColumns : ℕ → EvaluationsOf F → MatrixOf F → Type 0
-FitColumns lg e q = (k : ℕ) → k < e.matrix.cols → FitsCells lg (column_of nought e.matrix k) e.filled (column_of nought q k)
 
 -- the filled cells are those of the indices of shards: so p fits, where it has as its values there what the cells are
 pub fits_shards : (lg : ℕ) (shards : List Shard) (cells : List F) (filled : List Bool) (p : List F) → length p ≤ count_true filled

@@ -13,7 +13,7 @@ use Rattle.math_ntt.specs.PolynomialRows.{HaveSamePolynomials}
 use Rattle.math_transforms.proofs.MatrixRows.{cell-of_column}
 use Rattle.math_shards.specs.Joining.{ArePolynomialsOf}
 use Rattle.math_splitting.specs.Shards.{rows_for, width_for}
-use Rattle.math_restoring.proofs.ElementRing.{same_are_equal}
+use Rattle.math_values.proofs.ElementRing.{same_are_equal}
 use Rattle.math_splitting.proofs.LaidOutData.{rows_are_whole}
 use Rattle.math_splitting.proofs.SameCells.{nought, same_by_items}
 

@@ -1,8 +1,10 @@
--- The first shard that is not sound.
+-- Sound shards, and the first shard that is not sound.
 use Rattle.std.proofs.Common.{◌≡◌, ℕ, ◌+◌, ◌<◌, List, [], ◌∷◌, ◌++◌, length, take, drop, get_or, sym, ap, subst, ◌∙◌, arith}
-use Rattle.std.specs.List.{AllWithin}
+use Rattle.std.specs.List.{All, AllWithin}
 use Rattle.std.proofs.lemmas.List.{take-append-drop, take_more, append_assoc, get_or-take, length-take-le}
 use Rattle.math_splitting.specs.declared.shards.Shard.{Shard}
+use Rattle.math_splitting.specs.declared.shards.layouts.Layout.{Layout}
+use Rattle.math_shards.specs.Fitting.{AreRowsOf}
 use Rattle.math_shards.specs.Joining.{HasUnsound, IsSound}
 
 -- a list is what stands before place i, the item there, and what stands after it
@@ -22,4 +24,12 @@ unsound_at first P shards i s l e sound fault = record {
   parts = parts_at shards i s l e;
   sound = λ k d b. let inside : k < i = omega (arith, b, length-take-le i shards (omega (arith, l))) in subst (IsSound first) (sym (get_or-take i shards k d inside)) (sound k d (omega arith) inside);
   fault = fault;
+}
+
+-- sound shards are rows of the layout that the first one says
+pub rows_of_sound : (first : Shard) (shards : List Shard) (layout : Layout) → layout.total ≡ first.total → layout.width ≡ length first.cells.items → All (IsSound first) shards
+    → AreRowsOf (λ (s : Shard). s.index) (λ s. s.cells.items) layout shards
+rows_of_sound first shards layout total wide sound = record {
+  below = λ k d l. omega (arith, (sound k d l).1, (sound k d l).0.most, total);
+  count = λ k d l. (sound k d l).0.count ∙ sym wide;
 }

@@ -10,7 +10,7 @@ use Rattle.math_ntt.proofs.PaddedPolynomials.{next_power_of_two-once}
 use Rattle.math_splitting.specs.declared.shards.Shard.{Shard}
 use Rattle.math_splitting.specs.Shards.{IsShardOf, rows_for, value_at_index, width_for}
 use Rattle.math_splitting.proofs.SameCells.{nought}
-use Rattle.math_restoring.proofs.CombinedColumns.{same_values}
+use Rattle.math_values.proofs.ElementValues.{same_values}
 
 -- the cell of v in row j and column k is the value, at power j of the root, of column k of p
 abbrev pub HoldsValues : MatrixOf F → MatrixOf F → Type 0

@@ -11,13 +11,13 @@ use Rattle.math_ntt.specs.Evaluations.{EvaluationsOf}
 use Rattle.math_ntt.specs.MatrixPlaces.{IsFull}
 use Rattle.math_ntt.proofs.MatrixPlaces.{rows_are_full, rows_hold_cells}
 use Rattle.math_splitting.specs.declared.shards.Shard.{Shard}
-use Rattle.math_shards.specs.Correcting.{AreCorrected, ArePositionsWithout, CorrectTo, IsRowOf}
+use Rattle.math_shards.specs.Correcting.{AreCorrected, ArePositionsWithout, AreSettledRows, CorrectTo, IsRowOf}
 use Rattle.math_shards.specs.Joining.{ArePolynomialsOf, IsSound}
 use Rattle.math_splitting.specs.Shards.{IsShardOf, rows_for}
-use Rattle.math_shards.proofs.CorrectedShards.{AreSettledRows, data_of_corrected, least_of, rows_are_domain, size_of_corrected, total_of}
-use Rattle.math_restoring.proofs.ElementRing.{same_are_equal}
+use Rattle.math_shards.proofs.CorrectedShards.{data_of_corrected, least_of, rows_are_domain, size_of_corrected, total_of}
+use Rattle.math_values.proofs.ElementRing.{same_are_equal}
 use Rattle.math_splitting.proofs.SameCells.{nought, same_by_items}
-use Rattle.math_restoring.proofs.CombinedColumns.{same_values}
+use Rattle.math_values.proofs.ElementValues.{same_values}
 use Rattle.math_shards.proofs.SplitShards.{HoldsValues, shard_of_row}
 
 -- P holds of the shard at position i

@@ -1,16 +1,9 @@
 -- Polynomials whose coefficients are weighted sums of the same items: where the columns of the weights have the values one and zero, the value is one of the items.
 use Rattle.std.proofs.Common.{◌≡◌, ◌≢◌, ℕ, suc, ◌<◌, List, [], ◌∷◌, length, map, get_or, refl, sym, ◌∙◌, ap, ap₂, arith}
 use Rattle.std.specs.List.{range_with_len}
-use Rattle.std.proofs.Math.ListN.{get_or-map}
-use Rattle.std.proofs.lemmas.List as Lists
 use Rattle.std.proofs.lemmas.List.FromFn.{get_or-map-range_with_len, length-map-range_with_len}
-use Rattle.math_theory.specs.Laws.{IsEquality, IsGroup, IsProduct, IsRing}
 use Rattle.math_theory.specs.OverRing as OverRing
 use Rattle.math_theory.specs.Rings.{CommutativeRing}
-use Rattle.math_theory.specs.Sums.{weighted_sum}
-use Rattle.math_theory.specs.Values.{value}
-use Rattle.math_theory.proofs.classes.Classes.{Class, class, class_same, same_class, ring_of_classes}
-use Rattle.math_theory.proofs.classes.ClassesOfLists.{coefficient-class, length-classes, value-class, weighted_sum-class}
 use Rattle.math_theory.proofs.polynomials.Values.{value-cons}
 use Rattle.math_theory.proofs.rings.Normal.{ring, ◌⊕◌, ◌⊗◌, 𝟘, v0, v1, v2, v3, v4, v5}
 use Rattle.math_theory.proofs.rings.WeightedSumLaws.{weighted_sum-all_zero, weighted_sum-one_at}
@@ -69,7 +62,7 @@ module _ {A : Type 0} (R : CommutativeRing A) where
       ∙ ap (λ v. sum (get_or row i R.zero) (product x v)) (sym (values-at x rows n i l))))
 
   -- where the value of column t is one and those of the others are zero, it is item t
-  value-at_place : (x : A) (xs : List A) (rows : List (List A)) (t : ℕ) → HaveLength (length xs) rows → t < length xs → value_of_column x rows t ≡ R.one
+  pub value-at_place : (x : A) (xs : List A) (rows : List (List A)) (t : ℕ) → HaveLength (length xs) rows → t < length xs → value_of_column x rows t ≡ R.one
       → ((i : ℕ) → i < length xs → i ≢ t → value_of_column x rows i ≡ R.zero)
       → OverRing.value R x (map (λ row. OverRing.weighted_sum R xs row) rows) ≡ get_or xs t R.zero
   value-at_place x xs rows t h l e z =
@@ -78,40 +71,3 @@ module _ {A : Type 0} (R : CommutativeRing A) where
       value-of_sums x xs rows h
       ∙ weighted_sum-one_at R t xs (values_of_columns x rows n) (omega (arith, l, count)) (values-at x rows n t l ∙ e)
       (λ i b apart. let inside : i < n = omega (arith, b, count) in values-at x rows n i inside ∙ z i inside apart)
-
--- the same up to a type's own equality
-module _ {A : Type 0} {same : A → A → Type 0} {zero_of : A} {sum : A → A → A} {negative : A → A} {product : A → A → A} {one : A}
-    (E : IsEquality same) (G : IsGroup same zero_of sum negative) (P : IsProduct same product) (R : IsRing same sum product one) where
-  abbrev C : CommutativeRing (Class E)
-  C = ring_of_classes E G P R
-
-  abbrev classes : List A → List (Class E)
-  classes xs = map (class E) xs
-
-  sums-class : (xs : List A) (rows : List (List A)) → map (λ row. OverRing.weighted_sum C (classes xs) row) (map classes rows) ≡ classes (map (λ row. weighted_sum zero_of sum product xs row) rows)
-  sums-class xs [] = refl
-  sums-class xs (row ∷ rows) = ap₂ (λ v vs. v ∷ vs) (weighted_sum-class E G P R xs row) (sums-class xs rows)
-
-  column-class : (rows : List (List A)) (i : ℕ) → column_at C.zero (map classes rows) i ≡ classes (column_at zero_of rows i)
-  column-class [] i = refl
-  column-class (row ∷ rows) i = ap₂ (λ v vs. v ∷ vs) (coefficient-class E G P R row i) (column-class rows i)
-
-  rows-class : (n : ℕ) (rows : List (List A)) → HaveLength n rows → HaveLength n (map classes rows)
-  rows-class n rows h k l =
-      let inside : k < length rows = omega (arith, l, Lists.length-map rows classes) in
-      ap length (get_or-map classes rows k []) ∙ length-classes E (get_or rows k []) ∙ h k inside
-
-  pub value-at_place-same : (x : A) (xs : List A) (rows : List (List A)) (t : ℕ) → HaveLength (length xs) rows → t < length xs
-      → same (value zero_of sum product one x (column_at zero_of rows t)) one
-      → ((i : ℕ) → i < length xs → i ≢ t → same (value zero_of sum product one x (column_at zero_of rows i)) zero_of)
-      → same (value zero_of sum product one x (map (λ row. weighted_sum zero_of sum product xs row) rows)) (get_or xs t zero_of)
-  value-at_place-same x xs rows t h l e z =
-      let count : length (classes xs) ≡ length xs = length-classes E xs in
-      let column : (i : ℕ) → OverRing.value C (class E x) (column_at C.zero (map classes rows) i) ≡ class E (value zero_of sum product one x (column_at zero_of rows i)) =
-      λ i. ap (OverRing.value C (class E x)) (column-class rows i) ∙ value-class E G P R x (column_at zero_of rows i) in
-      same_class E _ _
-      (sym (value-class E G P R x (map (λ row. weighted_sum zero_of sum product xs row) rows))
-      ∙ ap (OverRing.value C (class E x)) (sym (sums-class xs rows))
-      ∙ value-at_place C (class E x) (classes xs) (map classes rows) t (λ k b. rows-class (length xs) rows h k b ∙ sym count) (omega (arith, l, count))
-      (column t ∙ class_same E _ _ e) (λ i b apart. column i ∙ class_same E _ _ (z i (omega (arith, b, count)) apart))
-      ∙ coefficient-class E G P R xs t)

@@ -1,13 +1,16 @@
 -- Shards of which some are wrong, and the data that most of them have.
 use Rattle.std.specs.Prelude.{◌≡◌, ℕ, ◌+◌, ◌<◌, ◌≤◌, ◌^◌, ◌==◌, ◌||◌, ◌&&◌, Bool, true, false, not, List, [], ◌∷◌, length, slice_index_or, Result}
+use Rattle.std.specs.Int.{IsNextPowerOfTwo}
 use Rattle.std.specs.List.{All, AllZip, Contains, filter, list_all}
 use Rattle.std.specs.List.Sorted.{IsStrictlyIncreasing}
 use Rattle.math_base.specs.declared.fields.goldilocks.F.{F}
-use Rattle.math_base.specs.Elements.{number, same}
+use Rattle.math_base.specs.Elements.{number, root_of, same, goldilocks}
+use Rattle.math_ntt.specs.CorrectedRows.{IsCorrected}
+use Rattle.math_ntt.specs.Evaluations.{EvaluationsOf}
 use Rattle.math_transforms.specs.Matrices.{MatrixOf, row_of}
 use Rattle.math_splitting.specs.declared.shards.Shard.{Shard}
 use Rattle.math_shards.specs.declared.shards.Error.{Error}
-use Rattle.math_shards.specs.Joining.{IsDueFor, RefusesWhereDue}
+use Rattle.math_shards.specs.Joining.{HoldsShards, IsDueFor, IsSound, RefusesWhereDue}
 use Rattle.math_splitting.specs.Shards.{IsShardOf, JoinTo, distinct_indices, width_for}
 
 -- whether both lists of elements are same, place by place
@@ -49,6 +52,22 @@ pub record CorrectTo (words : List ℕ) (shards : List Shard) : Type 0 where
   pub wrong : List ℕ
   pub enough : length wrong + length wrong + min ≤ settled_indices total shards
   pub right : All (λ s. ¬ (Contains wrong s.index) → IsShardOf words min total s) (settled shards)
+
+-- the shards are the first one and others, all sound, and the rows of e are filled with those of settled indices
+pub record AreSettledRows (lg : ℕ) (first : Shard) (shards : List Shard) (e : EvaluationsOf F) : Type 0 where
+  pub short : first.total < 2 ^ 32
+  pub next : IsNextPowerOfTwo first.total (2 ^ lg)
+  pub holds : HoldsShards lg (length first.cells.items) (settled shards) e
+  pub some : 0 < length shards
+  pub sound : All (IsSound first) shards
+
+-- the polynomials whose coefficients are the columns of q are corrected from such rows
+pub record AreCorrectedRows (first : Shard) (shards : List Shard) (q : MatrixOf F) : Type 0 where
+  pub lg : ℕ
+  pub rows : EvaluationsOf F
+  pub filled : AreSettledRows lg first shards rows
+  pub wrong : List ℕ
+  pub corrected : IsCorrected goldilocks (root_of lg) rows first.min q wrong
 
 -- by rising number, the positions of the shards of which P does not hold
 pub record ArePositionsWithout (P : Shard → Type 0) (shards : List Shard) (positions : List ℕ) : Type 0 where

@@ -8,6 +8,11 @@ use Rattle.math_base.specs.Elements.{residue, root_of, same, sum, product}
 use Rattle.math_transforms.specs.DomainValues.{matrix_of}
 use Rattle.math_transforms.specs.Matrices.{MatrixOf, cell_of, column_of}
 use Rattle.math_splitting.specs.Shards.{value_at_index}
+use Rattle.math_shards.specs.declared.shards.polynomials.Columns.{Columns}
+
+-- the rows of coefficients of which these are columns, as a matrix
+abbrev pub coefficients_of : Columns → MatrixOf F
+coefficients_of columns = matrix_of columns.strip.layout.min columns.strip.layout.width columns.elements.now
 
 -- each cell is the item in its place times the factor
 abbrev pub AreMultiples : List F → F → List F → Type 0

@@ -5,6 +5,7 @@ use Rattle.std.specs.List.{list_any, range_with_len}
 use Rattle.math_base.specs.declared.fields.goldilocks.F.{F}
 use Rattle.math_base.specs.Elements.{residue, same}
 use Rattle.math_transforms.specs.Matrices.{MatrixOf, column_of}
+use Rattle.math_splitting.specs.declared.shards.layouts.Layout.{Layout}
 use Rattle.math_splitting.specs.Shards.{elements_for, rows_for, value_at_index, width_for, with_zeros}
 
 -- how many of the numbers below n are among the indices
@@ -32,3 +33,8 @@ pub record DoRowsFit {R : Type 0} (index : R → ℕ) (cells : R → List F) (wo
   pub below : All (λ row. index row < total) rows
   pub count : All (λ row. length (cells row) ≡ width_for min words) rows
   pub values : (lg : ℕ) → IsNextPowerOfTwo total (2 ^ lg) → All (λ row. HasValuesOf lg (rows_for min words) (index row) (cells row)) rows
+
+-- rows, each with an index and cells, are such as shards of the layout: the indices are below `total`, and each row has the width
+pub record AreRowsOf {R : Type 0} (index : R → ℕ) (cells : R → List F) (layout : Layout) (rows : List R) : Type 0 where
+  pub below : All (λ row. index row < layout.total) rows
+  pub count : All (λ row. length (cells row) ≡ layout.width) rows

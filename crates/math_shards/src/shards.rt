@@ -8,11 +8,12 @@
 ghost use Rattle.std.specs.Prelude.{◌≡◌, alloc_error};
 ghost use Rattle.math_shards.specs.declared.shards.Error.TheVariants.{Memory};
 
+mod comparing;
 mod correcting;
 mod distinct;
-mod fitting;
 mod joining;
 mod joining_rows;
+mod polynomials;
 mod restoring;
 mod rows;
 mod unpacking;
@@ -22,9 +23,10 @@ pub use correcting::{Joined, join_corrected, join_packed_corrected};
 pub use joining::{join, join_packed};
 pub use joining_rows::{join_cells, join_rows, shards_of_rows};
 pub use math_splitting::shards::{
-    Room, Shard, Source, Word, shard_width, split, split_rows, split_source, split_source_at,
+    Room, Shard, Source, shard_width, split, split_rows, split_source, split_source_at,
     split_source_rows, split_source_rows_at,
 };
+pub use math_values::words::Word;
 pub use rows::Cell;
 use std::alloc::{AllocError, AllocFailed};
 use thiserror::Error;

@@ -12,7 +12,6 @@ use Rattle.math_base.specs.Elements.{residue, same}
 use Rattle.math_base.specs.declared.fields.goldilocks.F.{F}
 use Rattle.math_base.proofs.ElementNumbers.{same_number}
 use Rattle.math_numbers.proofs.BitPieces.{piece_count-enough}
-use Rattle.math_ntt.specs.MatrixPlaces.{IsFull}
 use Rattle.math_splitting.specs.Shards.{elements_for, rows_for, width_for}
 use Rattle.math_splitting.proofs.SameCells.{nought}
 
@@ -32,7 +31,7 @@ rounded_up x y h =
     ]
 
 -- the rows hold all elements, and zeros where some cells are left
-pub rows_are_whole : (min : ℕ) (words : List ℕ) → 1 ≤ min → IsFull (rows_for min words)
+pub rows_are_whole : (min : ℕ) (words : List ℕ) → 1 ≤ min → length (rows_for min words).cells ≡ min * width_for min words
 rows_are_whole min words some =
     let n = length (elements_for words) in
     let all = min * width_for min words in

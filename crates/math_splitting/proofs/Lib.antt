@@ -1,11 +1,11 @@
 pub mod SameCells
 pub mod LeastDomains
 pub mod LaidOutData
+pub mod LayoutNumbers
 pub mod PackedWords
-pub mod RowPlaces
 pub mod StripColumns
 pub mod StripSizes
-pub mod BegunShards
+pub mod CutShards
 pub mod PointValues
 pub mod WrittenColumns
 pub mod SourceWords

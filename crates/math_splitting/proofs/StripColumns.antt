@@ -15,7 +15,7 @@ use Rattle.math_transforms.proofs.WrittenRows.{row-done}
 use Rattle.math_splitting.specs.Shards.{elements_for, rows_for, width_for}
 use Rattle.math_splitting.specs.Strips.{ArePacked, ArePlaced, HasStripValues, IsStripOf, packed_at}
 use Rattle.math_splitting.proofs.SameCells.{nought}
-use Rattle.math_restoring.proofs.CombinedColumns.{same_values}
+use Rattle.math_values.proofs.ElementValues.{same_values}
 use Rattle.math_splitting.proofs.LaidOutData.{rows_are_whole}
 
 -- the first rows of c cells are those of data from column `from` on

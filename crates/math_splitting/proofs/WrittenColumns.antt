@@ -18,7 +18,7 @@ use Rattle.math_transforms.proofs.PresentIndices.{lg-only}
 use Rattle.math_transforms.proofs.WrittenRows.{part-read, put-after, put-before, put-within}
 use Rattle.math_splitting.specs.declared.shards.Shard.{Shard}
 use Rattle.math_splitting.specs.Shards.{IsShardOf, rows_for, value_at_index, width_for}
-use Rattle.math_restoring.proofs.CombinedColumns.{same_values}
+use Rattle.math_values.proofs.ElementValues.{same_values}
 use Rattle.math_splitting.specs.ShardRows.{AreColumnsWritten, AreRowsOfShardsAt, HaveColumns, number_at, strip_element, value_element}
 use Rattle.math_splitting.specs.Strips.{HasStripValues, IsStripOf, place_of}
 use Rattle.math_splitting.proofs.SameCells.{nought}

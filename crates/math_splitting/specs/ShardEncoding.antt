@@ -3,14 +3,18 @@ use Rattle.std.specs.Prelude.{◌≡◌, ℕ, ◌<◌, ◌^◌, List, ◌++◌, 
 use Rattle.std.specs.Int.{to_be_bytes, w64}
 use Rattle.std.specs.List.{AllZip}
 use Rattle.math_numbers.specs.Goldilocks.{P}
+use Rattle.math_codec.specs.declared.codec.range.LengthRange.{LengthRange}
 use Rattle.math_codec.specs.Faults.{Fault, ◌>>=◌}
 use Rattle.math_codec.specs.Lengths.{length_spelling, length_at}
 use Rattle.math_codec.specs.Lists.{list_spelling, scan_list, AdmitsList, ListGrows}
 use Rattle.math_base.specs.declared.fields.goldilocks.F.{F}
 use Rattle.math_base.specs.Elements.{number, same}
 use Rattle.math_base.specs.ElementEncoding.{scan_element}
-use Rattle.math_ntt.specs.MatrixEncoding.{at_most}
 use Rattle.math_splitting.specs.declared.shards.Shard.{Shard}
+
+-- the lengths from 0 to most
+abbrev pub at_most : ℕ → LengthRange
+at_most most = record { low = 0; high = most }
 
 -- a cell is spelled by its number as a word
 abbrev pub cell_spelling : F → List ℕ

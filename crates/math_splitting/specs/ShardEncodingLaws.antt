@@ -9,9 +9,8 @@ use Rattle.math_codec.specs.ListLaws.{list_again, list_apart}
 use Rattle.math_base.specs.Elements.{number, same}
 use Rattle.math_base.specs.ElementEncoding.{scan_element}
 use Rattle.math_base.specs.ElementEncodingLaws.{element_again, element_apart}
-use Rattle.math_ntt.specs.MatrixEncoding.{at_most}
 use Rattle.math_splitting.specs.declared.shards.Shard.{Shard}
-use Rattle.math_splitting.specs.ShardEncoding.{cell_spelling, shard_spelling, AreSameShards, AdmitsShard, scan_shard}
+use Rattle.math_splitting.specs.ShardEncoding.{at_most, cell_spelling, shard_spelling, AreSameShards, AdmitsShard, scan_shard}
 
 abbrev after_total : Shard → List ℕ → List ℕ
 after_total s rest = list_spelling cell_spelling s.cells.items ++ rest

@@ -1,12 +1,12 @@
 -- Shards of data as words, a shard a row: how they are written column by column.
-use Rattle.std.specs.Prelude.{◌≡◌, ℕ, ◌+◌, ◌*◌, ◌<◌, List, length, map, slice_index, slice_index_or}
+use Rattle.std.specs.Prelude.{◌≡◌, ℕ, ◌+◌, ◌*◌, ◌<◌, List, length, map, take, drop, slice_index, slice_index_or}
 use Rattle.std.specs.List.{flat_map, range_with_len}
 use Rattle.math_base.specs.declared.fields.goldilocks.F.{F}
 use Rattle.math_base.specs.Elements.{number, residue}
 use Rattle.math_transforms.specs.Matrices.{MatrixOf, column_of}
 use Rattle.math_splitting.specs.declared.shards.Shard.{Shard}
-use Rattle.math_splitting.specs.declared.shards.wanting.Wanted.{Wanted}
-use Rattle.math_splitting.specs.declared.shards.wanting.Wanted.TheVariants as wanted
+use Rattle.math_splitting.specs.declared.shards.indices.Wanted.{Wanted}
+use Rattle.math_splitting.specs.declared.shards.indices.Wanted.TheVariants as wanted
 use Rattle.math_splitting.specs.Shards.{AreShardsAt, rows_for, value_at_index}
 use Rattle.math_splitting.specs.Strips.{place_of}
 
@@ -47,3 +47,15 @@ strip_element lg indices c strip t k = slice_index_or strip (place_of lg (slice_
 -- the value, at the power of the root that is the index in this place, of the polynomial of this column of the matrix
 abbrev pub value_element : List ℕ → ℕ → MatrixOf F → ℕ → ℕ → F
 value_element indices lg m t k = value_at_index lg (column_of (residue 0) m k) (slice_index indices t)
+
+-- s is shard t of those that rows of cells are cut into, each row of so many: it has the numbers and the cells of its row
+pub record IsCutAt (min total width : ℕ) (indices : List ℕ) (cells : List F) (t : ℕ) (s : Shard) : Type 0 where
+  pub index : s.index ≡ slice_index indices t
+  pub least : s.min ≡ min
+  pub most : s.total ≡ total
+  pub row : s.cells.items ≡ take width (drop (t * width) cells)
+
+-- the shards are the first n of those that rows of cells are cut into
+pub record AreCut (min total width : ℕ) (indices : List ℕ) (cells : List F) (n : ℕ) (shards : List Shard) : Type 0 where
+  pub count : length shards ≡ n
+  pub each : (t : ℕ) (d : Shard) → t < n → IsCutAt min total width indices cells t (slice_index_or shards t d)

@@ -1,5 +1,5 @@
--- Strips of columns of the rows that data fill, and shards that grow by the values of a strip.
-use Rattle.std.specs.Prelude.{◌≡◌, ℕ, ◌+◌, ◌-◌, ◌*◌, ◌/◌, ◌<◌, ◌≤◌, ◌^◌, List, ◌++◌, length, take, drop, slice_index, slice_index_or, nat_lt, if◌then◌else◌}
+-- Strips of columns of the rows that data fill, and their values.
+use Rattle.std.specs.Prelude.{◌≡◌, ℕ, ◌+◌, ◌-◌, ◌*◌, ◌/◌, ◌<◌, ◌^◌, List, ◌++◌, length, take, slice_index, slice_index_or, nat_lt, if◌then◌else◌}
 use Rattle.math_numbers.specs.Bits as Bits
 use Rattle.math_numbers.specs.Bits.{bits}
 use Rattle.math_theory.specs.BitReversal.{bit_reversed}
@@ -9,23 +9,19 @@ use Rattle.math_base.specs.Elements.{residue, root_of, same, goldilocks}
 use Rattle.math_transforms.specs.DomainValues.{matrix_of}
 use Rattle.math_transforms.specs.Matrices.{MatrixOf, cell_of, column_of}
 use Rattle.math_transforms.specs.RootTrees.{IsTreeOf}
-use Rattle.math_splitting.specs.declared.shards.Shard.{Shard}
-use Rattle.math_splitting.specs.declared.shards.strips.Layout.{Layout}
+use Rattle.math_splitting.specs.declared.shards.layouts.Layout.{Layout}
 use Rattle.math_splitting.specs.Shards.{elements_for, rows_for, value_at_index, width_for}
 
 -- the table is the tree of square roots of a domain of 2^lg points
 abbrev pub IsTableOf : ℕ → List F → Type 0
 IsTableOf lg table = IsTreeOf goldilocks root_of (residue 1) lg table
 
--- the layout of the rows of data, which are fewer than 2^61 words: there are some rows, all of them have the width, the places of their cells are
--- numbers of a word, and there are at least as many points, of a domain that has a root
+-- the layout is that of the shards of data, which are fewer than 2^61 words: the rows that these fill have its width, and the places of their cells are numbers of a
+-- word
 pub record IsLayoutOf (words : List ℕ) (layout : Layout) : Type 0 where
   pub few : length words < 2 ^ 61
-  pub some : 1 ≤ layout.min
   pub width : layout.width ≡ width_for layout.min words
   pub fits : layout.min * layout.width < 2 ^ 64
-  pub points : layout.min ≤ 2 ^ layout.lg
-  pub domain : layout.lg ≤ 32
 
 -- the element of 63 bits of which the first ones are the `taken` highest bits of one word, and the others the lowest of the next
 abbrev pub piece_of : ℕ → ℕ → ℕ → F
@@ -65,39 +61,7 @@ pub record HasStripValues (words : List ℕ) (min lg from c : ℕ) (cells : List
   pub values : (i k : ℕ) → i < 2 ^ lg → k < c
       → same (cell_of (residue 0) (matrix_of (2 ^ lg) c cells) (place_of lg i) k) (value_at_index lg (column_of (residue 0) (rows_for min words) (from + k)) i)
 
--- t is the shard s with these cells behind its own
-pub record IsExtendedBy (row : List F) (s t : Shard) : Type 0 where
-  pub index : t.index ≡ s.index
-  pub least : t.min ≡ s.min
-  pub most : t.total ≡ s.total
-  pub behind : t.cells.items ≡ s.cells.items ++ row
-
--- shard by shard, the new shard is so to the old one
-abbrev pub AreEach : (Shard → Shard → Type 0) → List Shard → List Shard → Type 0
-AreEach R old new = (i : ℕ) (d : Shard) → i < length old → R (slice_index_or old i d) (slice_index_or new i d)
-
--- each shard gets the row in the place of its index behind its cells; a row has c cells
-abbrev pub AreExtended : ℕ → ℕ → List F → List Shard → List Shard → Type 0
-AreExtended lg c cells old new = AreEach (λ s t. IsExtendedBy (take c (drop (place_of lg s.index * c) cells)) s t) old new
-
 -- the row has, for each column of the matrix, its value at power i of the root of order 2^lg
 pub record HasValuesAt (lg i : ℕ) (m : MatrixOf F) (row : List F) : Type 0 where
   pub count : length row ≡ m.cols
   pub values : (k : ℕ) → k < m.cols → slice_index_or row k (residue 0) ≡ value_at_index lg (column_of (residue 0) m k) i
-
--- each shard gets the values at its index of the columns of the matrix behind its cells
-abbrev pub AreValued : ℕ → MatrixOf F → List Shard → List Shard → Type 0
-AreValued lg m old new = AreEach (λ s t. (row : List F) × HasValuesAt lg s.index m row × IsExtendedBy row s t) old new
-
--- s is the shard with index i of the data as far as its first n cells, on a domain of 2^lg points
-pub record IsBegun (words : List ℕ) (min total lg n i : ℕ) (s : Shard) : Type 0 where
-  pub index : s.index ≡ i
-  pub least : s.min ≡ min
-  pub most : s.total ≡ total
-  pub count : length s.cells.items ≡ n
-  pub values : (k : ℕ) → k < n → same (slice_index_or s.cells.items k (residue 0)) (value_at_index lg (column_of (residue 0) (rows_for min words) k) i)
-
--- each shard is begun so, with the index that stands in its place
-abbrev pub AreBegun : List ℕ → ℕ → ℕ → ℕ → ℕ → List ℕ → List Shard → Type 0
-AreBegun words min total lg n indices shards =
-    (i : ℕ) (d : Shard) → i < length shards → IsBegun words min total lg n (slice_index indices i) (slice_index_or shards i d)

@@ -9,21 +9,25 @@
 //!
 //! The shards hide nothing of the data.
 
+mod destinations;
 mod encoding;
-mod rooms;
+mod few_points;
+mod indices;
+mod layouts;
 mod sources;
 mod splitting;
 mod strips;
-mod wanting;
 
+pub use destinations::{Room, write_word};
+pub use few_points::gather;
+pub use layouts::{Layout, Strip};
 use math_base::fields::goldilocks::F;
-pub use rooms::{Room, write_word};
-pub use sources::{Source, Word};
+pub use math_values::words::Word;
+pub use sources::Source;
 pub use splitting::{
     split, split_rows, split_source, split_source_at, split_source_rows, split_source_rows_at,
 };
-pub use strips::{Layout, shard_width, strip_room};
-pub use wanting::gather;
+pub use strips::shard_width;
 
 /// One of `total` shards of some data, any `min` of which give them back: the values of all columns
 /// at power `index` of the root.

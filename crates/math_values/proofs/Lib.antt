@@ -1,2 +1,4 @@
 pub mod BlockValues
+pub mod ElementRing
+pub mod ElementValues
 pub mod SummedProducts

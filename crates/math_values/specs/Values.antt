@@ -3,7 +3,7 @@ use Rattle.std.specs.Prelude.{◌≡◌, ℕ, ◌<◌, List, length, map, slice_
 use Rattle.math_theory.specs.Powers.{power}
 use Rattle.math_numbers.specs.Goldilocks.{P}
 use Rattle.math_base.specs.declared.fields.goldilocks.F.{F}
-use Rattle.math_base.specs.Elements.{residue, same, sum, product, negative}
+use Rattle.math_base.specs.Elements.{residue, product}
 
 -- each word is below P
 abbrev pub AreElements : List ℕ → Type 0

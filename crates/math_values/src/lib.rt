@@ -1,10 +1,11 @@
-//! Values of polynomials over the Goldilocks field at one point, from words or from elements, and
-//! sums of products of elements.
+//! Values of polynomials over the Goldilocks field at one point, from words or from elements, sums
+//! of products of elements, and room for strips of columns.
 #![tactic(auto)]
 
 mod blocks;
 mod products;
+pub mod strips;
 pub mod sums;
 pub mod values;
 mod wide;
-mod words;
+pub mod words;

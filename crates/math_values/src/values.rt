@@ -7,7 +7,7 @@
 //! power of the point at which the block begins, and added to those before it: the words are gone
 //! over once, block after block.
 
-ghost use Rattle.std.specs.Prelude.{◌≡◌, ◌↔◌, ◌<◌, ◌≤◌, IfOk, IfSome, IsTrue, None, All, length, map};
+ghost use Rattle.std.specs.Prelude.{◌≡◌, ◌↔◌, ◌<◌, IfOk, IfSome, IsTrue, None, All, length, map};
 ghost use Rattle.math_numbers.specs.Goldilocks.{P};
 ghost use Rattle.math_theory.specs.Powers.{power};
 ghost use Rattle.math_base.specs.Elements.{residue, product, goldilocks};

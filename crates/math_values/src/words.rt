@@ -1,34 +1,42 @@
-//! What a coefficient may be: a word or an element.
+//! What holds a word: a word, an element, or eight bytes.
 
 ghost use Rattle.std.specs.Prelude.{◌≡◌, ℕ};
 
 use math_base::fields::goldilocks::F;
 
-/// What is given as a word.
-pub(crate) trait Word {
+/// A word, the element whose number it is, or the eight bytes that it is, the lowest first.
+pub trait Word: Copy {
     ghost word: { Self → ℕ };
 
-    /// The word: any one, P or more perhaps.
-    fn word(&self) -> u64
-        ensures { result ≡ word self.now };
+    /// Returns the word.
+    fn word(self) -> u64
+        ensures { result ≡ word self };
 }
 
-/// The word itself.
 impl Word for u64 {
-    ghost word = { λ n. n };
+    ghost word = { λ x. x };
 
-    fn word(&self) -> u64 {
-        *self
+    fn word(self) -> u64 {
+        self
     }
 }
 
-/// The number of the element.
 impl Word for F {
     ghost use Rattle.math_base.specs.Elements.{number};
 
     ghost word = { number };
 
-    fn word(&self) -> u64 {
+    fn word(self) -> u64 {
         u64::from_le_bytes(self.to_le_bytes())
+    }
+}
+
+impl Word for [u8; 8] {
+    ghost use Rattle.std.specs.Int.{from_le_bytes, w64};
+
+    ghost word = { from_le_bytes w64 };
+
+    fn word(self) -> u64 {
+        u64::from_le_bytes(self)
     }
 }

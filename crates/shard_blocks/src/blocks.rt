@@ -4,7 +4,7 @@ ghost use Rattle.std.specs.Prelude.{◌≡◌, ◌*◌, ◌<◌, ◌≤◌, ◌^
 ghost use Rattle.math_splitting.specs.DataWords.{spelled_words};
 ghost use Rattle.math_shards.specs.Joining.{IsMemory};
 ghost use Rattle.math_splitting.specs.ShardRows.{AreRowsOfShardsAt};
-ghost use Rattle.math_splitting.specs.Shards.{AreShardsAt, AreShardsOf, width_for};
+ghost use Rattle.math_splitting.specs.Shards.{AreShardsOf, width_for};
 ghost use Rattle.math_shards.specs.WordShards.{StandInFront};
 ghost use Rattle.math_values.specs.Values.{AreElements};
 ghost use Rattle.math_shards.specs.declared.shards.Error.TheVariants.{TooFew, Mismatch, Index};
@@ -16,8 +16,8 @@ ghost use Rattle.shard_blocks.specs.Blocks.{IsBlockDue, JoinToBlock, RefusesBloc
 use crate::words::{block_in, block_size, source_of, write_block};
 use math_base::algebra::Mem;
 use math_shards::shards::{
-    Error, Room, Shard, join_cells, join_packed, shard_width, split_source, split_source_at,
-    split_source_rows, split_source_rows_at,
+    Error, Room, Shard, join_cells, join_packed, shard_width, split_source, split_source_rows,
+    split_source_rows_at,
 };
 use std::alloc::Global;
 
@@ -40,36 +40,6 @@ pub fn split_block(alloc: Global, bytes: &[u8], min: u32, total: u32) -> Mem<Vec
         (λ shards. AreShardsOf (words_of_bytes bytes.now) min total shards.items) }
 {
     let shards = split_source(alloc, &source_of(bytes), min, total)?;
-    Ok(shards)
-}
-
-/// Cuts the bytes into the shards of these indices alone, in their order, as `split_block` cuts
-/// them. An index may stand there twice.
-///
-/// The conditions are those of `split_block`, and each index is below `total`. From a block that
-/// some of its shards gave back, this makes the lost ones again. It takes memory as `split_block`
-/// does, for these shards.
-///
-/// ```
-/// use shard_blocks::{join_block, split_block_at};
-/// let shards = split_block_at(alloc, b"data", 2, 5, &[4, 1])?;
-/// shards[0].index; // 4
-/// join_block(alloc, &shards)?; // [100, 97, 116, 97]
-/// ```
-pub fn split_block_at(
-    alloc: Global,
-    bytes: &[u8],
-    min: u32,
-    total: u32,
-    indices: &[u32],
-) -> Mem<Vec<Shard>>
-    requires some { 1 ≤ min }
-    requires within { min ≤ total }
-    requires below { All (λ i. i < total) indices.now }
-    ensures { IfOk result
-        (λ shards. AreShardsAt (words_of_bytes bytes.now) min total indices.now shards.items) }
-{
-    let shards = split_source_at(alloc, &source_of(bytes), min, total, indices)?;
     Ok(shards)
 }
 
@@ -109,8 +79,8 @@ pub fn split_block_rows(
 /// index may stand there twice.
 ///
 /// The conditions are those of `split_block_rows`, with as many rows as there are indices, and each
-/// index is below `total`. It takes memory as `split_block_rows` does, or less. If that is refused,
-/// it writes nothing.
+/// index is below `total`. From a block that some of its shards gave back, this makes the lost ones
+/// again. It takes memory as `split_block_rows` does, or less. If that is refused, it writes nothing.
 ///
 /// ```
 /// use shard_blocks::split_block_rows_at;

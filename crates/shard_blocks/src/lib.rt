@@ -18,8 +18,7 @@ pub mod laws;
 mod words;
 
 pub use blocks::{
-    cells_for, join_block, join_block_rows, split_block, split_block_at, split_block_rows,
-    split_block_rows_at,
+    cells_for, join_block, join_block_rows, split_block, split_block_rows, split_block_rows_at,
 };
 pub use correcting::{JoinedBlock, join_block_corrected};
 pub use math_shards::shards::{Error, Shard};

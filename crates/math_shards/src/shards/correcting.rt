@@ -7,28 +7,30 @@
 //! are those that differ from the values of the data's polynomials at their index.
 
 ghost use Rattle.std.specs.Prelude.{◌≡◌, ◌*◌, ◌<◌, ◌≤◌, ◌^◌, ℕ, List, All, length, take};
-ghost use Rattle.std.specs.Prelude.{IfOk, IfErr, IfSome, IsSome, MatchResult};
-ghost use Rattle.std.specs.Int.{IsNextPowerOfTwo};
+ghost use Rattle.std.specs.Prelude.{IfOk, IfErr, IfNone, IfSome, IsSome, MatchResult, false, replicate};
 ghost use Rattle.math_theory.specs.Coefficients.{coefficient};
 ghost use Rattle.math_base.specs.Elements.{residue, same};
 ghost use Rattle.math_transforms.specs.Matrices.{IsOfSize, column_of};
-ghost use Rattle.math_shards.specs.Correcting.{AreCorrected, ArePositionsWithout, CorrectTo};
+ghost use Rattle.math_shards.specs.Correcting.{AreCorrected, AreCorrectedRows, ArePositionsWithout};
+ghost use Rattle.math_shards.specs.Correcting.{AreSettledRows, CorrectTo};
 ghost use Rattle.math_shards.specs.Correcting.{IsDueCorrecting, RefusesCorrecting, is_settled, settled_indices};
-ghost use Rattle.math_shards.specs.Correcting.{IsRowOf, settled};
-ghost use Rattle.math_shards.specs.Joining.{ArePolynomialsOf, HoldsShards, IsDueBeside};
+ghost use Rattle.math_shards.specs.Correcting.{IsRowOf};
+ghost use Rattle.math_shards.specs.Joining.{ArePolynomialsOf, IsDueBeside};
 ghost use Rattle.math_shards.specs.Joining.{IsMemory, IsSound};
 ghost use Rattle.math_shards.specs.PackedWords.{HoldsWords};
 ghost use Rattle.math_shards.specs.declared.shards.Error.TheVariants.{TooFew, Mismatch, Index};
 ghost use Rattle.math_shards.specs.declared.shards.Error.TheVariants.{Conflict, Inconsistent};
 
 use super::distinct::distinct;
-use super::joining::{are_equal, check_numbers, fitted_elements, no_rows};
+use super::joining::{are_equal, check_numbers, fitted_elements};
 use super::unpacking::{PackedData, data_count};
 use super::{Error, Shard};
 use math_base::algebra::Mem;
 use math_base::fields::goldilocks::F;
 use math_ntt::ntt::{EvaluationVector, PolynomialVector};
-use std::alloc::Global;
+use math_splitting::shards::Layout;
+use math_transforms::transform::size_of;
+use std::alloc::{AllocError, Global};
 
 /// Data, and the shards that were left out.
 #[derive(Debug, Drop)]
@@ -109,8 +111,8 @@ pub fn join_packed_corrected(
         return Err(Error::TooFew);
     };
     check_numbers(shards, first)?;
-    let width = first.cells.len();
-    if let Some(data) = fitted_elements(alloc, shards, first.min, first.total, width)? {
+    let layout = Layout::new(first.min, first.total, first.cells.len());
+    if let Some(data) = fitted_elements(alloc, shards, layout)? {
         return Ok((data, Vec::new(alloc)));
     }
     let joined = corrected_rows(alloc, shards, first)?;
@@ -134,16 +136,36 @@ fn corrected_rows(
     if count_settled(alloc, shards, first)? < first.min as usize {
         return Err(Error::TooFew);
     }
-    let values = settled_rows(alloc, shards, first)?;
-    let Some(corrected) = values.correct(alloc, first.min as usize)? else {
+    let Some(polynomials) = corrected_polynomials(alloc, shards, first)? else {
         return Err(Error::Inconsistent);
     };
-    let polynomials = corrected.polynomials;
     let Some(data) = data_of(alloc, &polynomials, first.min, first.cells.len())? else {
         return Err(Error::Inconsistent);
     };
     let left_out = unlike_rows(alloc, shards, &polynomials.evaluate(alloc)?)?;
     Ok((data, left_out))
+}
+
+/// The polynomials that are corrected from the rows of the settled indices; `None` where there are
+/// none within the radius.
+fn corrected_polynomials(
+    alloc: Global,
+    shards: &[Shard],
+    first: &Shard,
+) -> Mem<Option<PolynomialVector<F>>>
+    requires some { 0 < length shards.now }
+    requires sound { All (IsSound first.now) shards.now }
+    requires enough { first.now.min ≤ settled_indices first.now.total shards.now }
+    ensures some { IfOk result
+        (λ answer. IfSome answer (λ q. AreCorrectedRows first.now shards.now q)) }
+    ensures none { IfOk result
+        (λ answer. IfNone answer ((words : List ℕ) → ¬ (CorrectTo words shards.now))) }
+{
+    let values = settled_rows(alloc, shards, first)?;
+    let Some(corrected) = values.correct(alloc, first.min as usize)? else {
+        return Ok(None);
+    };
+    Ok(Some(corrected.polynomials))
 }
 
 /// The first `min` rows of coefficients, one after the other.
@@ -210,15 +232,27 @@ fn count_settled(alloc: Global, shards: &[Shard], first: &Shard) -> Mem<usize>
     Ok(distinct(indices).len())
 }
 
+/// The vector of values for rows of the layout, of which none is filled.
+fn no_rows(alloc: Global, layout: Layout) -> Mem<EvaluationVector<F>>
+    ensures size { IfOk result (λ e. IsOfSize e.matrix (2 ^ layout.lg) layout.width) }
+    ensures filled { IfOk result (λ e. e.filled ≡ replicate (2 ^ layout.lg) false) }
+{
+    if size_of(layout.lg).checked_mul(layout.width).is_none() {
+        return Err(AllocError);
+    }
+    let values = EvaluationVector::empty(alloc, layout.lg as usize, layout.width)?;
+    Ok(values)
+}
+
 /// The vector of values in which the row of each settled index is filled with the cells of its
 /// shards.
 fn settled_rows(alloc: Global, shards: &[Shard], first: &Shard) -> Mem<EvaluationVector<F>>
-    requires { All (IsSound first.now) shards.now }
-    ensures ok { IfOk result (λ e. (lg : ℕ) × IsNextPowerOfTwo first.now.total (2 ^ lg)
-        × HoldsShards lg (length first.now.cells.items) (settled shards.now) e) }
-    ensures total { IfOk result (λ _. first.now.total < 2 ^ 32) }
+    requires some { 0 < length shards.now }
+    requires sound { All (IsSound first.now) shards.now }
+    ensures { IfOk result (λ e. (lg : ℕ) × AreSettledRows lg first.now shards.now e) }
 {
-    let mut values = no_rows(alloc, first)?;
+    let layout = Layout::new(first.min, first.total, first.cells.len());
+    let mut values = no_rows(alloc, layout)?;
     for shard in shards {
         if is_settled(shards, shard) {
             values.fill_row(alloc, shard.index as usize, &shard.cells)?;

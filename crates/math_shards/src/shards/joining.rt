@@ -1,14 +1,12 @@
 //! Shards to data.
 
-ghost use Rattle.std.specs.Prelude.{◌≡◌, ◌↔◌, ◌+◌, ◌*◌, ◌<◌, ◌≤◌, ◌^◌, ◌⊎◌, ℕ, List, All, length};
+ghost use Rattle.std.specs.Prelude.{◌≡◌, ◌↔◌, ◌+◌, ◌*◌, ◌<◌, ◌⊎◌, ℕ, List, All, length};
 ghost use Rattle.std.specs.Prelude.{IsTrue, IsFalse, IfOk, IfErr, IfSome, IfNone, MatchResult};
-ghost use Rattle.std.specs.Prelude.{Contains, false, replicate};
-ghost use Rattle.std.specs.Int.{IsNextPowerOfTwo};
+ghost use Rattle.std.specs.Prelude.{Contains};
 ghost use Rattle.std.specs.List.{AllZip};
 ghost use Rattle.std.specs.List.Sorted.{IsStrictlyIncreasing};
 ghost use Rattle.math_base.specs.Elements.{same};
-ghost use Rattle.math_transforms.specs.Matrices.{IsOfSize};
-ghost use Rattle.math_shards.specs.Fitting.{DoRowsFit};
+ghost use Rattle.math_shards.specs.Fitting.{AreRowsOf, DoRowsFit};
 ghost use Rattle.math_shards.specs.PackedWords.{HoldsWords};
 ghost use Rattle.math_splitting.specs.Shards.{JoinTo};
 ghost use Rattle.math_shards.specs.Joining.{ArePlacesByIndex, HaveUnequalCells, IsDue, IsDueOfRows};
@@ -16,18 +14,16 @@ ghost use Rattle.math_shards.specs.Joining.{IsMemory, IsSound, IsUnsound, Matche
 ghost use Rattle.math_shards.specs.declared.shards.Error.TheVariants.{TooFew, Mismatch, Index};
 ghost use Rattle.math_shards.specs.declared.shards.Error.TheVariants.{Conflict, Inconsistent};
 
+use super::comparing::have_values;
 use super::distinct::{are_too_few, distinct_indices, place_of};
-use super::fitting::have_values;
 use super::restoring::coefficients;
 use super::rows::Row;
 use super::unpacking::{PackedData, data_count};
 use super::{Error, Shard};
 use math_base::algebra::Mem;
 use math_base::fields::goldilocks::F;
-use math_ntt::ntt::EvaluationVector;
 use math_splitting::shards::Layout;
-use math_transforms::transform::lg_of;
-use std::alloc::{AllocError, Global};
+use std::alloc::Global;
 
 /// Gives the data of the shards back: the only data of which each shard is one. A shard that is
 /// handed in twice counts once.
@@ -48,8 +44,8 @@ use std::alloc::{AllocError, Global};
 /// It joins the first `min` shards of distinct indices. Let N be `total` rounded up to a power of
 /// two. Beside the data, it takes memory for as many elements as these shards have cells, and:
 ///
-/// - If `min` is small, and no more than a shard has cells, it joins by weights, in memory for a
-///   few times N rows of `min` cells.
+/// - If `min` is small, and no more than a shard has cells, it joins by weights, in memory for `min`
+///   rows of `min` cells, for a few times N elements and for one strip of N rows.
 /// - Otherwise it joins by transforms of strips of columns, in memory for a few times N elements
 ///   and for one strip of N rows.
 /// - If there are further shards, it then compares all shards with the data, in memory for a table
@@ -107,8 +103,8 @@ pub fn join_packed(alloc: Global, shards: &[Shard]) -> Result<PackedData, Error>
         return Err(Error::TooFew);
     };
     check_numbers(shards, first)?;
-    let cols = first.cells.len();
-    let packed = joined_elements(alloc, shards, first.min, first.total, cols)?;
+    let layout = Layout::new(first.min, first.total, first.cells.len());
+    let packed = joined_elements(alloc, shards, layout)?;
     Ok(packed)
 }
 
@@ -116,22 +112,18 @@ pub fn join_packed(alloc: Global, shards: &[Shard]) -> Result<PackedData, Error>
 pub(super) fn joined_elements<R: Row>(
     alloc: Global,
     rows: &[R],
-    min: u32,
-    total: u32,
-    width: usize,
+    layout: Layout,
 ) -> Result<PackedData, Error>
-    requires some { 1 ≤ min }
-    requires within { min ≤ total }
-    requires below { All (λ row. R.index row < total) rows.now }
-    requires count { All (λ row. length (R.cells row) ≡ width) rows.now }
+    requires { AreRowsOf R.index R.cells layout rows.now }
     ensures ok { IfOk result (λ found. (words : List ℕ) × HoldsWords words found
-        × DoRowsFit R.index R.cells words min total rows.now) }
-    ensures err { IfErr result (λ e. IsMemory e ⊎ IsDueOfRows R.index R.cells min total rows.now e) }
+        × DoRowsFit R.index R.cells words layout.min layout.total rows.now) }
+    ensures err { IfErr result (λ e. IsMemory e
+        ⊎ IsDueOfRows R.index R.cells layout.min layout.total rows.now e) }
 {
-    if let Some(found) = fitted_elements(alloc, rows, min, total, width)? {
+    if let Some(found) = fitted_elements(alloc, rows, layout)? {
         return Ok(found);
     }
-    let error = refusal(alloc, rows, min, width)?;
+    let error = refusal(alloc, rows, layout.min, layout.width)?;
     Err(error)
 }
 
@@ -143,39 +135,30 @@ pub(super) fn joined_elements<R: Row>(
 pub(super) fn fitted_elements<R: Row>(
     alloc: Global,
     rows: &[R],
-    min: u32,
-    total: u32,
-    width: usize,
+    layout: Layout,
 ) -> Mem<Option<PackedData>>
-    requires some { 1 ≤ min }
-    requires within { min ≤ total }
-    requires below { All (λ row. R.index row < total) rows.now }
-    requires count { All (λ row. length (R.cells row) ≡ width) rows.now }
+    requires { AreRowsOf R.index R.cells layout rows.now }
     ensures some { IfOk result (λ answer. IfSome answer (λ found. (words : List ℕ)
-        × HoldsWords words found × DoRowsFit R.index R.cells words min total rows.now)) }
+        × HoldsWords words found
+        × DoRowsFit R.index R.cells words layout.min layout.total rows.now)) }
     ensures none { IfOk result (λ answer. IfNone answer ((words : List ℕ)
-        → ¬ (DoRowsFit R.index R.cells words min total rows.now))) }
+        → ¬ (DoRowsFit R.index R.cells words layout.min layout.total rows.now))) }
 {
-    if rows.len() < min as usize {
+    if rows.len() < layout.min as usize {
         return Ok(None);
     }
-    if are_too_few(alloc, rows, min, total)? {
+    if are_too_few(alloc, rows, layout.min, layout.total)? {
         return Ok(None);
     }
-    let Some(elements) = coefficients(alloc, rows, min, total, width)? else {
+    let Some(elements) = coefficients(alloc, rows, layout)? else {
         return Ok(None);
     };
-    let Some(count) = data_count(&elements, min, width) else {
+    let Some(count) = data_count(&elements, layout.min, layout.width) else {
         return Ok(None);
     };
-    if rows.len() == min as usize {
+    if rows.len() == layout.min as usize {
         return Ok(Some(PackedData { elements, count }));
     }
-    let layout = Layout {
-        min: min as usize,
-        width,
-        lg: lg_of((total as usize).next_power_of_two()),
-    };
     if !have_values(alloc, rows, &elements, layout)? {
         return Ok(None);
     }
@@ -312,20 +295,4 @@ pub(super) fn are_equal(cells: &[F], others: &[F]) -> bool
         }
     }
     true
-}
-
-/// The vector of values for shards like the first one, of which no row is filled.
-pub(super) fn no_rows(alloc: Global, first: &Shard) -> Mem<EvaluationVector<F>>
-    ensures empty { IfOk result (λ e. (lg : ℕ) × IsNextPowerOfTwo first.now.total (2 ^ lg)
-        × IsOfSize e.matrix (2 ^ lg) (length first.now.cells.items)
-        × (e.filled ≡ replicate (2 ^ lg) false)) }
-    ensures total { IfOk result (λ _. first.now.total < 2 ^ 32) }
-{
-    let points = (first.total as usize).next_power_of_two();
-    let cols = first.cells.len();
-    if points.checked_mul(cols).is_none() {
-        return Err(AllocError);
-    }
-    let values = EvaluationVector::empty(alloc, lg_of(points) as usize, cols)?;
-    Ok(values)
 }

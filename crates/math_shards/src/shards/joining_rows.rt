@@ -4,12 +4,10 @@
 //! data are written where they are wanted.
 
 ghost use Rattle.std.specs.Prelude.{◌≡◌, ◌↔◌, ◌+◌, ◌*◌, ◌<◌, ◌≤◌, ◌^◌, ◌⊎◌, ℕ, List, All, length, map};
-ghost use Rattle.std.specs.Prelude.{take, drop, slice_index};
+ghost use Rattle.std.specs.Prelude.{take, drop};
 ghost use Rattle.std.specs.Prelude.{IsTrue, IfOk, IfErr, IfSome, IfNone, OnErr};
-ghost use Rattle.math_base.specs.Elements.{residue};
 ghost use Rattle.math_transforms.specs.Matrices.{pieces};
 ghost use Rattle.math_values.specs.Values.{AreElements};
-ghost use Rattle.math_shards.specs.Fitting.{DoRowsFit};
 ghost use Rattle.math_shards.specs.PackedWords.{HoldsWords};
 ghost use Rattle.math_shards.specs.Joining.{IsMemory};
 ghost use Rattle.math_shards.specs.WordShards.{AreRefused, AreWordShards, DoJoinTo, StandInFront};
@@ -19,6 +17,7 @@ use super::rows::{Cell, CellRow, Row};
 use super::unpacking::PackedData;
 use super::{Error, Shard};
 use math_base::algebra::Mem;
+use math_splitting::shards::Layout;
 use std::alloc::Global;
 
 /// Row i of rows of `cols` cells, with an index.
@@ -90,13 +89,6 @@ fn cell_rows<'a, C: Cell>(
         rows.push(cell_row(indices[i], cells, i, cols))?;
     }
     Ok(rows)
-}
-
-/// Whether shards can have these numbers.
-fn are_numbers(min: u32, total: u32) -> bool
-    ensures { IsTrue result ↔ (1 ≤ min) × (min ≤ total) }
-{
-    1 <= min && min <= total
 }
 
 /// Whether each number is below the bound.
@@ -181,12 +173,12 @@ pub fn join_cells<C: Cell>(
     if indices.is_empty() {
         return Err(Error::TooFew);
     }
-    if !are_numbers(min, total) {
+    let Some(layout) = Layout::checked(min, total, cols) else {
         return Err(Error::Mismatch);
-    }
+    };
     if !are_below(indices, total) {
         return Err(Error::Index);
     }
-    let packed = joined_elements(alloc, &rows, min, total, cols)?;
+    let packed = joined_elements(alloc, &rows, layout)?;
     Ok(packed)
 }

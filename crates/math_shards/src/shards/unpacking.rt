@@ -18,6 +18,7 @@ ghost use Rattle.math_shards.specs.Unpacking.{AreBetween, AreRepacked, AreUnpack
 
 use math_base::algebra::Mem;
 use math_base::fields::goldilocks::F;
+use math_values::words::Word;
 use std::alloc::Global;
 
 /// Data that shards gave back, packed in elements as they were before they were split.
@@ -95,7 +96,7 @@ fn are_zero(elements: &[F]) -> bool
 fn bits_of(element: F) -> u64
     ensures { result ≡ number element % 2 ^ 63 }
 {
-    u64::from_le_bytes(element.to_le_bytes()) & 0x7fff_ffff_ffff_ffff
+    element.word() & 0x7fff_ffff_ffff_ffff
 }
 
 /// The 63 lowest bits of the element in this place. Past the last one they are zero.
@@ -131,7 +132,7 @@ fn word_of(first: F, next: F, taken: u32) -> u64
 fn are_below(elements: &[F], bound: u64) -> bool
     ensures { IsTrue result ↔ All (λ element. number element < bound) elements.now }
 {
-    elements.iter().all(|element| u64::from_le_bytes(element.to_le_bytes()) < bound)
+    elements.iter().all(|element| element.word() < bound)
 }
 
 /// Whether the first elements are those that the first `count` + 1 words pack to, of which there

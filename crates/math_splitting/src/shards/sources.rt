@@ -3,34 +3,10 @@
 //! Words are read one by one, from a list of words or from the bytes of a block, so no list of
 //! words is made of bytes.
 
-ghost use Rattle.std.specs.Prelude.{◌≡◌, ◌<◌, ◌^◌, ℕ, length, slice_index};
-ghost use Rattle.std.specs.Int.{from_le_bytes, w64};
+ghost use Rattle.std.specs.Prelude.{◌≡◌, ◌<◌, ◌^◌, length, slice_index};
 ghost use Rattle.math_splitting.specs.DataWords.{front_count, words_in};
 
-/// A word of data, or the eight bytes that it is, the lowest first.
-pub trait Word: Copy {
-    ghost word: { Self → ℕ };
-
-    /// Returns the word.
-    fn word(self) -> u64
-        ensures { result ≡ word self };
-}
-
-impl Word for u64 {
-    ghost word = { λ x. x };
-
-    fn word(self) -> u64 {
-        self
-    }
-}
-
-impl Word for [u8; 8] {
-    ghost word = { from_le_bytes w64 };
-
-    fn word(self) -> u64 {
-        u64::from_le_bytes(self)
-    }
-}
+use math_values::words::Word;
 
 /// Words of data: those of a slice, with or without a word before them and a word after them.
 #[derive(Clone, Copy)]

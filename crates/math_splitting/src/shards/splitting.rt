@@ -1,53 +1,44 @@
 //! Data to shards.
 //!
 //! A row of the values of a strip is the next part of a shard, which the transform leaves in the
-//! order of the tree. Of few points it is read there, and no row of the strip is moved. The shards
-//! are filled strip by strip, each in the same room, and beside them there is but one strip.
+//! order of the tree. Of few points it is read there, and no row of the strip is moved. The rows of
+//! the shards are filled strip by strip, each in the same room, and beside them there is but one
+//! strip. Where shards are made, rows of elements are filled, and cut into shards.
 
-ghost use Rattle.std.specs.Prelude.{
-  ◌≡◌,
-  ◌+◌,
-  ◌*◌,
-  ◌<◌,
-  ◌≤◌,
-  ◌^◌,
-  ℕ,
-  All,
-  IfOk,
-  List,
-  OnErr,
-  OnOk,
-  length,
-};
-ghost use Rattle.std.specs.List.{range_with_len};
+ghost use Rattle.std.specs.Prelude.{◌≡◌, ◌+◌, ◌*◌, ◌<◌, ◌≤◌, ◌^◌, All, IfOk, OnErr, OnOk, length};
 ghost use Rattle.math_splitting.specs.DataWords.{words_in};
 ghost use Rattle.math_splitting.specs.Shards.{AreShardsAt, AreShardsOf, width_for};
-ghost use Rattle.math_splitting.specs.ShardRows.{AreColumnsWritten, AreRowsOfShardsAt};
-ghost use Rattle.math_splitting.specs.ShardRows.{AreRowsOfShards, HaveColumns};
-ghost use Rattle.math_splitting.specs.ShardRows.{indices_in, strip_element};
-ghost use Rattle.math_splitting.specs.Strips.{AreBegun, AreExtended, IsExtendedBy, IsLayoutOf};
-ghost use Rattle.math_splitting.specs.Strips.{IsTableOf};
+ghost use Rattle.math_splitting.specs.ShardRows.{AreColumnsWritten, AreCut, AreRowsOfShards};
+ghost use Rattle.math_splitting.specs.ShardRows.{AreRowsOfShardsAt, HaveColumns, indices_in};
+ghost use Rattle.math_splitting.specs.ShardRows.{strip_element};
+ghost use Rattle.math_splitting.specs.Strips.{IsLayoutOf, IsTableOf};
 
 use super::Shard;
-use super::rooms::Room;
-use super::sources::{Source, Word, source_of};
-use super::strips::{Layout, layout_of, most_cols, row_of_index, strip_room, write_values};
-use super::wanting::{
-    Wanted, append_values, are_products_cheaper, wanted_count, wanted_index, write_products,
-};
+use super::destinations::Room;
+use super::few_points::{are_products_cheaper, write_products};
+use super::indices::{Wanted, wanted_count, wanted_index};
+use super::layouts::{Layout, Strip};
+use super::sources::{Source, source_of};
+use super::strips::{layout_of, row_of_index, write_values};
 use math_base::algebra::Mem;
 use math_base::fields::goldilocks::F;
 use math_transforms::transform::{evaluation_table, size_of};
+use math_values::strips::{most_cols, strip_room};
+use math_values::words::Word;
 use std::alloc::Global;
+
+/// How many cells a strip has at most, where eight columns have no more: 256 KiB.
+const STRIP_CELLS: usize = 32768;
 
 /// Cuts the data into shards, one for each index below `total`, in the order of the indices. Any
 /// `min` of them give the data back.
 ///
 /// `min` is at least 1, and at most `total`. A shard has as many cells as the number of elements
 /// that the data and their count pack to, divided by `min` and rounded up. Beside the shards it
-/// takes memory for a table of N elements and for N rows of some columns, where N is `total`
-/// rounded up to a power of two: eight columns, or as many as make up 2^15 cells where these are
-/// more, or those of a shard where these are fewer.
+/// takes memory for as many cells once more, which are cut into shards, for a table of N elements
+/// and for N rows of some columns, where N is `total` rounded up to a power of two: eight columns,
+/// or as many as make up 2^15 cells where these are more, or those of a shard where these are
+/// fewer. `split_rows` takes no memory for cells.
 ///
 /// ```
 /// let mut shards = split(alloc, &[4, 6, 8], 2, 5)?;
@@ -82,8 +73,7 @@ pub fn split_source<W: Word>(
     ensures { IfOk result
         (λ shards. AreShardsOf (words_in W.word source.now) min total shards.items) }
 {
-    let indices = all_indices(alloc, total)?;
-    split_source_at(alloc, source, min, total, &indices)
+    make_shards(alloc, source, min, total, Wanted::All(total))
 }
 
 /// Gives the shards of these indices, in their order: those that `split_source` gives of all. An
@@ -113,10 +103,7 @@ pub fn split_source_at<W: Word>(
     ensures { IfOk result
         (λ shards. AreShardsAt (words_in W.word source.now) min total indices.now shards.items) }
 {
-    let layout = layout_of(source, min, total);
-    let mut shards = empty_shards(alloc, indices, min, total, layout.width)?;
-    append_columns(alloc, source, layout, &mut shards)?;
-    Ok(shards)
+    make_shards(alloc, source, min, total, Wanted::At(indices))
 }
 
 /// Writes the shards of the data over the cells: shard i is row i of `total` rows, and each of its
@@ -241,8 +228,7 @@ fn write_all<W: Word, R: Room>(
     cells: &mut [R],
 ) -> Mem<()>
     requires layout { IsLayoutOf (words_in W.word source.now) layout }
-    requires points { All (λ i. i < 2 ^ layout.lg) (indices_in wanted) }
-    requires wide { 1 ≤ layout.width }
+    requires below { All (λ i. i < layout.total) (indices_in wanted) }
     requires size { length (R.words cells.old) ≡ length (indices_in wanted) * layout.width }
     requires fits { length (R.words cells.old) < 2 ^ 64 }
     ensures columns { OnOk result (HaveColumns (words_in W.word source.now) layout.min layout.lg
@@ -254,205 +240,119 @@ fn write_all<W: Word, R: Room>(
         return write_products(alloc, source, layout, wanted, cells);
     }
     let table = evaluation_table::<F>(alloc, layout.lg)?;
-    let most = most_cols(layout);
+    let most = most_cols(STRIP_CELLS, layout.lg, layout.width);
     let mut room = strip_room(alloc, size_of(layout.lg), most)?;
-    write_rows(
-        alloc, source, layout, wanted, &table, most, &mut room, cells,
-    );
+    write_rows(alloc, source, layout, wanted, &table, &mut room, cells);
     Ok(())
 }
 
-/// Writes the values of all columns into the rows of their shards, strip by strip of at most so
-/// many columns, each in the same room.
+/// Writes the values of all columns into the rows of their shards, strip by strip of at most as
+/// many columns as the room has in 2^lg rows.
 fn write_rows<W: Word, R: Room>(
     alloc: Global,
     source: &Source<'_, W>,
     layout: Layout,
     wanted: Wanted<'_>,
     table: &[F],
-    most: usize,
     room: &mut [F],
     cells: &mut [R],
 )
     requires layout { IsLayoutOf (words_in W.word source.now) layout }
-    requires points { All (λ i. i < 2 ^ layout.lg) (indices_in wanted) }
+    requires below { All (λ i. i < layout.total) (indices_in wanted) }
     requires table { IsTableOf layout.lg table.now }
-    requires some { 1 ≤ most }
-    requires room { length room.old ≡ 2 ^ layout.lg * most }
+    requires room { 2 ^ layout.lg ≤ length room.old }
     requires size { length (R.words cells.old) ≡ length (indices_in wanted) * layout.width }
     requires fits { length (R.words cells.old) < 2 ^ 64 }
     ensures columns { HaveColumns (words_in W.word source.now) layout.min layout.lg layout.width
         (indices_in wanted.entry) layout.width (R.words cells.new) }
     ensures size { length (R.words cells.new) ≡ length (R.words cells.old) }
 {
+    let most = room.len() >> layout.lg;
     let mut from = 0;
     while from < layout.width {
         let cols = most.min(layout.width - from);
-        let strip = &mut room[..size_of(layout.lg) * cols];
-        write_values(alloc, source, layout, from, cols, table, strip);
-        write_columns(strip, cols, layout.lg, wanted, layout.width, from, cells);
+        let strip = Strip { layout, from, cols };
+        let values = &mut room[..size_of(layout.lg) * cols];
+        write_values(alloc, source, strip, table, values);
+        write_columns(values, strip, wanted, cells);
         from += cols;
     }
 }
 
-/// Writes the row of the strip that has the values of an index into the row of the cells that is
-/// that index's, from column `from` on, for each of the indices. The strip has 2^lg rows.
-fn write_columns<R: Room>(
-    strip: &[F],
-    cols: usize,
-    lg: u8,
-    wanted: Wanted<'_>,
-    width: usize,
-    from: usize,
-    cells: &mut [R],
-)
-    requires small { lg < 64 }
-    requires points { All (λ i. i < 2 ^ lg) (indices_in wanted) }
-    requires strip { length strip.now ≡ 2 ^ lg * cols }
-    requires within { from + cols ≤ width }
-    requires size { length (R.words cells.old) ≡ length (indices_in wanted) * width }
+/// Writes for each of the indices the row of values that is its own into its row of the cells, in
+/// the columns of the strip.
+fn write_columns<R: Room>(values: &[F], strip: Strip, wanted: Wanted<'_>, cells: &mut [R])
+    requires below { All (λ i. i < strip.layout.total) (indices_in wanted) }
+    requires values { length values.now ≡ 2 ^ strip.layout.lg * strip.cols }
+    requires size { length (R.words cells.old)
+        ≡ length (indices_in wanted) * strip.layout.width }
     requires fits { length (R.words cells.old) < 2 ^ 64 }
-    ensures columns { AreColumnsWritten width from cols (length (indices_in wanted.entry))
-        (strip_element lg (indices_in wanted.entry) cols strip.now)
+    ensures columns { AreColumnsWritten strip.layout.width strip.from strip.cols
+        (length (indices_in wanted.entry))
+        (strip_element strip.layout.lg (indices_in wanted.entry) strip.cols values.now)
         (R.words cells.old) (R.words cells.new) }
     ensures size { length (R.words cells.new) ≡ length (R.words cells.old) }
 {
     for t in 0..wanted_count(wanted) {
-        let row = row_of_index(strip, cols, lg, wanted_index(wanted, t));
-        R::write(cells, t * width + from, row);
+        let row = row_of_index(values, strip, wanted_index(wanted, t));
+        R::write(cells, t * strip.layout.width + strip.from, row);
     }
 }
 
-/// The indices below `total`, in order.
-fn all_indices(alloc: Global, total: u32) -> Mem<Vec<u32>>
-    ensures { IfOk result (λ indices. indices.items ≡ range_with_len 0 total) }
-{
-    let mut indices = Vec::with_capacity(alloc, total as usize)?;
-    for index in 0..total {
-        indices.push(index)?;
-    }
-    Ok(indices)
-}
-
-/// A shard without cells for each of these indices, each with room for so many cells.
-fn empty_shards(
+/// The shards that are asked for: their rows are written over elements, and cut into shards.
+fn make_shards<W: Word>(
     alloc: Global,
-    indices: &[u32],
+    source: &Source<'_, W>,
     min: u32,
     total: u32,
-    width: usize,
+    wanted: Wanted<'_>,
 ) -> Mem<Vec<Shard>>
-    ensures count { IfOk result (λ shards. length shards.items ≡ length indices.now) }
-    ensures empty { IfOk result (λ shards. (words : List ℕ) (lg : ℕ)
-        → AreBegun words min total lg 0 indices.now shards.items) }
+    requires some { 1 ≤ min }
+    requires within { min ≤ total }
+    requires few { length (words_in W.word source.now) < 2 ^ 61 }
+    requires below { All (λ i. i < total) (indices_in wanted) }
+    ensures { IfOk result (λ shards. AreShardsAt (words_in W.word source.now) min total
+        (indices_in wanted.entry) shards.items) }
 {
-    let mut shards = Vec::with_capacity(alloc, indices.len())?;
-    for i in 0..indices.len() {
-        let cells = Vec::with_capacity(alloc, width)?;
+    let layout = layout_of(source, min, total);
+    let mut cells = strip_room(alloc, wanted_count(wanted), layout.width)?;
+    write_all::<W, F>(alloc, source, layout, wanted, &mut cells)?;
+    let shards = cut_rows(alloc, &cells, layout.width, min, total, wanted)?;
+    Ok(shards)
+}
+
+/// Shards with these rows of cells, one for each index that is asked for.
+fn cut_rows(
+    alloc: Global,
+    cells: &[F],
+    width: usize,
+    min: u32,
+    total: u32,
+    wanted: Wanted<'_>,
+) -> Mem<Vec<Shard>>
+    requires { length cells.now ≡ length (indices_in wanted) * width }
+    ensures { IfOk result (λ shards. AreCut min total width (indices_in wanted.entry) cells.now
+        (length (indices_in wanted.entry)) shards.items) }
+{
+    let mut shards = Vec::with_capacity(alloc, wanted_count(wanted))?;
+    for t in 0..wanted_count(wanted) {
+        let at = t * width;
+        let row = copy_of(alloc, &cells[at..at + width])?;
         shards.push(Shard {
-            index: indices[i],
+            index: wanted_index(wanted, t),
             min,
             total,
-            cells,
+            cells: row,
         })?;
     }
     Ok(shards)
 }
 
-/// Adds the values of all columns to the shards, in the way that takes less work.
-fn append_columns<W: Word>(
-    alloc: Global,
-    source: &Source<'_, W>,
-    layout: Layout,
-    shards: &mut [Shard],
-) -> Mem<()>
-    requires layout { IsLayoutOf (words_in W.word source.now) layout }
-    requires points { All (λ s. s.index < 2 ^ layout.lg) shards.old }
-    requires wide { 1 ≤ layout.width }
-    ensures { OnOk result ((total : ℕ) (indices : List ℕ)
-        → AreBegun (words_in W.word source.now) layout.min total layout.lg 0 indices shards.old
-        → AreBegun (words_in W.word source.now) layout.min total layout.lg layout.width indices
-        shards.new) }
+/// A list of these cells.
+fn copy_of(alloc: Global, cells: &[F]) -> Mem<Vec<F>>
+    ensures { IfOk result (λ list. list.items ≡ cells.now) }
 {
-    if are_products_cheaper(layout, shards.len()) {
-        append_values(alloc, source, layout, shards)
-    } else {
-        append_transformed(alloc, source, layout, shards)
-    }
-}
-
-/// Adds the values of all columns to the shards, by transforms.
-fn append_transformed<W: Word>(
-    alloc: Global,
-    source: &Source<'_, W>,
-    layout: Layout,
-    shards: &mut [Shard],
-) -> Mem<()>
-    requires layout { IsLayoutOf (words_in W.word source.now) layout }
-    requires points { All (λ s. s.index < 2 ^ layout.lg) shards.old }
-    requires wide { 1 ≤ layout.width }
-    ensures { OnOk result ((total : ℕ) (indices : List ℕ)
-        → AreBegun (words_in W.word source.now) layout.min total layout.lg 0 indices shards.old
-        → AreBegun (words_in W.word source.now) layout.min total layout.lg layout.width indices
-        shards.new) }
-{
-    let table = evaluation_table::<F>(alloc, layout.lg)?;
-    let most = most_cols(layout);
-    let mut room = strip_room(alloc, size_of(layout.lg), most)?;
-    append_strips(alloc, source, layout, &table, most, &mut room, shards)
-}
-
-/// Adds the values of all columns to the shards, strip by strip of at most so many columns, each in
-/// the same room.
-fn append_strips<W: Word>(
-    alloc: Global,
-    source: &Source<'_, W>,
-    layout: Layout,
-    table: &[F],
-    most: usize,
-    room: &mut [F],
-    shards: &mut [Shard],
-) -> Mem<()>
-    requires layout { IsLayoutOf (words_in W.word source.now) layout }
-    requires points { All (λ s. s.index < 2 ^ layout.lg) shards.old }
-    requires table { IsTableOf layout.lg table.now }
-    requires some { 1 ≤ most }
-    requires room { length room.old ≡ 2 ^ layout.lg * most }
-    ensures { OnOk result ((total : ℕ) (indices : List ℕ)
-        → AreBegun (words_in W.word source.now) layout.min total layout.lg 0 indices shards.old
-        → AreBegun (words_in W.word source.now) layout.min total layout.lg layout.width indices
-        shards.new) }
-{
-    let mut from = 0;
-    while from < layout.width {
-        let cols = most.min(layout.width - from);
-        let strip = &mut room[..size_of(layout.lg) * cols];
-        write_values(alloc, source, layout, from, cols, table, strip);
-        append_rows(strip, cols, layout.lg, shards)?;
-        from += cols;
-    }
-    Ok(())
-}
-
-/// Adds to each shard the row of the strip that has the values of its index. The strip has 2^lg
-/// rows of `cols` cells.
-fn append_rows(strip: &[F], cols: usize, lg: u8, shards: &mut [Shard]) -> Mem<()>
-    requires small { lg < 64 }
-    requires points { All (λ s. s.index < 2 ^ lg) shards.old }
-    requires strip { length strip.now ≡ 2 ^ lg * cols }
-    ensures { OnOk result (AreExtended lg cols strip.now shards.old shards.new) }
-{
-    for i in 0..shards.len() {
-        let row = row_of_index(strip, cols, lg, shards[i].index as usize);
-        append_row(&mut shards[i], row)?;
-    }
-    Ok(())
-}
-
-/// Adds a row to the cells of the shard.
-fn append_row(shard: &mut Shard, row: &[F]) -> Mem<()>
-    ensures { OnOk result (IsExtendedBy row.now shard.old shard.new) }
-{
-    shard.cells.extend_from_slice(row)?;
-    Ok(())
+    let mut list = Vec::with_capacity(alloc, cells.len())?;
+    list.extend_from_slice(cells)?;
+    Ok(list)
 }

@@ -18,13 +18,11 @@ ghost use Rattle.std.specs.Prelude.{
   ◌≤◌,
   ◌^◌,
   ℕ,
-  IfOk,
   List,
   length,
   map,
   slice_index,
 };
-ghost use Rattle.std.specs.Int.{IsNextPowerOfTwo};
 ghost use Rattle.math_base.specs.Elements.{same};
 ghost use Rattle.math_transforms.specs.DomainValues.{matrix_of};
 ghost use Rattle.math_transforms.specs.Matrices.{row_of};
@@ -34,36 +32,19 @@ ghost use Rattle.math_splitting.specs.Strips.{ArePacked, ArePieces, ArePlaced, H
 ghost use Rattle.math_splitting.specs.Strips.{IsLayoutOf, IsStripOf};
 ghost use Rattle.math_splitting.specs.Strips.{IsTableOf, packed_at, piece_of, place_of};
 
-use super::sources::{Source, Word, before_slice, count_of, word_in};
-use math_base::algebra::Mem;
+use super::layouts::{Layout, Strip};
+use super::sources::{Source, before_slice, count_of, word_in};
 use math_base::fields::goldilocks::F;
 use math_transforms::transform::order::{reverse_rows, reversed_row};
-use math_transforms::transform::{evaluate_few, lg_of, size_of};
+use math_transforms::transform::{evaluate_few, size_of};
 use math_transforms::work::Work;
+use math_values::words::Word;
 use std::alloc::Global;
-
-/// How many cells a strip has at most, where eight columns have no more: 256 KiB.
-const STRIP_CELLS: usize = 32768;
-
-/// How many columns a strip has at least, where so many are left: a line of a cache has eight
-/// cells.
-const LEAST_COLS: usize = 8;
 
 /// At most 2^8 points have their rows of values left in the order of the tree. Of more points rows
 /// that are read in that order, one by one, take longer than a pass that puts them in natural
 /// order, many at a time.
 const MOST_REVERSED_LG: u8 = 8;
-
-/// How the rows that data fill lie, and how many points their columns are evaluated at.
-#[derive(Clone, Copy)]
-pub struct Layout {
-    /// How many rows there are.
-    pub min: usize,
-    /// How many cells a row has.
-    pub width: usize,
-    /// There are 2^lg points.
-    pub lg: u8,
-}
 
 /// Returns how many cells each shard has of so many words of data, of which `min` give these back.
 ///
@@ -81,32 +62,16 @@ pub fn shard_width(words: usize, min: u32) -> usize
     (count + count.div_ceil(63)).div_ceil(min as usize)
 }
 
-/// The layout of the data for `min` rows and for the least domain of `total` points.
+/// The layout of the shards of the data.
 pub(super) fn layout_of<W: Word>(source: &Source<'_, W>, min: u32, total: u32) -> Layout
     requires some { 1 ≤ min }
     requires within { min ≤ total }
     requires few { length (words_in W.word source.now) < 2 ^ 61 }
     ensures layout { IsLayoutOf (words_in W.word source.now) result }
     ensures min { result.min ≡ min }
-    ensures points { IsNextPowerOfTwo total (2 ^ result.lg) }
+    ensures total { result.total ≡ total }
 {
-    let points = (total as usize).next_power_of_two();
-    Layout {
-        min: min as usize,
-        width: shard_width(count_of(source), min),
-        lg: lg_of(points),
-    }
-}
-
-/// How many columns a strip has at most.
-pub(super) fn most_cols(layout: Layout) -> usize
-    requires domain { layout.lg ≤ 32 }
-    requires wide { 1 ≤ layout.width }
-    ensures some { 1 ≤ result }
-    ensures within { result ≤ layout.width }
-    ensures size { 2 ^ layout.lg * result < 2 ^ 64 }
-{
-    (STRIP_CELLS >> layout.lg).max(LEAST_COLS).min(layout.width)
+    Layout::new(min, total, shard_width(count_of(source), min))
 }
 
 /// The word in this place of those that are packed, which are the number of the data and then the
@@ -195,54 +160,53 @@ fn write_packed<W: Word>(source: &Source<'_, W>, first: usize, cells: &mut [F])
     }
 }
 
-/// Writes over the cells the strip of `cols` columns from column `from` on, with so many rows: those
-/// that the data fill, and then rows of zeros.
+/// Writes over the cells the strip of the rows that the data fill, with so many rows: these, and
+/// then rows of zeros.
 pub(super) fn write_strip<W: Word>(
     source: &Source<'_, W>,
-    layout: Layout,
+    strip: Strip,
     rows: usize,
-    from: usize,
-    cols: usize,
     cells: &mut [F],
 )
-    requires layout { IsLayoutOf (words_in W.word source.now) layout }
-    requires tall { layout.min ≤ rows }
-    requires within { from + cols ≤ layout.width }
-    requires size { length cells.old ≡ rows * cols }
-    ensures { IsStripOf (words_in W.word source.now) layout.min rows from cols cells.new }
+    requires layout { IsLayoutOf (words_in W.word source.now) strip.layout }
+    requires tall { strip.layout.min ≤ rows }
+    requires size { length cells.old ≡ rows * strip.cols }
+    ensures { IsStripOf (words_in W.word source.now) strip.layout.min rows strip.from strip.cols
+        cells.new }
 {
-    for row in 0..layout.min {
-        let at = row * cols;
-        write_packed(source, row * layout.width + from, &mut cells[at..at + cols]);
+    let min = strip.layout.min as usize;
+    for row in 0..min {
+        let at = row * strip.cols;
+        let first = row * strip.layout.width + strip.from;
+        write_packed(source, first, &mut cells[at..at + strip.cols]);
     }
-    cells[layout.min * cols..].fill(F::from(0));
+    cells[min * strip.cols..].fill(F::from(0));
 }
 
-/// Writes over the cells the values of `cols` columns from column `from` on, at all points. The
-/// table is that of `evaluation_table`. Takes no memory.
+/// Writes over the cells the values of the columns of the strip at all points. The table is that of
+/// `evaluation_table`. Takes no memory.
 pub(super) fn write_values<W: Word>(
     alloc: Global,
     source: &Source<'_, W>,
-    layout: Layout,
-    from: usize,
-    cols: usize,
+    strip: Strip,
     table: &[F],
     cells: &mut [F],
 )
-    requires layout { IsLayoutOf (words_in W.word source.now) layout }
-    requires within { from + cols ≤ layout.width }
-    requires size { length cells.old ≡ 2 ^ layout.lg * cols }
-    requires table { IsTableOf layout.lg table.now }
-    ensures { HasStripValues (words_in W.word source.now) layout.min layout.lg
-        from cols cells.new }
+    requires layout { IsLayoutOf (words_in W.word source.now) strip.layout }
+    requires size { length cells.old ≡ 2 ^ strip.layout.lg * strip.cols }
+    requires table { IsTableOf strip.layout.lg table.now }
+    ensures { HasStripValues (words_in W.word source.now) strip.layout.min strip.layout.lg
+        strip.from strip.cols cells.new }
 {
-    let part = lg_of(layout.min.next_power_of_two());
+    let cols = strip.cols;
+    let lg = strip.layout.lg;
+    let part = strip.layout.part();
     let rows = size_of(part);
-    write_strip(source, layout, rows, from, cols, &mut cells[..rows * cols]);
-    let Ok(()) = evaluate_few(alloc, cells, cols, layout.lg, part, table, &mut Work::new()) else {
+    write_strip(source, strip, rows, &mut cells[..rows * cols]);
+    let Ok(()) = evaluate_few(alloc, cells, cols, lg, part, table, &mut Work::new()) else {
         unreachable!()
     };
-    place_rows(cells, cols, layout.lg);
+    place_rows(cells, cols, lg);
 }
 
 /// Puts 2^lg rows of values, which stand in the order of the tree, where `row_of_index` finds them.
@@ -256,28 +220,18 @@ fn place_rows(cells: &mut [F], cols: usize, lg: u8)
     }
 }
 
-/// The row of a strip of values that has those at power `index` of the root, of 2^lg rows.
-pub(super) fn row_of_index(strip: &[F], cols: usize, lg: u8, index: usize) -> &[F]
-    requires small { lg < 64 }
-    requires below { index < 2 ^ lg }
-    requires size { length strip.now ≡ 2 ^ lg * cols }
-    ensures row { result.now ≡ row_of (matrix_of (2 ^ lg) cols strip.now) (place_of lg index) }
-    ensures count { length result.now ≡ cols }
+/// The row of the values of a strip that has those at power `index` of the root.
+pub(super) fn row_of_index(values: &[F], strip: Strip, index: u32) -> &[F]
+    requires below { index < strip.layout.total }
+    requires size { length values.now ≡ 2 ^ strip.layout.lg * strip.cols }
+    ensures row { result.now ≡ row_of (matrix_of (2 ^ strip.layout.lg) strip.cols values.now)
+        (place_of strip.layout.lg index) }
+    ensures count { length result.now ≡ strip.cols }
 {
-    if lg > MOST_REVERSED_LG {
-        let at = index * cols;
-        return &strip[at..at + cols];
+    let index = index as usize;
+    if strip.layout.lg > MOST_REVERSED_LG {
+        let at = index * strip.cols;
+        return &values[at..at + strip.cols];
     }
-    reversed_row(strip, cols, lg, index)
-}
-
-/// Room for so many rows of a strip of so many columns: zeros.
-pub fn strip_room(alloc: Global, rows: usize, cols: usize) -> Mem<Vec<F>>
-    requires { rows * cols < 2 ^ 64 }
-    ensures { IfOk result (λ room. length room.items ≡ rows * cols) }
-{
-    let count = rows * cols;
-    let mut room = Vec::with_capacity(alloc, count)?;
-    room.resize(count, F::from(0))?;
-    Ok(room)
+    reversed_row(values, strip.cols, strip.layout.lg, index)
 }

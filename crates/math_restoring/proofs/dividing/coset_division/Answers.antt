@@ -1,9 +1,9 @@
 use Rattle.std.proofs.Common.{◌≡◌, ◌∙◌, ◌++◌, ◌^◌, length, take, drop, ap, arith}
-use Rattle.math_base.specs.Elements.{inverse, residue, shift_of}
+use Rattle.math_base.specs.Elements.{inverse, shift_of}
 use Rattle.math_base.proofs.ElementNumbers.{same_number}
 use Rattle.math_base.proofs.WholeWrites.{take-written}
 use Rattle.math_restoring.specs.CosetDivisions.{AreDividedInverses, AreFactors}
-use Rattle.math_restoring.proofs.ElementRing.{same_are_equal}
+use Rattle.math_values.proofs.ElementRing.{same_are_equal}
 use Rattle.math_restoring.proofs.dividing.coset_division.Goals as goal
 
 pub divided_inverses-requires-clause-vanishes : goal.divided_inverses-requires-clause-vanishes

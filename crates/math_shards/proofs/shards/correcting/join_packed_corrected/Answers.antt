@@ -1,10 +1,14 @@
-use Rattle.std.proofs.Common.{sym}
+use Rattle.std.proofs.Common.{◌∙◌, sym}
 use Rattle.std.proofs.lemmas.Result.{err_from_is_err_and}
 use Rattle.math_shards.specs.Correcting.{CorrectTo, settled_indices}
 use Rattle.math_shards.proofs.DueErrors.{due_beside, unsound_due}
 use Rattle.math_shards.proofs.JoinedCorrection.{joined_corrected}
 use Rattle.math_shards.proofs.JoinedRows.{join_of_fit}
+use Rattle.math_shards.proofs.SoundShards.{rows_of_sound}
 use Rattle.math_shards.proofs.shards.correcting.join_packed_corrected.Goals as goal
+
+pub fitted_elements-requires : goal.fitted_elements-requires
+fitted_elements-requires c = rows_of_sound c.in-Some.first.now c.args.shards.now c.new-layout.result c.new-layout.ensures.total (c.new-layout.ensures.width ∙ c.len.ensures ∙ c.in-Some.first.now.cells.ok.0) c.in_ok-check_numbers.ensures.ok
 
 pub returns-in_err-check_numbers-clause-err : goal.returns-in_err-check_numbers-clause-err
 returns-in_err-check_numbers-clause-err c =
@@ -26,7 +30,7 @@ returns-in-Some-2-clause-ok c =
     let first = c.in-Some.first.now in
     let shards = c.args.shards.now in
     let sound = c.in_ok-check_numbers.ensures.ok in
-    let found = rw c.in-Some-2.is at c.in_ok-data.ensures.some in (
+    let found = rw (c.new-layout.ensures.min, c.new-layout.ensures.total) at (rw c.in-Some-2.is at c.in_ok-data.ensures.some) in (
       found.0,
       found.1,
       rw c.new.ensures.items (joined_corrected found.0 shards

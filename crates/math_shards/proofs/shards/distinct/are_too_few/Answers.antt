@@ -1,4 +1,4 @@
-use Rattle.std.proofs.Common.{◌≡◌, ◌<◌, length, map, nat_lt, arith}
+use Rattle.std.proofs.Common.{◌≡◌, ◌<◌, length, map, arith}
 use Rattle.std.proofs.lemmas.Bool.{ltb-true}
 use Rattle.std.proofs.lemmas.List.Elements.{All-map}
 use Rattle.math_shards.specs.Fitting.{distinct_among}

@@ -1,7 +1,5 @@
-use Rattle.std.proofs.Common.{◌≡◌, ◌∙◌, ◌<◌, ℕ, List, Contains, length, map, subst, sym, ap, arith}
-use Rattle.std.specs.List.{All}
-use Rattle.std.proofs.lemmas.List.{get_or-map, length-map}
-use Rattle.std.proofs.lemmas.List.Elements.{All-contains_itself, All-map}
+use Rattle.std.proofs.Common.{◌≡◌, ◌<◌, ℕ, List, Contains, length, map, subst, sym, arith}
+use Rattle.std.proofs.lemmas.List.Elements.{All-map}
 use Rattle.math_shards.specs.Fitting.{distinct_among}
 use Rattle.math_shards.specs.Joining.{ArePlacesByIndex}
 use Rattle.math_shards.proofs.DistinctIndices.{are_among, count_distinct}

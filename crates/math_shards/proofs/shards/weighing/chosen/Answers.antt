@@ -17,15 +17,17 @@ loop-row-preserved g c =
     let before = c.loop-row.invariant in
     let indices = c.loop-row.indices.items in
     let found = c.loop-row.cells.items in
+    let lg = c.args.layout.lg in
+    let counted : index row < c.args.layout.total = rw (← c.row-item.is) at (c.requires.below i row c.loop-row-test.true) in
+    let below : index row < 2 ^ lg = omega (arith, counted, c.args.layout.points) in
     elim c.if-len-min.branch [
       | then-len-min+then-not-get+in_ok-push+in_ok-append_to w ↦
-          let below : index row < 2 ^ c.args.lg = rw (← c.row-item.is) at (c.requires.below i row c.loop-row-test.true) in
           let none : is_one_of indices (index row) ≡ false =
           sym (before.marked.marks (index row) below)
           ∙ get_or_from_slice_get c.loop-row.points (index row) false false (rw (w.if-not-get.true, c.index-index.ensures) at w.get.ensures) in
-          let marked : AreMarked (2 ^ c.args.lg) (indices ++ index row ∷ []) w.set_non_vanishing.new.self =
-          subst (AreMarked (2 ^ c.args.lg) (indices ++ index row ∷ [])) (sym (rw c.index-index.ensures at w.set_non_vanishing.ensures))
-          (marked-more (2 ^ c.args.lg) (index row) indices c.loop-row.points below before.marked) in
+          let marked : AreMarked (2 ^ lg) (indices ++ index row ∷ []) w.set_non_vanishing.new.self =
+          subst (AreMarked (2 ^ lg) (indices ++ index row ∷ [])) (sym (rw c.index-index.ensures at w.set_non_vanishing.ensures))
+          (marked-more (2 ^ lg) (index row) indices c.loop-row.points below before.marked) in
           rw (w.points-is, w.indices-is, w.cells-is, w.in_ok-push.ensures.items, w.in_ok-append_to.ensures, c.index-index.ensures)
           record {
             few = omega (arith, length_push indices (index row), w.if-len-min.true, c.len.ensures, c.loop-row.indices.ok.0);
@@ -42,7 +44,6 @@ loop-row-preserved g c =
             rows = chosen-passed_at index cells rows i row indices found c.loop-row-test.true before.rows;
             all = elim w.else-len-min.branch [
               | else-len-min-via-then-len-min+else-not-get v ↦ λ few.
-                  let below : index row < 2 ^ c.args.lg = rw (← c.row-item.is) at (c.requires.below i row c.loop-row-test.true) in
                   let there : is_one_of indices (index row) ≡ true =
                   sym (before.marked.marks (index row) below)
                   ∙ get_or_from_slice_get c.loop-row.points (index row) true false (rw (v.if-not-get.false, c.index-index.ensures) at v.get.ensures) in
@@ -51,6 +52,16 @@ loop-row-preserved g c =
             ];
           }
     ]
+
+pub get-requires : goal.get-requires
+get-requires g c =
+    let counted : g.R.Row.index c.row-item.result < c.args.layout.total = rw (← c.row-item.is) at (c.requires.below c.loop-row.row-index c.row-item.result c.loop-row-test.true) in
+    omega (arith, counted, c.args.layout.points, c.index-index.ensures, c.loop-row.invariant.marked.size)
+
+pub set_non_vanishing-requires : goal.set_non_vanishing-requires
+set_non_vanishing-requires g c =
+    let counted : g.R.Row.index c.row-item.result < c.args.layout.total = rw (← c.row-item.is) at (c.requires.below c.loop-row.row-index c.row-item.result c.loop-row-test.true) in
+    omega (arith, counted, c.args.layout.points, c.index-index.ensures, c.loop-row.invariant.marked.size)
 
 pub returns-clause-all : goal.returns-clause-all
 returns-clause-all g c = λ few.

@@ -8,7 +8,7 @@ use Rattle.math_shards.proofs.shards.weighing.chosen.Given as goal
 abbrev pub invariant-loop-row : goal.invariant-loop-row
 invariant-loop-row g l = record {
   few : length l.indices.items ≤ l.min;
-  marked : AreMarked (2 ^ l.lg) l.indices.items l.points;
+  marked : AreMarked (2 ^ l.fn.layout.lg) l.indices.items l.points;
   rows : AreChosen g.R.Row.index g.R.Row.cells (take l.row-index l.rows) l.indices.items l.cells.items;
   all : length l.indices.items < l.min → All (λ row. Contains l.indices.items (g.R.Row.index row)) (take l.row-index l.rows);
 }

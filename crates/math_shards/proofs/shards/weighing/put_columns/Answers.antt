@@ -13,11 +13,10 @@ pub put_column-requires-clause-size : goal.put_column-requires-clause-size
 put_column-requires-clause-size c =
     c.loop-k.auto.cells ∙ c.requires.size ∙ ap (λ n. n * c.args.width) (sym (same (goal.at.put_column-requires-clause-size c).After-gather))
 
-pub put_column-requires-clause-rows : goal.put_column-requires-clause-rows
-put_column-requires-clause-rows c = omega (arith, c.requires.rows, same (goal.at.put_column-requires-clause-rows c).After-gather)
-
-pub put_column-requires-clause-cols : goal.put_column-requires-clause-cols
-put_column-requires-clause-cols c = c.requires.cols ∙ sym (same (goal.at.put_column-requires-clause-cols c).After-gather)
+pub put_column-requires-clause-weights : goal.put_column-requires-clause-weights
+put_column-requires-clause-weights c =
+    let n = length c.gather.new.column in
+    rw (same (goal.at.put_column-requires-clause-weights c).After-gather) c.requires.weights
 
 pub loop-k-init : goal.loop-k-init
 loop-k-init c = columns-none c.args.weights.now (length c.args.column.now) c.args.width c.args.cells.now

@@ -6,6 +6,7 @@ use Rattle.math_splitting.proofs.shards.splitting.write_columns.Given as goal
 abbrev pub invariant-loop-t : goal.invariant-loop-t
 invariant-loop-t g l = record {
   size : length (g.R.Room.words l.cells) ≡ length (g.R.Room.words l.initial.cells);
-  columns : AreColumnsWritten l.width l.from l.cols l.t (strip_element l.lg (indices_in l.wanted) l.cols l.strip) (g.R.Room.words l.initial.cells) (g.R.Room.words l.cells);
-  left : (p : ℕ) → l.t * l.width ≤ p → get_or (g.R.Room.words l.cells) p 0 ≡ get_or (g.R.Room.words l.initial.cells) p 0;
+  columns : AreColumnsWritten l.strip.layout.width l.strip.from l.strip.cols l.t (strip_element l.strip.layout.lg (indices_in l.wanted) l.strip.cols l.values) (g.R.Room.words l.initial.cells)
+      (g.R.Room.words l.cells);
+  left : (p : ℕ) → l.t * l.strip.layout.width ≤ p → get_or (g.R.Room.words l.cells) p 0 ≡ get_or (g.R.Room.words l.initial.cells) p 0;
 }

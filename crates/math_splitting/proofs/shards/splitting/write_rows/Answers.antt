@@ -16,6 +16,6 @@ loop-from-preserved g c =
       within = omega (arith, c.loop-from.invariant.within, c.min-cols.ensures);
       size = c.write_columns.ensures.size ∙ c.loop-from.invariant.size;
       columns = columns_further words layout.min layout.lg layout.width from cols indices (strip_element layout.lg indices cols strip) (g.R.Room.words c.loop-from.cells)
-          (g.R.Room.words c.write_columns.new.cells) (strip_values words layout.min layout.lg from cols indices strip c.write_values.ensures c.requires.points) c.write_columns.ensures.columns
+          (g.R.Room.words c.write_columns.new.cells) (strip_values words layout.min layout.lg from cols indices strip c.write_values.ensures (λ t d l. omega (arith, c.requires.below t d l, layout.points))) c.write_columns.ensures.columns
           c.loop-from.invariant.columns;
     }

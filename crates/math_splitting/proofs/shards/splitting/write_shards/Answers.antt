@@ -1,21 +1,18 @@
-use Rattle.std.proofs.Common.{◌≡◌, ◌∙◌, [], refl, ap, subst, arith}
+use Rattle.std.proofs.Common.{◌≡◌, ◌∙◌, ◌^◌, [], refl, ap, subst, arith}
 use Rattle.std.specs.Global.{Vec}
+use Rattle.std.specs.Int.{IsNextPowerOfTwo}
 use Rattle.std.specs.Ptr.{as_ptr}
 use Rattle.math_base.specs.declared.fields.goldilocks.F.{F}
 use Rattle.math_splitting.specs.DataWords.{words_in}
 use Rattle.math_splitting.specs.Shards.{width_for}
 use Rattle.math_splitting.specs.ShardRows.{HaveColumns, indices_in}
-use Rattle.math_splitting.proofs.StripSizes.{short_rows, wide_rows}
+use Rattle.math_splitting.proofs.LayoutNumbers.{next_of}
+use Rattle.math_splitting.proofs.StripSizes.{short_rows}
 use Rattle.math_splitting.proofs.WrittenColumns.{rows_of_columns}
 use Rattle.math_splitting.proofs.shards.splitting.write_shards.Goals as goal
 
-pub write_all-requires-clause-wide : goal.write_all-requires-clause-wide
-write_all-requires-clause-wide g c =
-    let made = c.layout_of-layout.ensures in
-    rw (made.layout.width, made.min) (wide_rows c.args.min (words_in g.W.Word.word c.args.source.now) c.requires.some)
-
-pub write_all-requires-clause-points : goal.write_all-requires-clause-points
-write_all-requires-clause-points g c = λ t d l. omega (arith, c.requires.below t d l, c.layout_of-layout.ensures.points.1)
+pub write_all-requires-clause-below : goal.write_all-requires-clause-below
+write_all-requires-clause-below g c = rw c.layout_of-layout.ensures.total c.requires.below
 
 pub write_all-requires-clause-size : goal.write_all-requires-clause-size
 write_all-requires-clause-size g c =
@@ -35,5 +32,6 @@ returns-clause-ok g c =
     let rows : HaveColumns words min layout.lg (width_for min words) indices (width_for min words) new =
     subst (λ w. HaveColumns words min layout.lg w indices w new) wide
     (subst (λ m. HaveColumns words m layout.lg layout.width indices layout.width new) made.min c.in_ok-write_all.ensures.columns) in
-    rows_of_columns none words min c.args.total layout.lg (short_rows min words c.requires.some c.requires.few) made.points indices new c.requires.below
+    rows_of_columns none words min c.args.total layout.lg (short_rows min words c.requires.some c.requires.few) (subst (λ n. IsNextPowerOfTwo n (2 ^ layout.lg)) made.total (next_of layout)) indices new
+    c.requires.below
     (c.in_ok-write_all.ensures.size ∙ c.requires.size) rows

@@ -4,4 +4,4 @@ use Rattle.math_splitting.proofs.shards.strips.write_strip.Given as goal
 
 -- the rows so far
 abbrev pub invariant-loop-row : goal.invariant-loop-row
-invariant-loop-row g l = HoldRows (words_in g.W.Word.word l.source) l.layout.width l.from l.cols l.row l.cells
+invariant-loop-row g l = HoldRows (words_in g.W.Word.word l.source) l.strip.layout.width l.strip.from l.strip.cols l.row l.cells

@@ -1,0 +1,30 @@
+use Rattle.std.proofs.Common.{◌≡◌, ◌∙◌, ◌+◌, ◌-◌, ◌*◌, length, take, drop, refl, ap, subst, arith}
+use Rattle.math_splitting.specs.declared.shards.Shard.{Shard}
+use Rattle.math_splitting.specs.ShardRows.{AreCut, IsCutAt, indices_in}
+use Rattle.math_splitting.proofs.CutShards.{cut-more}
+use Rattle.math_splitting.proofs.shards.splitting.cut_rows.Goals as goal
+
+pub loop-t-init : goal.loop-t-init
+loop-t-init c = record { count = ap length c.in_ok-shards.ensures.items; each = λ t d l. absurd (omega (arith, l)) }
+
+pub loop-t-preserved : goal.loop-t-preserved
+loop-t-preserved c =
+    let indices = indices_in c.args.wanted in
+    let cells = c.args.cells.now in
+    let width = c.args.width in
+    let t = c.loop-t.t in
+    let at = t * width in
+    let s : Shard = record { index = c.wanted_index.result; min = c.args.min; total = c.args.total; cells = c.in_ok-row.row } in
+    let e : at + width - at ≡ width = omega arith in
+    let here : IsCutAt c.args.min c.args.total width indices cells t s = record {
+      index = c.wanted_index.ensures;
+      least = refl;
+      most = refl;
+      row = c.in_ok-row.ensures ∙ ap (λ n. take n (drop at cells)) e;
+    } in
+    rw c.in_ok-push.ensures.items (cut-more c.args.min c.args.total width indices cells t c.loop-t.shards.items s c.loop-t.invariant here)
+
+pub returns : goal.returns
+returns c =
+    let all : c.loop-t.t ≡ length (indices_in c.args.wanted) = omega (arith, c.wanted_count-t-end.ensures) in
+    subst (λ n. AreCut c.args.min c.args.total c.args.width (indices_in c.args.wanted) c.args.cells.now n c.loop-t.shards.items) all c.loop-t.invariant
