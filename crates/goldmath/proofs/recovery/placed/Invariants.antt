@@ -1,5 +1,0 @@
-use Rattle.goldmath.specs.Recoveries.{HoldsRows}
-use Rattle.goldmath.proofs.recovery.placed.Given as goal
-
-abbrev pub invariant-loop-i : goal.invariant-loop-i
-invariant-loop-i l = HoldsRows l.recovery.lg l.recovery.rows.items l.matrix l.i l.values

@@ -1,8 +1,0 @@
-use Rattle.std.proofs.Common.{take}
-use Rattle.std.specs.List.{All}
-use Rattle.secretshares.specs.Answers.{CanBeDealt}
-use Rattle.secretshares.proofs.calls.first_too_great.Given as goal
-
--- the shares so far can be dealt
-abbrev pub invariant-loop-place : goal.invariant-loop-place
-invariant-loop-place l = All CanBeDealt (take l.place l.shares)
