@@ -1,0 +1,6 @@
+use Rattle.std.proofs.Common.{All}
+use Rattle.shard_files.proofs.blocks.find_shards.Given as goal
+use Rattle.shard_files.specs.Shards.{IsOfSplit}
+
+abbrev pub invariant-loop-place : goal.invariant-loop-place
+invariant-loop-place l = All (IsOfSplit l.initial.split.header) l.found.shards.items

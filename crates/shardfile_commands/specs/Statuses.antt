@@ -1,0 +1,42 @@
+-- What a run ends with.
+use Rattle.std.specs.Prelude.{ℕ}
+use Rattle.shard_files.specs.declared.fault.Fault.{Fault}
+use Rattle.shard_files.specs.declared.fault.Fault.TheVariants as faults
+use Rattle.shardfile_commands.specs.declared.refusal.Refusal.{Refusal}
+use Rattle.shardfile_commands.specs.declared.refusal.Refusal.TheVariants as refusals
+use Rattle.shardfile_commands.specs.declared.status.Status.{Status}
+use Rattle.shardfile_commands.specs.declared.status.Status.TheVariants.{Done, Refused, Usage, Lost, Unknown}
+
+-- the number of a status
+abbrev pub code_of : Status → ℕ
+code_of Done = 0
+code_of Refused = 1
+code_of Usage = 2
+code_of Lost = 3
+code_of Unknown = 4
+
+-- the status of a run of `check` or `repair` that a fault of shard files ends: what says that shards or blocks are lost is told from
+-- all that does not say so
+abbrev pub judged_files : Fault → Status
+judged_files (faults.NoShard _) = Lost
+judged_files (faults.IsShard _ _) = Lost
+judged_files (faults.Length _) = Lost
+judged_files (faults.TooFew _ _ _) = Lost
+judged_files (faults.Block _ _) = Lost
+judged_files _ = Unknown
+
+-- the status of a run of `check` or `repair` that this refusal ends: what says that shards or blocks are lost is told from what says
+-- that files do not fit, and from all that says neither
+abbrev pub judged : Refusal → Status
+judged (refusals.Usage _) = Usage
+judged (refusals.Unsound _) = Refused
+judged (refusals.Stays _) = Refused
+judged (refusals.Strays _) = Refused
+judged (refusals.Lost _) = Lost
+judged (refusals.Files fault) = judged_files fault
+judged _ = Unknown
+
+-- the status of a run of another command that this refusal ends
+abbrev pub refused : Refusal → Status
+refused (refusals.Usage _) = Usage
+refused _ = Refused

@@ -1,0 +1,221 @@
+//! Whether shard files fit.
+
+ghost use Rattle.std.specs.Prelude.{◌≡◌, ◌↔◌, None, false, IsTrue, IfSome};
+ghost use Rattle.shardfile_commands.specs.Statuses.{judged};
+ghost use Rattle.shardfile_commands.specs.declared.status.Status.TheVariants.{Lost};
+
+use crate::listing::{list, list_unsound};
+use crate::progress::Progress;
+use crate::refusal::Refusal;
+use partial_files::fault::owned;
+use shard_files::blocks::{BlockReader, Look};
+use shard_files::fault::Fault;
+use shard_files::gathering::{check_count, count_there, gather};
+use shard_files::sources::{ShardFile, is_want_of_room};
+use shard_files::split::{Block, Split};
+use shard_files::wanted::Wanted;
+use shard_files::wasted::WastedReads;
+use shard_format::records::block_count;
+use std::alloc::{AllocError, Global};
+
+/// What was found of the blocks that were looked at.
+#[derive(Drop)]
+struct Findings {
+    blocks: u64,
+    refused: u64,
+    first: Option<Fault>,
+    wasted: WastedReads,
+}
+
+impl Findings {
+    /// Notes that a block is refused. Where memory or room for an open file ran out nothing is
+    /// found.
+    fn add_refused_block(&mut self, fault: Fault) -> Result<(), Fault> {
+        if !matches!(fault, Fault::Block(..)) {
+            return Err(fault);
+        }
+        self.refused = self.refused.saturating_add(1);
+        if self.first.is_none() {
+            self.first = Some(fault);
+        }
+        Ok(())
+    }
+}
+
+/// What a check says on standard output, and why it refuses then, where not all fits.
+#[derive(Drop)]
+pub struct Checked {
+    pub text: String,
+    pub refusal: Option<Refusal>,
+}
+
+/// Looks at all shards of each block, notes what is wrong, and which blocks have too few that fit
+/// their fingerprints. Only where all are to be compared are the shards of a block joined too.
+///
+/// It gives up where it has read too much for nothing; then the first block was looked at, and is one
+/// of those that cannot be restored.
+fn try_blocks(
+    rt: &HostRuntime,
+    split: &Split,
+    files: &mut [ShardFile],
+    compares_all: bool,
+) -> Result<Findings, Fault> {
+    let mut findings = Findings {
+        blocks: 0,
+        refused: 0,
+        first: None,
+        wasted: WastedReads::new(files),
+    };
+    let mut progress = Progress::new(rt, split.header.length);
+    let mut reader = BlockReader::new(rt.alloc(), split);
+    let mut left = split.header.length;
+    while left > 0 {
+        let block = split.block_of(findings.blocks, left);
+        let tried = try_block(rt, &mut reader, files, block, compares_all);
+        findings
+            .wasted
+            .add_block(split, files, block, tried.is_err());
+        if let Err(fault) = tried {
+            findings.add_refused_block(fault)?;
+        }
+        findings.blocks = findings.blocks.saturating_add(1);
+        if findings.wasted.is_too_much() {
+            break;
+        }
+        left -= u64::from(block.bytes);
+        progress.print_percentage(rt, left);
+    }
+    Ok(findings)
+}
+
+/// Looks at all shards of a block, joins them where they are to be compared, and refuses where they
+/// do not give it.
+fn try_block(
+    rt: &HostRuntime,
+    reader: &mut BlockReader,
+    files: &mut [ShardFile],
+    block: Block,
+    compares_all: bool,
+) -> Result<(), Fault> {
+    if compares_all {
+        reader.block(rt, files, block, Look::Compared)?;
+        return Ok(());
+    }
+    reader.check(rt, files, block)
+}
+
+/// The reason alone that a fault gives.
+fn reason_of(alloc: Global, fault: &Fault) -> Result<String, AllocError> {
+    let text = format!(in alloc; "{fault}")?;
+    let reason = text.as_str().strip_prefix("refused: ");
+    owned(alloc, reason.unwrap_or(text.as_str()))
+}
+
+/// A line for each shard of the split and each other file that is meant, and one for what they
+/// give; and why it is refused, where not all shards are there and fit.
+pub fn check(rt: &HostRuntime, wanted: &Wanted, compares_all: bool) -> Result<Checked, Fault> {
+    let mut files = Vec::new(rt.alloc());
+    match gather(rt, wanted, &mut files, false) {
+        Ok(split) => check_split(rt, wanted, &split, &mut files, compares_all),
+        Err(fault) if is_of_headers(&fault) => {
+            let text = unjudged(rt.alloc(), &files, &fault)?;
+            Ok(Checked {
+                text,
+                refusal: Some(Refusal::Files(fault)),
+            })
+        }
+        Err(fault) => Err(fault),
+    }
+}
+
+/// Whether the fault is one of the folder, or of the headers and lengths of the files. Where memory
+/// or room for an open file ran out nothing is found.
+fn is_of_headers(fault: &Fault) -> bool {
+    match fault {
+        Fault::Folder(_, error) => !is_want_of_room(error),
+        fault => matches!(
+            fault,
+            Fault::NoShard(_) | Fault::IsShard(..) | Fault::Tie(..) | Fault::Length(_)
+        ),
+    }
+}
+
+/// A line for each of the files with which something is wrong, and one for the fault of all.
+fn unjudged(alloc: Global, files: &[ShardFile], fault: &Fault) -> Result<String, AllocError> {
+    let mut text = String::new(alloc);
+    list_unsound(alloc, files, &mut text)?;
+    writeln!(text, "cannot be restored: {}", reason_of(alloc, fault)?)?;
+    Ok(text)
+}
+
+/// As `check`, of the files of a split.
+fn check_split(
+    rt: &HostRuntime,
+    wanted: &Wanted,
+    split: &Split,
+    files: &mut [ShardFile],
+    compares_all: bool,
+) -> Result<Checked, Fault> {
+    let findings = try_blocks(rt, split, files, compares_all)?;
+    let mut text = String::new(rt.alloc());
+    list(rt.alloc(), wanted, split.header.total, files, &mut text)?;
+    let is_restored = write_findings(rt.alloc(), wanted, split, files, &findings, &mut text)?;
+    let is_whole = count_there(files) == split.header.total as usize
+        && files.iter().all(|shard| shard.is_sound());
+    let refusal = refusal_of(owned(rt.alloc(), wanted.label())?, is_restored, is_whole);
+    Ok(Checked { text, refusal })
+}
+
+/// Why shard files, by this name, are refused that do not give the file, or are not whole.
+fn refusal_of(label: String, is_restored: bool, is_whole: bool) -> Option<Refusal>
+    ensures whole { result ≡ None ↔ (IsTrue is_restored × IsTrue is_whole) }
+    ensures lost { IfSome result (λ refusal. judged refusal ≡ Lost ↔ is_restored ≡ false) }
+{
+    if !is_restored {
+        Some(Refusal::Lost(label))
+    } else if !is_whole {
+        Some(Refusal::Unsound(label))
+    } else {
+        None
+    }
+}
+
+/// Two lines: what the split is, and what `join` does; between them one where not all blocks were
+/// looked at. And whether that restores the file.
+fn write_findings(
+    alloc: Global,
+    wanted: &Wanted,
+    split: &Split,
+    files: &[ShardFile],
+    findings: &Findings,
+    text: &mut String,
+) -> Result<bool, AllocError> {
+    let (min, total, length) = (split.header.min, split.header.total, split.header.length);
+    let blocks = block_count(&split.header);
+    writeln!(
+        text,
+        "any {min} of {total} give back {length} bytes in {blocks} blocks"
+    )?;
+    if findings.blocks < blocks {
+        let (from, without) = (findings.blocks, findings.wasted.blocks);
+        writeln!(
+            text,
+            "given up at block {from}, since {without} blocks before it have no shard that fits"
+        )?;
+    }
+    if let Err(fault) = check_count(alloc, wanted, split, files) {
+        writeln!(text, "cannot be restored: {}", reason_of(alloc, &fault)?)?;
+        return Ok(false);
+    }
+    if let Some(fault) = &findings.first {
+        let refused = findings.refused;
+        writeln!(
+            text,
+            "cannot be restored: {refused} blocks cannot, the first is {}",
+            reason_of(alloc, fault)?
+        )?;
+        return Ok(false);
+    }
+    writeln!(text, "can be restored")?;
+    Ok(true)
+}
