@@ -1,0 +1,13 @@
+pub mod Codewords
+pub mod RisingIndices
+pub mod Masks
+pub mod WeightedSums
+pub mod Bytes
+pub mod Elements
+pub mod OneCodeword
+pub mod Filled
+pub mod Held
+pub mod Ranges
+pub mod ParityRows
+pub mod Wanted
+pub mod Refused

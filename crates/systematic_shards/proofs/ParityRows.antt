@@ -1,0 +1,103 @@
+-- Parity rows of a block.
+use Rattle.std.proofs.Common.{◌≡◌, ◌∙◌, ℕ, ◌+◌, ◌-◌, ◌*◌, ◌<◌, ◌≤◌, ◌^◌, List, length, map, get_or, sym, ap, subst, arith}
+use Rattle.std.specs.List.{All, range_with_len}
+use Rattle.std.proofs.lemmas.List.{ext_get_or, get_or-map, get_or_default, length-map}
+use Rattle.std.proofs.lemmas.List.FromFn.{get_or-range_with_len, length-range_with_len}
+use Rattle.std.proofs.lemmas.Nat.{mul-add-lt}
+use Rattle.math_base.specs.declared.fields.goldilocks.F.{F}
+use Rattle.math_base.specs.Elements.{number, residue, same}
+use Rattle.systematic_shards.specs.declared.rows.Row.{Row}
+use Rattle.systematic_shards.specs.declared.split.Split.{Split}
+use Rattle.systematic_shards.specs.Filled.{AreFilled, AreWithinRoom, word_by}
+use Rattle.systematic_shards.specs.Masks.{IsFree, masked_number}
+use Rattle.systematic_shards.specs.Refusals.{AreElements}
+use Rattle.systematic_shards.specs.Shards.{AreBlockRows, AreShards, HaveOneEncoding, IsElementIn, column_of_rows, element_in, mask_of_row, word_in}
+use Rattle.systematic_shards.specs.Weights.{AreWeightRows, sum_at}
+use Rattle.systematic_shards.proofs.Codewords.{one_codeword}
+use Rattle.systematic_shards.proofs.Elements.{element-word, word-fits}
+use Rattle.systematic_shards.proofs.OneCodeword.{some_item, through-rows, word-of_codeword}
+use Rattle.systematic_shards.proofs.Ranges.{range-distinct, range-rising, room-for, rows-from_range, rows-to_range}
+
+-- words by weights have room where all rows have
+pub room-filled : {M : Type 0} (word : List M → ℕ → ℕ) (least mask size n width : ℕ) (rows : List (Row M)) (weights : List F) (indices places : List ℕ) → mask < 2 ^ 32
+    → size ≡ n * (8 * width) → All (λ p. p < n) places → AreWithinRoom size width places (word_by word least mask rows weights indices)
+room-filled word least mask size n width rows weights indices places short is below j k l m =
+    room-for size n width (get_or places j 0) k (word_by word least mask rows weights indices j k) is (below j 0 l) m
+    (word-fits least mask (get_or indices j 0) (sum_at (column_of_rows word least mask rows k) weights j) short)
+
+module _ {M : Type 0} (word : List M → ℕ → ℕ) (split : Split) (mask : ℕ) (short : mask < 2 ^ 32) (block : List M) (rows : List (Row M)) (are : AreBlockRows word split.width block split.min rows) where
+  -- the indices of the data rows
+  pub block-indices : range_with_len 0 split.min ≡ map (λ row. row.index) rows
+  block-indices =
+      ext_get_or 0 (range_with_len 0 split.min) (map (λ row. row.index) rows)
+      (length-range_with_len 0 split.min ∙ sym (length-map rows (λ row. row.index) ∙ are.count))
+      (λ t l.
+      let b : t < split.min = omega (arith, l, length-range_with_len 0 split.min) in
+      let c : t < length rows = omega (arith, b, are.count) in
+      let d : Row M = some_item rows t c in
+      let at : get_or (range_with_len 0 split.min) t 0 ≡ t = omega (arith, get_or-range_with_len 0 split.min t 0 b) in
+      at ∙ sym (are.index t d b) ∙ sym (get_or-map (λ row. row.index) rows t d 0 c))
+
+  pub block-elements : IsFree (split.min * split.width) (word block) mask → ((k : ℕ) → k < split.min * split.width → word block k < 2 ^ 64) → AreElements word split mask rows
+  block-elements free fit t d l k m =
+      let b : t < split.min = omega (arith, l, are.count) in
+      let inside : t * split.width + k < split.width * split.min = mul-add-lt t split.width k split.min b m in
+      let turn : split.width * split.min ≡ split.min * split.width = grind arith in
+      let c : t * split.width + k < split.min * split.width = omega (arith, inside, turn) in
+      let row : Row M = get_or rows t d in
+      subst (λ w. IsElementIn split.min mask row.index w) (sym (are.words t k d b m))
+      (fit (t * split.width + k) c, λ _. free (t * split.width + k) c, λ past. absurd (omega (arith, past, b, are.index t d b)))
+
+  -- rows by weights from the data rows are the parity rows
+  pub encoded-shards : (first wanted places : List ℕ) (weights : List F) (old new : ℕ → ℕ) → first ≡ range_with_len 0 split.min → wanted ≡ range_with_len split.min (split.total - split.min)
+      → places ≡ range_with_len 0 (length wanted) → AreWeightRows split.total first wanted (length wanted) weights → IsFree (split.min * split.width) (word block) mask
+      → ((k : ℕ) → k < split.min * split.width → word block k < 2 ^ 64)
+      → AreFilled split.width places (word_by word split.min mask rows weights wanted) split.width old new → AreShards split mask (word block) new
+  encoded-shards first wanted places weights old new first_are wanted_are places_are W free fit filled =
+      let n : ℕ = split.total - split.min in
+      let within : split.min ≤ split.total = split.within in
+      let indices : first ≡ map (λ row. row.index) rows = first_are ∙ block-indices in
+      let rising = range-rising 0 split.min split.total (omega (arith, within)) in
+      let rising_first = subst (λ xs. All (λ i. i < split.total) xs) (sym first_are) rising.1 in
+      let many : length wanted ≡ n = ap length wanted_are ∙ length-range_with_len split.min n in
+      let held : length places ≡ n = ap length places_are ∙ length-range_with_len 0 (length wanted) ∙ many in
+      let count : length first ≡ split.min = ap length first_are ∙ length-range_with_len 0 split.min in
+      let (a, of_code, belong) = through-rows word split mask short rows (range_with_len 0 split.min) block-indices rising are.count (block-elements free fit) in (
+        a,
+        of_code,
+        rows-from_range split mask a 0 split.min (word block) (λ t k l m.
+            let c : t < length rows = omega (arith, l, are.count) in
+            let d : Row M = some_item rows t c in
+            let index : (get_or rows t d).index ≡ 0 + t = omega (arith, are.index t d l) in
+            sym (are.words t k d l m) ∙ belong t d c k m ∙ ap (λ i. word_in split.min mask i (a i k)) index),
+        rows-from_range split mask a split.min n new (λ t k l m.
+            let b : t < length wanted = omega (arith, l, many) in
+            let place : get_or places t 0 ≡ t = ap (λ xs. get_or xs t 0) places_are ∙ (let e : get_or (range_with_len 0 (length wanted)) t 0 ≡ t = omega (arith, get_or-range_with_len 0 (length wanted) t 0 b) in e) in
+            let index : get_or wanted t 0 ≡ split.min + t = ap (λ xs. get_or xs t 0) wanted_are ∙ get_or-range_with_len split.min n t 0 l in
+            ap (λ p. new (p * split.width + k)) (sym place)
+            ∙ filled.written t k (omega (arith, l, held)) m
+            ∙ word-of_codeword word split mask short rows first wanted weights a indices rising_first (omega (arith, count)) W of_code belong t k b (omega (arith, index, l, within)) m
+            ∙ ap (λ i. word_in split.min mask i (a i k)) index),
+      )
+
+-- elements with one word are same
+word-once : (least mask i : ℕ) (x y : F) → mask < 2 ^ 32 → word_in least mask i x ≡ word_in least mask i y → same x y
+word-once least mask i x y short e = sym (element-word least mask i x short) ∙ ap (λ w. number (element_in least mask i w)) e ∙ element-word least mask i y short
+
+pub one_encoding : HaveOneEncoding
+one_encoding split mask block one other short (a, A, data_a, parity_a) (b, B, data_b, parity_b) j k l m =
+    let n : ℕ = split.total - split.min in
+    let within : split.min ≤ split.total = split.within in
+    let rising = range-rising 0 split.min split.total (omega (arith, within)) in
+    let agree = λ (t i : ℕ) (c : t < length (range_with_len 0 split.min)) (d : i < split.width).
+    let e : t < split.min = omega (arith, c, length-range_with_len 0 split.min) in
+    let at : get_or (range_with_len 0 split.min) t 0 ≡ 0 + t = get_or-range_with_len 0 split.min t 0 e in
+    ap (λ s. number (a s i)) at
+    ∙ word-once split.min mask (0 + t) (a (0 + t) i) (b (0 + t) i) short
+    (sym (rows-to_range split mask a 0 split.min block data_a t i e d) ∙ rows-to_range split mask b 0 split.min block data_b t i e d)
+    ∙ ap (λ s. number (b s i)) (sym at) in
+    let same_cell : same (a (split.min + j) k) (b (split.min + j) k) =
+    one_codeword split.min split.total split.width (range_with_len 0 split.min) a b split.short (range-distinct 0 split.min, rising.1) (omega (arith, length-range_with_len 0 split.min)) A B agree (split.min + j) k (omega (arith, l, within)) m in
+    rows-to_range split mask a split.min n one parity_a j k l m
+    ∙ ap (λ x. masked_number (mask_of_row split.min mask (split.min + j)) x) same_cell
+    ∙ sym (rows-to_range split mask b split.min n other parity_b j k l m)

@@ -1,0 +1,5 @@
+use Rattle.systematic_shards.proofs.Bytes.{part-at}
+use Rattle.systematic_shards.proofs.memory.U64WordMemory.part.Goals as goal
+
+pub returns : goal.returns
+returns c = λ k l. part-at 0 c.args.cells.now c.args.from c.args.count c.min.result c.min-2.result k c.min.ensures c.min-2.ensures l

@@ -1,0 +1,10 @@
+use Rattle.std.proofs.Common.{ℕ, ◌+◌, ◌*◌, ◌<◌, length, get_or}
+use Rattle.systematic_shards.specs.Filled.{word_by}
+use Rattle.systematic_shards.specs.Words.{IsWithin}
+use Rattle.systematic_shards.proofs.planning.are_lost_within.Given as goal
+
+-- there is room for the columns so far
+abbrev pub invariant-loop-k : goal.invariant-loop-k
+invariant-loop-k g l =
+    (j i : ℕ) → j < length l.places → i < l.k
+    → IsWithin l.size (get_or l.places j 0 * l.code.split.width + i) (word_by g.M.WordMemory.word l.code.split.min l.code.mask l.rows l.weights l.indices j i)

@@ -1,0 +1,11 @@
+pub mod Words
+pub mod Splits
+pub mod Errors
+pub mod Masks
+pub mod Codewords
+pub mod Weights
+pub mod Shards
+pub mod Refusals
+pub mod Filled
+pub mod Held
+pub mod Wanted

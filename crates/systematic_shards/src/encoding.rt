@@ -1,0 +1,83 @@
+//! A block to parity rows, and the mask of its words.
+
+ghost use Rattle.std.specs.Prelude.{◌≡◌, ◌+◌, ◌-◌, ◌*◌, ◌<◌, ◌≤◌, ◌^◌, ℕ, length, IfOk, OnErr};
+ghost use Rattle.std.specs.List.{range_with_len};
+ghost use Rattle.systematic_shards.specs.Masks.{IsLeastMask};
+ghost use Rattle.systematic_shards.specs.Shards.{AreBlockRows, AreShards};
+
+use crate::filling::{fill, zeros};
+use crate::mask::least_mask;
+use crate::memory::WordMemory;
+use crate::rows::Row;
+use crate::split::{Code, Split};
+use crate::weights::{indices_between, weight_rows};
+use math_base::algebra::Mem;
+use std::alloc::Global;
+
+/// The data rows of a block: parts of its memory.
+fn block_rows<'a, M: WordMemory>(
+    alloc: Global,
+    block: &'a [M],
+    split: Split,
+) -> Mem<Vec<Row<'a, M>>>
+    ensures { IfOk result (λ rows. AreBlockRows M.word split.width block.now split.min rows.items) }
+{
+    let mut rows = Vec::new(alloc);
+    for index in 0..split.min {
+        let cells = M::part(block, index as usize * split.width, split.width);
+        rows.push(Row { index, cells })?;
+    }
+    Ok(rows)
+}
+
+/// The numbers below `count`.
+fn places_below(alloc: Global, count: usize) -> Mem<Vec<usize>>
+    ensures { IfOk result (λ v. v.items ≡ range_with_len 0 count) }
+{
+    let mut places = Vec::new(alloc);
+    for place in 0..count {
+        places.push(place)?;
+    }
+    Ok(places)
+}
+
+/// Finds the mask of a block, and writes its parity rows, those of the indices from `min` to
+/// `total` - 1, over `parity`, row after row.
+///
+/// The mask is the least one under which no word of the block, with the zeros that fill the last data
+/// rows, has a high half that is all ones. Under it the words of the block are the data rows of a
+/// codeword, and what is written are its parity rows; there are no others.
+///
+/// The block has as many bytes as the split says, and `parity` as many as the parity rows. If `min`
+/// is `total`, or there are no bytes, only the mask is found. It takes memory for `min` weights for
+/// each parity row, and, where the mask is not 0, for a flag for each word. If that is refused, it
+/// writes nothing.
+///
+/// ```
+/// use systematic_shards::{Split, encode};
+/// let split = Split::new(1, 2, 4)?;
+/// let mut parity = [0_u8; 8];
+/// encode(alloc, split, b"data", &mut parity)?; // 0
+/// parity; // [100, 97, 116, 97, 0, 0, 0, 0]
+/// ```
+pub fn encode<M: WordMemory>(alloc: Global, split: Split, block: &[M], parity: &mut [M]) -> Mem<u32>
+    requires size { M.BYTES * length block.now ≡ split.size }
+    requires room { M.BYTES * length parity.old ≡ (split.total - split.min) * (8 * split.width) }
+    ensures mask { IfOk result
+        (λ mask. IsLeastMask (split.min * split.width) (M.word block.now) mask) }
+    ensures few { IfOk result (λ mask. mask ≤ split.min * split.width) }
+    ensures ok { IfOk result
+        (λ mask. AreShards split mask (M.word block.now) (M.word parity.new)) }
+    ensures err { OnErr result (parity.new ≡ parity.old) }
+{
+    let mask = least_mask(alloc, block, split.min as usize * split.width)?;
+    let rows = block_rows(alloc, block, split)?;
+    let first = indices_between(alloc, 0, split.min)?;
+    let wanted = indices_between(alloc, split.min, split.total)?;
+    let places = places_below(alloc, wanted.len())?;
+    let weights = weight_rows(alloc, split.total, &first, &wanted)?;
+    let mut column = zeros(alloc, rows.len())?;
+    let code = Code { split, mask };
+    fill(&rows, &weights, &wanted, &places, code, &mut column, parity);
+    Ok(mask)
+}

@@ -1,0 +1,22 @@
+//! What codewords and shards are determined by, and what a mask is undone by.
+
+ghost use Rattle.systematic_shards.specs.Codewords.{HaveCodeword, HaveOneCodeword};
+ghost use Rattle.systematic_shards.specs.Masks.{UnmaskedIsMasked};
+ghost use Rattle.systematic_shards.specs.Shards.{HaveOneEncoding};
+
+/// Through any rows of at most `min` distinct indices goes a codeword, and no two different ones where
+/// the rows are `min`.
+pub fn codewords()
+    ensures once { HaveOneCodeword }
+    ensures through { HaveCodeword }
+{}
+
+/// A word that is masked twice is what it was.
+pub fn masks()
+    ensures { UnmaskedIsMasked }
+{}
+
+/// A block under its mask has one list of parity rows.
+pub fn encodings()
+    ensures { HaveOneEncoding }
+{}
