@@ -11,10 +11,10 @@ use Rattle.systematic_shards.specs.declared.split.Split.{Split}
 use Rattle.systematic_shards.specs.Filled.{AreFilled, AreWithinRoom, word_by}
 use Rattle.systematic_shards.specs.Masks.{IsFree, masked_number}
 use Rattle.systematic_shards.specs.Refusals.{AreElements}
-use Rattle.systematic_shards.specs.Shards.{AreBlockRows, AreShards, HaveOneEncoding, IsElementIn, column_of_rows, element_in, mask_of_row, word_in}
+use Rattle.systematic_shards.specs.Shards.{AreBlockRows, AreShards, HaveCodewordThrough, HaveOneCodewordOf, HaveOneEncoding, IsElementIn, column_of_rows, element_in, mask_of_row, word_in}
 use Rattle.systematic_shards.specs.Weights.{AreWeightRows, sum_at}
-use Rattle.systematic_shards.proofs.Codewords.{one_codeword}
-use Rattle.systematic_shards.proofs.Elements.{element-word, word-fits}
+use Rattle.systematic_shards.proofs.Codewords.{codeword, one_codeword}
+use Rattle.systematic_shards.proofs.Elements.{element-word, word-fits, word-from_same}
 use Rattle.systematic_shards.proofs.OneCodeword.{some_item, through-rows, word-of_codeword}
 use Rattle.systematic_shards.proofs.Ranges.{range-distinct, range-rising, room-for, rows-from_range, rows-to_range}
 
@@ -101,3 +101,20 @@ one_encoding split mask block one other short (a, A, data_a, parity_a) (b, B, da
     rows-to_range split mask a split.min n one parity_a j k l m
     ∙ ap (λ x. masked_number (mask_of_row split.min mask (split.min + j)) x) same_cell
     ∙ sym (rows-to_range split mask b split.min n other parity_b j k l m)
+
+pub one_codeword_of : HaveOneCodewordOf
+one_codeword_of split mask indices row a b short are enough A B of_a of_b i k l m =
+    let agree = λ (t j : ℕ) (c : t < length indices) (d : j < split.width).
+    let at : ℕ = get_or indices t 0 in
+    word-once split.min mask at (a at j) (b at j) short (sym (of_a t c j d) ∙ of_b t c j d) in
+    let cell : same (a i k) (b i k) = one_codeword split.min split.total split.width indices a b split.short are enough A B agree i k l m in
+    ap (λ x. masked_number (mask_of_row split.min mask i) x) cell
+
+pub codeword_through : HaveCodewordThrough
+codeword_through split mask indices row short are few elements =
+    let (a, of_code, agree) =
+    codeword split.min split.total split.width indices (λ t k. element_in split.min mask (get_or indices t 0) (row t k)) (omega (arith, split.some, split.within)) split.short are few in (
+      a,
+      of_code,
+      λ t l k m. let at : ℕ = get_or indices t 0 in word-from_same split.min mask at (row t k) (a at k) short (elements t k l m) (sym (agree t k l m)),
+    )

@@ -6,7 +6,7 @@ use Rattle.math_base.specs.declared.fields.goldilocks.F.{F}
 use Rattle.math_base.specs.Elements.{number, residue}
 use Rattle.systematic_shards.specs.declared.rows.Row.{Row}
 use Rattle.systematic_shards.specs.declared.split.Split.{Split}
-use Rattle.systematic_shards.specs.Codewords.{IsCodeword}
+use Rattle.systematic_shards.specs.Codewords.{AreIndices, IsCodeword}
 use Rattle.systematic_shards.specs.Masks.{IsFreeOf, masked_number}
 use Rattle.systematic_shards.specs.Words.{IsWithin}
 
@@ -71,3 +71,19 @@ abbrev pub HaveOneEncoding : Type 0
 HaveOneEncoding =
     (split : Split) (mask : ℕ) (block one other : ℕ → ℕ) → mask < 2 ^ 32 → AreShards split mask block one → AreShards split mask block other
     → (j k : ℕ) → j < split.total - split.min → k < split.width → one (j * split.width + k) ≡ other (j * split.width + k)
+
+-- rows of `min` distinct indices or more are rows of one codeword at most: so whichever rows are lost, those that are rebuilt are they
+abbrev pub HaveOneCodewordOf : Type 0
+HaveOneCodewordOf =
+    (split : Split) (mask : ℕ) (indices : List ℕ) (row : ℕ → ℕ → ℕ) (a b : ℕ → ℕ → F) → mask < 2 ^ 32 → AreIndices split.total indices → split.min ≤ length indices
+    → IsCodewordOf split a → IsCodewordOf split b
+    → ((t : ℕ) → t < length indices → IsRowOf split mask a (slice_index indices t) (row t))
+    → ((t : ℕ) → t < length indices → IsRowOf split mask b (slice_index indices t) (row t))
+    → (i k : ℕ) → i < split.total → k < split.width → word_in split.min mask i (a i k) ≡ word_in split.min mask i (b i k)
+
+-- rows of elements, of no more than `min` distinct indices, are rows of a codeword
+abbrev pub HaveCodewordThrough : Type 0
+HaveCodewordThrough =
+    (split : Split) (mask : ℕ) (indices : List ℕ) (row : ℕ → ℕ → ℕ) → mask < 2 ^ 32 → AreIndices split.total indices → length indices ≤ split.min
+    → ((t k : ℕ) → t < length indices → k < split.width → IsElementIn split.min mask (slice_index indices t) (row t k))
+    → (a : ℕ → ℕ → F) × IsCodewordOf split a × ((t : ℕ) → t < length indices → IsRowOf split mask a (slice_index indices t) (row t))

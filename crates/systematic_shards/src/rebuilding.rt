@@ -37,6 +37,15 @@ use std::alloc::Global;
 ///
 /// It takes memory for the indices and addresses of the rows, and for `min` weights for each row past
 /// the first `min` and for each that is lost. If it refuses, it writes nothing.
+///
+/// ```
+/// use systematic_shards::{Code, Row, Split, rebuild};
+/// let code = Code { split: Split::new(1, 3, 4)?, mask: 0 };
+/// let row = Row { index: 1, cells: &[100_u8, 97, 116, 97, 0, 0, 0, 0] };
+/// let mut out = [0_u8; 8];
+/// rebuild(alloc, code, &[row], &[2], &mut out)?;
+/// out; // [100, 97, 116, 97, 0, 0, 0, 0]
+/// ```
 pub fn rebuild<M: WordMemory>(
     alloc: Global,
     code: Code,
@@ -83,6 +92,15 @@ fn is_of_no_codeword(e: &Error) -> bool
 ///
 /// With just `min` indices rows that do not differ always do. It refuses what `rebuild` refuses, but
 /// for `Conflict` and `Inconsistent`, where the answer is no; and it takes memory as that does.
+///
+/// ```
+/// use systematic_shards::{Code, Row, Split, verify};
+/// let code = Code { split: Split::new(1, 3, 4)?, mask: 0 };
+/// let row = Row { index: 1, cells: &[100_u8, 97, 116, 97, 0, 0, 0, 0] };
+/// let other = Row { index: 2, cells: &[100_u8, 97, 116, 97, 1, 0, 0, 0] };
+/// verify(alloc, code, &[row])?; // true
+/// verify(alloc, code, &[row, other])?; // false
+/// ```
 pub fn verify<M: WordMemory>(alloc: Global, code: Code, rows: &[Row<'_, M>]) -> Result<bool, Error>
     ensures asked { OnOk result (AreAsked M.BYTES code.split rows.now []) }
     ensures elements { OnOk result (AreElements M.word code.split code.mask rows.now) }
