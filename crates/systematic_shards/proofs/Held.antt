@@ -1,18 +1,18 @@
 -- One row of each index.
-use Rattle.std.proofs.Common.{◌≡◌, ◌≢◌, ◌⊎◌, ◌∙◌, inl, inr, ℕ, ◌+◌, ◌-◌, ◌*◌, ◌<◌, ◌≤◌, ◌^◌, List, [], ◌∷◌, ◌++◌, length, map, get_or, refl, sym, ap, subst, arith}
+use Rattle.std.proofs.Common.{◌≡◌, ◌≢◌, ◌∙◌, inl, inr, ℕ, ◌+◌, ◌-◌, ◌<◌, ◌≤◌, List, [], ◌∷◌, ◌++◌, length, map, get_or, refl, sym, ap, subst, arith}
 use Rattle.std.specs.List.{All, Contains}
 use Rattle.std.specs.List.Sorted.{IsNonDecreasingBy, IsPermutation, IsStrictlyIncreasing}
 use Rattle.std.proofs.lemmas.Bool.{cases_lt}
-use Rattle.std.proofs.lemmas.List.{get_or-append_right, get_or-map, get_or_append_left, get_or_default, length-append, length-map, length_push, map_push}
+use Rattle.std.proofs.lemmas.List.{get_or-append_right, get_or-map, get_or_append_left, get_or_default, length-map, length_push, map_push}
 use Rattle.std.proofs.lemmas.List.Elements.{All-contains, Contains-get_or}
 use Rattle.std.proofs.lemmas.List.Sorted.{Contains-permutation, IsPermutation-sym}
 use Rattle.math_numbers.proofs.Pigeonhole.{pigeonhole}
 use Rattle.math_base.specs.declared.fields.goldilocks.F.{F}
 use Rattle.systematic_shards.specs.declared.rows.Row.{Row}
 use Rattle.systematic_shards.specs.declared.split.Split.{Split}
-use Rattle.systematic_shards.specs.Held.{AreCopies, AreKept, AreOneOfEach, HasOtherLast, IsKeptWith, IsLikeLast, IsUnlikeLast}
-use Rattle.systematic_shards.specs.Refusals.{AreElements, AreIndicesAmong, HaveConflict, HaveEnough}
-use Rattle.systematic_shards.specs.Shards.{BelongTo, IsElementIn, IsRowOf, word_in}
+use Rattle.systematic_shards.specs.Held.{AreCopies, AreKept, AreOneOfEach, IsKeptWith, IsUnlikeLast}
+use Rattle.systematic_shards.specs.Refusals.{HaveConflict, HaveEnough}
+use Rattle.systematic_shards.specs.Shards.{BelongTo, IsRowOf, word_in}
 use Rattle.systematic_shards.proofs.Filled.{one-place}
 use Rattle.systematic_shards.proofs.OneCodeword.{rising-distinct, some_item}
 

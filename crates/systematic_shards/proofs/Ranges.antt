@@ -1,8 +1,8 @@
 -- Rows of successive indices, and room for rows one after the other.
-use Rattle.std.proofs.Common.{◌≡◌, ◌∙◌, ℕ, ◌+◌, ◌-◌, ◌*◌, ◌<◌, ◌≤◌, ◌^◌, List, [], ◌∷◌, ◌++◌, length, map, map-id, get_or, sym, ap, subst, arith}
+use Rattle.std.proofs.Common.{◌≡◌, ◌∙◌, ℕ, ◌+◌, ◌-◌, ◌*◌, ◌<◌, ◌≤◌, ◌^◌, List, [], ◌∷◌, ◌++◌, map-id, get_or, sym, ap, arith}
 use Rattle.std.specs.List.{All, range_with_len}
 use Rattle.std.proofs.lemmas.List.FromFn.{get_or-range_with_len, length-range_with_len, map-range_with_len_more}
-use Rattle.std.proofs.lemmas.Nat.{mul-add-lt, mul-le, row_fits}
+use Rattle.std.proofs.lemmas.Nat.{mul-le}
 use Rattle.math_base.specs.declared.fields.goldilocks.F.{F}
 use Rattle.math_restoring.specs.Restored.{AreDistinct}
 use Rattle.systematic_shards.specs.declared.split.Split.{Split}

@@ -5,7 +5,7 @@ ghost use Rattle.std.specs.List.{range_with_len};
 ghost use Rattle.systematic_shards.specs.Masks.{IsLeastMask};
 ghost use Rattle.systematic_shards.specs.Shards.{AreBlockRows, AreShards};
 
-use crate::filling::{fill, zeros};
+use crate::filling::{Plan, fill, zeros};
 use crate::mask::least_mask;
 use crate::memory::WordMemory;
 use crate::rows::Row;
@@ -78,6 +78,11 @@ pub fn encode<M: WordMemory>(alloc: Global, split: Split, block: &[M], parity: &
     let weights = weight_rows(alloc, split.total, &first, &wanted)?;
     let mut column = zeros(alloc, rows.len())?;
     let code = Code { split, mask };
-    fill(&rows, &weights, &wanted, &places, code, &mut column, parity);
+    let plan = Plan {
+        indices: &wanted,
+        places: &places,
+        weights: &weights,
+    };
+    fill(&rows, &plan, code, &mut column, parity);
     Ok(mask)
 }

@@ -22,6 +22,17 @@ use math_base::fields::goldilocks::F;
 use math_values::sums::sum_of_products;
 use std::alloc::Global;
 
+/// Rows that are written, each by its weights from rows in hand.
+#[derive(Clone, Copy)]
+pub(crate) struct Plan<'a> {
+    /// Their indices.
+    pub(crate) indices: &'a [u32],
+    /// How many rows stand before each where it is written.
+    pub(crate) places: &'a [usize],
+    /// The weights of each, row after row: as many as there are rows in hand.
+    pub(crate) weights: &'a [F],
+}
+
 /// Room for so many elements.
 pub(crate) fn zeros(alloc: Global, count: usize) -> Mem<Vec<F>>
     ensures { IfOk result (λ v. length v.items ≡ count) }
@@ -41,64 +52,58 @@ pub(crate) fn gather<M: WordMemory>(rows: &[Row<'_, M>], code: Code, k: usize, c
     }
 }
 
-/// Writes word k of the rows of these indices, each by its weights from a column: of row j in the place
-/// of row `places[j]` of `out`.
-fn fill_column<M: WordMemory>(
-    column: &[F],
-    weights: &[F],
-    indices: &[u32],
-    places: &[usize],
-    code: Code,
-    k: usize,
-    out: &mut [M],
-)
-    requires weights { length weights.now ≡ length indices.now * length column.now }
-    requires places { length places.now ≡ length indices.now }
-    requires apart { AreDistinct places.now }
-    requires inside { All (λ p. (p + 1) * code.split.width ≤ 2 ^ 61) places.now }
+/// Writes word k of the rows of the plan, each by its weights from a column.
+fn fill_column<M: WordMemory>(column: &[F], plan: &Plan<'_>, code: Code, k: usize, out: &mut [M])
+    requires weights { length plan.now.weights.now
+        ≡ length plan.now.indices.now * length column.now }
+    requires places { length plan.now.places.now ≡ length plan.now.indices.now }
+    requires apart { AreDistinct plan.now.places.now }
+    requires inside { All (λ p. (p + 1) * code.split.width ≤ 2 ^ 61) plan.now.places.now }
     requires within { k < code.split.width }
-    requires fits { (j : ℕ) → j < length indices.now → IsWithin (M.BYTES * length out.old)
-        (slice_index places.now j * code.split.width + k)
-        (word_in code.split.min code.mask (slice_index indices.now j)
-        (sum_at column.now weights.now j)) }
-    ensures { IsColumnFilled code.split.width k places.now
-        (λ j. word_in code.split.min code.mask (slice_index indices.now j)
-        (sum_at column.now weights.now j))
-        (length indices.now) (M.word out.old) (M.word out.new) }
+    requires fits { (j : ℕ) → j < length plan.now.indices.now
+        → IsWithin (M.BYTES * length out.old)
+        (slice_index plan.now.places.now j * code.split.width + k)
+        (word_in code.split.min code.mask (slice_index plan.now.indices.now j)
+        (sum_at column.now plan.now.weights.now j)) }
+    ensures { IsColumnFilled code.split.width k plan.now.places.now
+        (λ j. word_in code.split.min code.mask (slice_index plan.now.indices.now j)
+        (sum_at column.now plan.now.weights.now j))
+        (length plan.now.indices.now) (M.word out.old) (M.word out.new) }
 {
     let min = column.len();
-    for j in 0..indices.len() {
-        let sum = sum_of_products(column, &weights[j * min..(j + 1) * min]);
-        let word = word_of(sum, row_mask(code, indices[j]));
-        M::write(out, places[j] * code.split.width + k, word);
+    for j in 0..plan.indices.len() {
+        let sum = sum_of_products(column, &plan.weights[j * min..(j + 1) * min]);
+        let word = word_of(sum, row_mask(code, plan.indices[j]));
+        M::write(out, plan.places[j] * code.split.width + k, word);
     }
 }
 
-/// Writes the rows of these indices, each by its weights from the rows in hand: row j as row
-/// `places[j]` of `out`. `column` is room for a column.
+/// Writes the rows of the plan, each by its weights from the rows in hand. `column` is room for a
+/// column.
 pub(crate) fn fill<M: WordMemory>(
     rows: &[Row<'_, M>],
-    weights: &[F],
-    indices: &[u32],
-    places: &[usize],
+    plan: &Plan<'_>,
     code: Code,
     column: &mut [F],
     out: &mut [M],
 )
     requires size { length column.old ≡ length rows.now }
-    requires weights { length weights.now ≡ length indices.now * length rows.now }
-    requires places { length places.now ≡ length indices.now }
-    requires apart { AreDistinct places.now }
-    requires inside { All (λ p. (p + 1) * code.split.width ≤ 2 ^ 61) places.now }
-    requires fits { AreWithinRoom (M.BYTES * length out.old) code.split.width places.now
-        (word_by M.word code.split.min code.mask rows.now weights.now indices.now) }
-    ensures { AreFilled code.split.width places.now
-        (word_by M.word code.split.min code.mask rows.now weights.now indices.now)
+    requires weights { length plan.now.weights.now
+        ≡ length plan.now.indices.now * length rows.now }
+    requires places { length plan.now.places.now ≡ length plan.now.indices.now }
+    requires apart { AreDistinct plan.now.places.now }
+    requires inside { All (λ p. (p + 1) * code.split.width ≤ 2 ^ 61) plan.now.places.now }
+    requires fits { AreWithinRoom (M.BYTES * length out.old) code.split.width plan.now.places.now
+        (word_by M.word code.split.min code.mask rows.now plan.now.weights.now
+        plan.now.indices.now) }
+    ensures { AreFilled code.split.width plan.now.places.now
+        (word_by M.word code.split.min code.mask rows.now plan.now.weights.now
+        plan.now.indices.now)
         code.split.width (M.word out.old) (M.word out.new) }
 {
     for k in 0..code.split.width {
         gather(rows, code, k, column);
-        fill_column(column, weights, indices, places, code, k, out);
+        fill_column(column, plan, code, k, out);
     }
 }
 

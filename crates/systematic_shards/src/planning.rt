@@ -13,7 +13,7 @@ ghost use Rattle.systematic_shards.specs.Wanted.{AreCopied, AreCopiesWithin, Are
 ghost use Rattle.systematic_shards.specs.Weights.{sum_at};
 ghost use Rattle.systematic_shards.specs.Words.{IsWithin};
 
-use crate::filling::{copy_row, fill, gather, zeros};
+use crate::filling::{Plan, copy_row, fill, gather, zeros};
 use crate::holding::Held;
 use crate::mask::word_of;
 use crate::memory::WordMemory;
@@ -156,59 +156,52 @@ fn write_copies<M: WordMemory>(
     }
 }
 
-/// Whether so many bytes have room for the words in column k of the lost rows.
-fn is_column_within(
-    column: &[F],
-    weights: &[F],
-    indices: &[u32],
-    places: &[usize],
-    code: Code,
-    k: usize,
-    size: usize,
-) -> bool
-    requires weights { length weights.now ≡ length indices.now * length column.now }
-    requires places { length places.now ≡ length indices.now }
-    requires inside { All (λ p. (p + 1) * code.split.width ≤ 2 ^ 61) places.now }
+/// Whether so many bytes have room for the words in column k of the rows of the plan.
+fn is_column_within(column: &[F], plan: &Plan<'_>, code: Code, k: usize, size: usize) -> bool
+    requires weights { length plan.now.weights.now
+        ≡ length plan.now.indices.now * length column.now }
+    requires places { length plan.now.places.now ≡ length plan.now.indices.now }
+    requires inside { All (λ p. (p + 1) * code.split.width ≤ 2 ^ 61) plan.now.places.now }
     requires within { k < code.split.width }
-    ensures { IsTrue result ↔ ((j : ℕ) → j < length places.now
-        → IsWithin size (slice_index places.now j * code.split.width + k)
-        (word_in code.split.min code.mask (slice_index indices.now j)
-        (sum_at column.now weights.now j))) }
+    ensures { IsTrue result ↔ ((j : ℕ) → j < length plan.now.places.now
+        → IsWithin size (slice_index plan.now.places.now j * code.split.width + k)
+        (word_in code.split.min code.mask (slice_index plan.now.indices.now j)
+        (sum_at column.now plan.now.weights.now j))) }
 {
     let min = column.len();
-    for j in 0..indices.len() {
-        let sum = sum_of_products(column, &weights[j * min..(j + 1) * min]);
-        let word = word_of(sum, row_mask(code, indices[j]));
-        if !is_within(size, places[j] * code.split.width + k, word) {
+    for j in 0..plan.indices.len() {
+        let sum = sum_of_products(column, &plan.weights[j * min..(j + 1) * min]);
+        let word = word_of(sum, row_mask(code, plan.indices[j]));
+        if !is_within(size, plan.places[j] * code.split.width + k, word) {
             return false;
         }
     }
     true
 }
 
-/// Whether so many bytes have room for the lost rows, which come by weights from the rows in hand; none
-/// has a place behind `last`. `column` is room for a column.
+/// Whether so many bytes have room for the rows of the plan, none of which has a place behind `last`.
+/// `column` is room for a column.
 fn are_lost_within<M: WordMemory>(
     rows: &[Row<'_, M>],
-    weights: &[F],
-    indices: &[u32],
-    places: &[usize],
+    plan: &Plan<'_>,
     code: Code,
     last: usize,
     column: &mut [F],
     size: usize,
 ) -> bool
     requires size { length column.old ≡ length rows.now }
-    requires weights { length weights.now ≡ length indices.now * length rows.now }
-    requires places { length places.now ≡ length indices.now }
+    requires weights { length plan.now.weights.now
+        ≡ length plan.now.indices.now * length rows.now }
+    requires places { length plan.now.places.now ≡ length plan.now.indices.now }
     requires last { (last + 1) * code.split.width ≤ 2 ^ 61 }
-    requires behind { All (λ p. p ≤ last) places.now }
-    ensures { IsTrue result ↔ AreWithinRoom size code.split.width places.now
-        (word_by M.word code.split.min code.mask rows.now weights.now indices.now) }
+    requires behind { All (λ p. p ≤ last) plan.now.places.now }
+    ensures { IsTrue result ↔ AreWithinRoom size code.split.width plan.now.places.now
+        (word_by M.word code.split.min code.mask rows.now plan.now.weights.now
+        plan.now.indices.now) }
 {
     for k in first_past(size, code.split.width, last)..code.split.width {
         gather(rows, code, k, column);
-        if !is_column_within(column, weights, indices, places, code, k, size) {
+        if !is_column_within(column, plan, code, k, size) {
             return false;
         }
     }
@@ -248,32 +241,20 @@ pub(crate) fn write_wanted<M: WordMemory>(
     let first = &held.indices[..min];
     let weights = weight_rows(alloc, code.split.total, first, &lost.indices)?;
     let mut column = zeros(alloc, min)?;
+    let plan = Plan {
+        indices: &lost.indices,
+        places: &lost.places,
+        weights: &weights,
+    };
     if !are_copies_within(&held.indices, &held.rows, wanted, width, size) {
         return Ok(false);
     }
     let chosen = &held.rows[..min];
     let last = wanted.len().saturating_sub(1);
-    if !are_lost_within(
-        chosen,
-        &weights,
-        &lost.indices,
-        &lost.places,
-        code,
-        last,
-        &mut column,
-        size,
-    ) {
+    if !are_lost_within(chosen, &plan, code, last, &mut column, size) {
         return Ok(false);
     }
     write_copies(&held.indices, &held.rows, wanted, width, out);
-    fill(
-        chosen,
-        &weights,
-        &lost.indices,
-        &lost.places,
-        code,
-        &mut column,
-        out,
-    );
+    fill(chosen, &plan, code, &mut column, out);
     Ok(true)
 }

@@ -3,7 +3,6 @@ use Rattle.std.specs.List.{All, range_with_len}
 use Rattle.std.proofs.lemmas.List.FromFn.{length-range_with_len}
 use Rattle.std.proofs.lemmas.Result.{err_from_is_err_and}
 use Rattle.systematic_shards.specs.Shards.{AreRowsAt, AreWithinAt, BelongTo, IsElementIn, IsRowOf}
-use Rattle.systematic_shards.specs.Refusals.{AreAsked}
 use Rattle.systematic_shards.proofs.Held.{all-kept, enough-kept}
 use Rattle.systematic_shards.proofs.Ranges.{range-rising}
 use Rattle.systematic_shards.proofs.decoding.decode.Goals as goal

@@ -1,4 +1,4 @@
-use Rattle.std.proofs.Common.{◌∙◌, arith}
+use Rattle.std.proofs.Common.{◌∙◌}
 use Rattle.systematic_shards.proofs.Filled.{row-more}
 use Rattle.systematic_shards.proofs.filling.copy_row.Goals as goal
 

@@ -11,9 +11,9 @@ loop-k-preserved g c =
     let split = c.args.code.split in
     let mask = c.args.code.mask in
     let rows = c.args.rows.now in
-    let weights = c.args.weights.now in
-    let indices = c.args.indices.now in
-    let places = c.args.places.now in
+    let weights = c.args.plan.now.weights.now in
+    let indices = c.args.plan.now.indices.now in
+    let places = c.args.plan.now.places.now in
     let k = c.loop-k.k in
     let now = word c.loop-k.out in
     let new = word c.fill_column.new.out in
@@ -27,4 +27,4 @@ returns g c =
     let word = g.M.WordMemory.word in
     let split = c.args.code.split in
     let all : c.loop-k.k ≡ split.width = omega (arith, c.loop-k-test.false, c.loop-k.auto.k-end) in
-    subst (λ n. AreFilled split.width c.args.places.now (word_by word split.min c.args.code.mask c.args.rows.now c.args.weights.now c.args.indices.now) n (word c.args.out.now) (word c.loop-k.out)) all c.loop-k.invariant
+    subst (λ n. AreFilled split.width c.args.plan.now.places.now (word_by word split.min c.args.code.mask c.args.rows.now c.args.plan.now.weights.now c.args.plan.now.indices.now) n (word c.args.out.now) (word c.loop-k.out)) all c.loop-k.invariant

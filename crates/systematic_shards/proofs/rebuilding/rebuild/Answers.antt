@@ -1,4 +1,4 @@
-use Rattle.std.proofs.Common.{◌≡◌, ◌+◌, ◌*◌, ◌<◌, ℕ, length, get_or}
+use Rattle.std.proofs.Common.{◌*◌, ◌<◌, ℕ, length, get_or}
 use Rattle.std.proofs.lemmas.Result.{err_from_is_err_and}
 use Rattle.systematic_shards.specs.Shards.{AreWithinAt, BelongTo, IsElementIn, IsRowOf, word_in}
 use Rattle.systematic_shards.proofs.Elements.{word-fits}

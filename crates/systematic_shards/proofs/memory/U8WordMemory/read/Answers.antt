@@ -1,4 +1,4 @@
-use Rattle.std.proofs.Common.{◌≡◌, ◌∙◌, ◌/◌, [], length, get_or, ap, arith}
+use Rattle.std.proofs.Common.{◌∙◌, ◌/◌, [], length, get_or, ap, arith}
 use Rattle.systematic_shards.proofs.Bytes.{chunk-at, word-chunk}
 use Rattle.systematic_shards.proofs.memory.U8WordMemory.read.Goals as goal
 
