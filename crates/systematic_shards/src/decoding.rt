@@ -1,6 +1,6 @@
 //! Data from rows.
 
-ghost use Rattle.std.specs.Prelude.{◌≡◌, ◌*◌, ◌<◌, ◌≤◌, ◌^◌, [], ℕ, length};
+ghost use Rattle.std.specs.Prelude.{◌≡◌, ◌*◌, [], ℕ, length};
 ghost use Rattle.std.specs.Prelude.{IfErr, OnErr, OnOk};
 ghost use Rattle.math_base.specs.declared.fields.goldilocks.F.{F};
 ghost use Rattle.systematic_shards.specs.Refusals.{AreAsked, AreElements, HaveEnough};

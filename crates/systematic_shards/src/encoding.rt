@@ -1,6 +1,6 @@
 //! A block to parity rows, and the mask of its words.
 
-ghost use Rattle.std.specs.Prelude.{◌≡◌, ◌+◌, ◌-◌, ◌*◌, ◌<◌, ◌≤◌, ◌^◌, ℕ, length, IfOk, OnErr};
+ghost use Rattle.std.specs.Prelude.{◌≡◌, ◌-◌, ◌*◌, ◌≤◌, length, IfOk, OnErr};
 ghost use Rattle.std.specs.List.{range_with_len};
 ghost use Rattle.systematic_shards.specs.Masks.{IsLeastMask};
 ghost use Rattle.systematic_shards.specs.Shards.{AreBlockRows, AreShards};

@@ -3,9 +3,8 @@
 //! A column of the rows in hand is gathered once, and each further row takes a sum of products from
 //! it. Nothing here takes memory but `zeros`.
 
-ghost use Rattle.std.specs.Prelude.{◌≡◌, ◌≢◌, ◌↔◌, ◌+◌, ◌*◌, ◌<◌, ◌≤◌, ◌^◌, ℕ, All, length, slice_index, replicate};
+ghost use Rattle.std.specs.Prelude.{◌≡◌, ◌↔◌, ◌+◌, ◌*◌, ◌<◌, ◌≤◌, ◌^◌, ℕ, All, length, slice_index};
 ghost use Rattle.std.specs.Prelude.{IsTrue, IfOk};
-ghost use Rattle.math_base.specs.Elements.{residue};
 ghost use Rattle.math_restoring.specs.Restored.{AreDistinct};
 ghost use Rattle.systematic_shards.specs.Filled.{AreFilled, AreWithinRoom, HaveSums, HaveSumsIn};
 ghost use Rattle.systematic_shards.specs.Filled.{IsColumnFilled, IsRowFilled, word_by};

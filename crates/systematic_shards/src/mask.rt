@@ -1,6 +1,6 @@
 //! Any word as an element: the mask over its high half.
 
-ghost use Rattle.std.specs.Prelude.{◌≡◌, ◌+◌, ◌-◌, ◌<◌, ◌≤◌, ◌^◌, ◌↔◌, ℕ, IfOk, IsTrue, OnOk, length};
+ghost use Rattle.std.specs.Prelude.{◌≡◌, ◌-◌, ◌<◌, ◌≤◌, ◌^◌, ◌↔◌, ℕ, IfOk, IsTrue, OnOk};
 ghost use Rattle.math_base.specs.Elements.{number, residue};
 ghost use Rattle.systematic_shards.specs.Masks.{AreTaken, IsFree, IsFreeOf, IsLeastMask};
 ghost use Rattle.systematic_shards.specs.Masks.{masked_number};

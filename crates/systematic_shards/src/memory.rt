@@ -1,7 +1,6 @@
 //! The caller's memory, in which words lie as they are or as eight bytes each, the lowest first.
 
 ghost use Rattle.std.specs.Prelude.{◌≡◌, ◌≢◌, ◌+◌, ◌-◌, ◌*◌, ◌<◌, ◌≤◌, ◌^◌, ◌++◌, ℕ, List, length, take, drop, replicate, slice_index};
-ghost use Rattle.std.specs.Int.{from_le_bytes, w64};
 ghost use Rattle.systematic_shards.specs.Words.{IsWithin, word_of_bytes};
 
 /// What data and rows lie in: words, or bytes, of which eight are a word, the lowest first.

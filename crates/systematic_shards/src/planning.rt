@@ -1,6 +1,6 @@
 //! The rows of wanted indices: those in hand are copied, and the others come by weights.
 
-ghost use Rattle.std.specs.Prelude.{◌≡◌, ◌≢◌, ◌↔◌, ◌+◌, ◌*◌, ◌<◌, ◌≤◌, ◌^◌, ℕ, All, Contains, List, length, slice_index, slice_index_or};
+ghost use Rattle.std.specs.Prelude.{◌≡◌, ◌↔◌, ◌+◌, ◌*◌, ◌<◌, ◌≤◌, ◌^◌, ℕ, All, Contains, List, length, slice_index};
 ghost use Rattle.std.specs.Prelude.{IsTrue, IsFalse, IfOk, IfSome, IfNone, OnErr, OnOk};
 ghost use Rattle.std.specs.List.Sorted.{IsStrictlyIncreasing};
 ghost use Rattle.math_base.specs.declared.fields.goldilocks.F.{F};
@@ -8,7 +8,7 @@ ghost use Rattle.systematic_shards.specs.Filled.{AreWithinRoom, word_by};
 ghost use Rattle.systematic_shards.specs.Held.{AreIndexed};
 ghost use Rattle.systematic_shards.specs.Refusals.{AreElements};
 ghost use Rattle.systematic_shards.specs.Shards.{AreRowsAt, AreWithinAt, BelongTo};
-ghost use Rattle.systematic_shards.specs.Shards.{IsCodewordOf, column_of_rows, word_in};
+ghost use Rattle.systematic_shards.specs.Shards.{IsCodewordOf, word_in};
 ghost use Rattle.systematic_shards.specs.Wanted.{AreCopied, AreCopiesWithin, AreLost};
 ghost use Rattle.systematic_shards.specs.Weights.{sum_at};
 ghost use Rattle.systematic_shards.specs.Words.{IsWithin};

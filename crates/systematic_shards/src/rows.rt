@@ -1,6 +1,6 @@
 //! Rows in the caller's memory, and what is tested of them before anything else.
 
-ghost use Rattle.std.specs.Prelude.{◌≡◌, ◌≢◌, ◌↔◌, ◌*◌, ◌<◌, ◌≤◌, ◌^◌, ℕ, All, List, length};
+ghost use Rattle.std.specs.Prelude.{◌≡◌, ◌≢◌, ◌↔◌, ◌*◌, ◌<◌, ◌≤◌, ℕ, All, List, length};
 ghost use Rattle.std.specs.Prelude.{IsTrue, IfErr, IfSome, IfNone, OnOk};
 ghost use Rattle.systematic_shards.specs.Refusals.{AreElements, HasLength, IsDue, IsSound};
 ghost use Rattle.systematic_shards.specs.Shards.{IsElementIn, mask_of_row};
