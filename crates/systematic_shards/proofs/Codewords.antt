@@ -17,7 +17,7 @@ use Rattle.math_base.specs.declared.fields.goldilocks.F.{F}
 use Rattle.math_base.specs.ElementRootLaws.{field, roots}
 use Rattle.math_base.specs.Elements.{number, residue, inverse, same, product, root_of}
 use Rattle.math_base.proofs.ElementNumbers.{same_number}
-use Rattle.math_restoring.proofs.ElementRing.{elements}
+use Rattle.math_values.proofs.ElementRing.{elements}
 use Rattle.math_transforms.proofs.PresentIndices.{lg-of_total, lg-only}
 use Rattle.systematic_shards.specs.Codewords.{AreIndices, HaveCodeword, HaveOneCodeword, value_at_index}
 
