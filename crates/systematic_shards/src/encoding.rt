@@ -50,7 +50,8 @@ fn places_below(alloc: Global, count: usize) -> Mem<Vec<usize>>
 ///
 /// The block has as many bytes as the split says, and `parity` as many as the parity rows. If `min`
 /// is `total`, or there are no bytes, only the mask is found. It takes memory for `min` weights for
-/// each parity row, and, where the mask is not 0, for a flag for each word. If that is refused, it
+/// each parity row, for a few times N elements while these are made, where N is `total` rounded up
+/// to a power of two, and, where the mask is not 0, for a flag for each word. If that is refused, it
 /// writes nothing.
 ///
 /// ```
