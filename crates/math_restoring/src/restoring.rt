@@ -66,8 +66,8 @@ fn write_products(cells: &[F], factor: F, room: &mut [F])
     }
 }
 
-/// Writes over the room zeros, and `cols` cells of each row, from column `from` on, times the factor
-/// of its place, over the row at its place.
+/// Writes over the room zeros, and `cols` cells of each row, from column `from` on, times the
+/// factor of its place, over the row at its place.
 fn place_rows(
     places: &[usize],
     factors: &[F],

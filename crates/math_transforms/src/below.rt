@@ -6,8 +6,8 @@
 //! one half of the points and -g at the other: so p has the values of l + g h at the one and those
 //! of l - g h at the other, and both have half as many rows. Two such levels are taken in one pass,
 //! and one where two rows are left. Sixteen rows have a function without a call of itself. A weight
-//! is the same for all rows and columns of a half. The rows of coefficients are in natural order and
-//! the values in that of the tree, so no row changes its place.
+//! is the same for all rows and columns of a half. The rows of coefficients are in natural order
+//! and the values in that of the tree, so no row changes its place.
 //!
 //! Where there are at most as many coefficients as half of the rows, h is zero: p is l at both
 //! halves of the points. So each half is given the same coefficients, until there are as many rows

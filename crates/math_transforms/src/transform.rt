@@ -2,10 +2,10 @@
 //!
 //! The tree of the powers of a root of order 2^lg has them below its first place: there the rows of
 //! values stand in bit-reversed order, in which row i stands at the place whose bits are those of i
-//! in the opposite order. `evaluate_below` and `interpolate_below` lead from coefficients in natural
-//! order to values in that of the tree, and back. `evaluate_rows` and `interpolate_rows` have both
-//! in natural order: they put the rows of values in the other order after the one, and before the
-//! other. `evaluate_rows_reversed` and `evaluate_few` leave them in that of the tree.
+//! in the opposite order. `evaluate_below` and `interpolate_below` lead from coefficients in
+//! natural order to values in that of the tree, and back. `evaluate_rows` and `interpolate_rows`
+//! have both in natural order: they put the rows of values in the other order after the one, and
+//! before the other. `evaluate_rows_reversed` and `evaluate_few` leave them in that of the tree.
 //!
 //! The way back gives 2^lg times the coefficients, so that in the end each cell is multiplied once
 //! by 1 / 2^lg.
@@ -75,8 +75,8 @@ pub fn evaluation_table<F: FieldNTT>(alloc: Global, lg: u8) -> Mem<Vec<F>>
     Ok(table)
 }
 
-/// The table for `interpolate_rows` at 2^lg rows: the tree of the powers of the inverse of the root,
-/// of 2^lg entries.
+/// The table for `interpolate_rows` at 2^lg rows: the tree of the powers of the inverse of the
+/// root, of 2^lg entries.
 pub fn interpolation_table<F: FieldNTT>(alloc: Global, lg: u8) -> Mem<Vec<F>>
     requires domain { lg ≤ F.MAX_LG_ROOT_ORDER }
     requires small { lg < 64 }

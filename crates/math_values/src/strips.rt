@@ -13,8 +13,8 @@ use std::alloc::{AllocError, Global};
 /// cells.
 const LEAST_COLS: usize = 8;
 
-/// Returns how many columns a strip of 2^lg rows has at most, of `width` columns: as many as make up
-/// `cells` cells, but eight where there are so many. It is one at least.
+/// Returns how many columns a strip of 2^lg rows has at most, of `width` columns: as many as make
+/// up `cells` cells, but eight where there are so many. It is one at least.
 pub fn most_cols(cells: usize, lg: u8, width: usize) -> usize
     requires { lg < 64 }
     ensures { 1 ≤ result }

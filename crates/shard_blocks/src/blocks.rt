@@ -74,13 +74,14 @@ pub fn split_block_rows(
     Ok(())
 }
 
-/// Writes the shards of these indices alone over `out`: over words, over elements, or over bytes, of
-/// which each cell takes eight, the highest first. Row t is the shard of index t of the list. An
+/// Writes the shards of these indices alone over `out`: over words, over elements, or over bytes,
+/// of which each cell takes eight, the highest first. Row t is the shard of index t of the list. An
 /// index may stand there twice.
 ///
 /// The conditions are those of `split_block_rows`, with as many rows as there are indices, and each
 /// index is below `total`. From a block that some of its shards gave back, this makes the lost ones
-/// again. It takes memory as `split_block_rows` does, or less. If that is refused, it writes nothing.
+/// again. It takes memory as `split_block_rows` does, or less. If that is refused, it writes
+/// nothing.
 ///
 /// ```
 /// use shard_blocks::split_block_rows_at;

@@ -7,8 +7,8 @@ ghost use Rattle.shard_blocks.specs.Correcting.{OneWrongIsCorrected};
 
 /// Any `min` shards of a `split_block` with distinct indices give back what was split, and shards
 /// give one block back at most. The same holds for shards that equal these: for copies, and for
-/// shards that were written and read again. A shard that is made of a block that came back so is the
-/// shard that was there.
+/// shards that were written and read again. A shard that is made of a block that came back so is
+/// the shard that was there.
 pub fn joined_blocks()
     ensures once { HaveOneBlock }
     ensures chosen { ChosenShardsGiveBlock }

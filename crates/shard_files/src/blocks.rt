@@ -56,10 +56,10 @@ impl BlockReader {
 
     /// The bytes of a block of the split.
     ///
-    /// They are those that the first shards give that fit their fingerprints, as many as are needed.
-    /// Where these give no such block, or where all are to be compared, all shards that fit are looked
-    /// at together, and those are noted at their files that do not fit the others. It refuses where
-    /// there is no such block, and names it.
+    /// They are those that the first shards give that fit their fingerprints, as many as are
+    /// needed. Where these give no such block, or where all are to be compared, all shards that fit
+    /// are looked at together, and those are noted at their files that do not fit the others. It
+    /// refuses where there is no such block, and names it.
     pub fn block(
         &mut self,
         rt: &HostRuntime,
@@ -72,8 +72,9 @@ impl BlockReader {
         block_in(rt, &self.split, files, block, look, &mut self.room)
     }
 
-    /// Looks at all shards of a block, and notes what is wrong with each. It refuses where those that
-    /// fit their fingerprints, each index counted once, are fewer than give the block; none is joined.
+    /// Looks at all shards of a block, and notes what is wrong with each. It refuses where those
+    /// that fit their fingerprints, each index counted once, are fewer than give the block; none is
+    /// joined.
     pub fn check(
         &mut self,
         rt: &HostRuntime,

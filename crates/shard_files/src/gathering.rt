@@ -62,14 +62,14 @@ fn leave_out_others(file: &mut ShardFile, split: &Header) {
     }
 }
 
-/// Adds the shard files that are meant, and gives the split that they are of; those that belong to no
-/// split, or to another one, are left out.
+/// Adds the shard files that are meant, and gives the split that they are of; those that belong to
+/// no split, or to another one, are left out.
 ///
 /// Of the splits of which MIN shards or more are there, each number counted once, it is that of
 /// which the most are there, and where there is none such, one of which the most are there. It
 /// refuses where no shard is there, where equally many of two such splits are, and, unless the last
-/// blocks may be missing or fewer than MIN shards are there, where no file of the split is as long as
-/// its header says or longer: then its last block is in none.
+/// blocks may be missing or fewer than MIN shards are there, where no file of the split is as long
+/// as its header says or longer: then its last block is in none.
 pub fn gather(
     rt: &HostRuntime,
     wanted: &Wanted,

@@ -36,7 +36,8 @@ pub struct Source {
 /// A file that may hold shards.
 #[derive(Drop)]
 pub struct ShardFile {
-    /// The number in its name; where any name is taken, that of its header, where this is of the split.
+    /// The number in its name; where any name is taken, that of its header, where this is of the
+    /// split.
     pub number: Option<u32>,
     /// Its name.
     pub name: String,

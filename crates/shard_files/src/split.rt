@@ -84,8 +84,8 @@ impl Split {
         }
     }
 
-    /// How many cells each shard of a block of so many bytes has. It refuses where these are 2^32 or
-    /// more.
+    /// How many cells each shard of a block of so many bytes has. It refuses where these are 2^32
+    /// or more.
     pub fn cells_of(&self, bytes: usize) -> Result<u32, Fault>
         ensures { IfOk result (λ cells. (block : List ℕ) → length block ≡ bytes
             → cells ≡ width_for self.now.header.min (words_of_bytes block)) }

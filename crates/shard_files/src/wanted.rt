@@ -52,8 +52,8 @@ fn are_one_folder(rt: &HostRuntime, folder: &str, other: &str) -> bool {
     }
 }
 
-/// The names, in their order, but those of files that names before them have: the same last names in
-/// one folder, however that is spelled. Files that are linked are several.
+/// The names, in their order, but those of files that names before them have: the same last names
+/// in one folder, however that is spelled. Files that are linked are several.
 pub fn distinct<'a>(rt: &HostRuntime, names: &[&'a str]) -> Result<Vec<&'a str>, AllocError> {
     let mut seen = BTreeSet::new(rt.alloc());
     let mut kept = Vec::new(rt.alloc());

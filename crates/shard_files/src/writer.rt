@@ -61,8 +61,8 @@ impl ShardWriter {
         }
     }
 
-    /// Adds a file for the shards with this index. Its header is zeros. It refuses where there are as
-    /// many as a run writes.
+    /// Adds a file for the shards with this index. Its header is zeros. It refuses where there are
+    /// as many as a run writes.
     pub fn add(&mut self, rt: &HostRuntime, path: String, index: u32) -> Result<(), Fault>
         requires { index < self.old.split.header.total }
         ensures few { OnOk result (length self.new.indices.items ≤ 65536) }
@@ -144,9 +144,9 @@ impl ShardWriter {
     /// Writes the headers, and gives the files their names, once the shards of all bytes are
     /// written.
     ///
-    /// Where it refuses before a file has its name, what was written is removed. Later all of it stays,
-    /// under final names or not: files that were replaced are gone, and these may be all there is.
-    /// Where all have their names, and some a second one too, it refuses at the end.
+    /// Where it refuses before a file has its name, what was written is removed. Later all of it
+    /// stays, under final names or not: files that were replaced are gone, and these may be all
+    /// there is. Where all have their names, and some a second one too, it refuses at the end.
     pub fn finish(self, rt: &HostRuntime) -> Result<(), Fault>
         requires { self.left ≡ 0 }
     {
@@ -165,7 +165,8 @@ impl ShardWriter {
     }
 }
 
-/// Writes the shards of a block with these indices over the rows, and gives how many cells each has.
+/// Writes the shards of a block with these indices over the rows, and gives how many cells each
+/// has.
 fn fill_rows(
     alloc: Global,
     split: &Split,

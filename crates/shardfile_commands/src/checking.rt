@@ -52,8 +52,8 @@ pub struct Checked {
 /// Looks at all shards of each block, notes what is wrong, and which blocks have too few that fit
 /// their fingerprints. Only where all are to be compared are the shards of a block joined too.
 ///
-/// It gives up where it has read too much for nothing; then the first block was looked at, and is one
-/// of those that cannot be restored.
+/// It gives up where it has read too much for nothing; then the first block was looked at, and is
+/// one of those that cannot be restored.
 fn try_blocks(
     rt: &HostRuntime,
     split: &Split,

@@ -25,8 +25,8 @@ pub fn clean(rt: &HostRuntime, folder: &str) -> Result<(), Refusal> {
     Ok(())
 }
 
-/// Removes the partial file with this name in the folder, where its run does not go on, or says that
-/// it stays.
+/// Removes the partial file with this name in the folder, where its run does not go on, or says
+/// that it stays.
 fn clean_file(rt: &HostRuntime, folder: &str, name: &str) -> Result<(), Refusal> {
     let path = format!(in rt.alloc(); "{folder}/{name}")?;
     let Ok(metadata) = fs::symlink_metadata(rt, path.as_str()) else {

@@ -89,8 +89,8 @@ fn wanted_of<'a>(words: &'a [&'a str], is_named: bool) -> Option<Wanted<'a>> {
     }
 }
 
-/// The name of the file that is restored, and the shard files, as `FILE OUT` or `OUT SHARD ..` means
-/// them; none where the words are others.
+/// The name of the file that is restored, and the shard files, as `FILE OUT` or `OUT SHARD ..`
+/// means them; none where the words are others.
 fn output_and_shards<'a>(words: &'a [&'a str], is_named: bool) -> Option<(&'a str, Wanted<'a>)> {
     let (out, rest) = if is_named {
         words.split_first()?

@@ -23,7 +23,8 @@ impl Progress {
         }
     }
 
-    /// Tells how much is done where so many bytes are left, if that makes another percent or is all.
+    /// Tells how much is done where so many bytes are left, if that makes another percent or is
+    /// all.
     pub fn print_percentage(&mut self, rt: &HostRuntime, left: u64) {
         if !self.is_told {
             return;

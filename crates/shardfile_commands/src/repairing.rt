@@ -181,8 +181,8 @@ fn add_numbers(
     Ok(())
 }
 
-/// The numbers of the shards that are meant and of which no file has the place. The files are in the
-/// order of their numbers.
+/// The numbers of the shards that are meant and of which no file has the place. The files are in
+/// the order of their numbers.
 fn missing_numbers(
     alloc: Global,
     order: &Order,

@@ -40,8 +40,8 @@ pub struct Order<'a> {
 ///
 /// It refuses, beside what the system refuses, where the file is no regular one, changes meanwhile
 /// or is being split by another run, where a shard file is there already and is not to be replaced,
-/// and where one is there with a number of `total` or more. Then no new shard file is there. Where it
-/// refuses while it names them, those stay that have their names, and so do the others, without.
+/// and where one is there with a number of `total` or more. Then no new shard file is there. Where
+/// it refuses while it names them, those stay that have their names, and so do the others, without.
 pub fn split(rt: &HostRuntime, order: &Order) -> Result<(), Refusal> {
     let (mut source, metadata) = open_source(rt, order.name)?;
     let target = target_of(rt.alloc(), order.name, order.to)?;

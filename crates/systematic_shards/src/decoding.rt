@@ -19,8 +19,8 @@ use std::alloc::Global;
 /// Writes the block over `block`, from `min` or more of its rows: data rows that are in hand are
 /// copied.
 ///
-/// It refuses as `rebuild` does, and with `Inconsistent` too if a byte of the data rows past the end of
-/// the block is not zero. If it refuses, it writes nothing.
+/// It refuses as `rebuild` does, and with `Inconsistent` too if a byte of the data rows past the
+/// end of the block is not zero. If it refuses, it writes nothing.
 ///
 /// ```
 /// use systematic_shards::{Code, Row, Split, decode};

@@ -44,15 +44,15 @@ fn places_below(alloc: Global, count: usize) -> Mem<Vec<usize>>
 /// Finds the mask of a block, and writes its parity rows, those of the indices from `min` to
 /// `total` - 1, over `parity`, row after row.
 ///
-/// The mask is the least one under which no word of the block, with the zeros that fill the last data
-/// rows, has a high half that is all ones. Under it the words of the block are the data rows of a
-/// codeword, and what is written are its parity rows; there are no others.
+/// The mask is the least one under which no word of the block, with the zeros that fill the last
+/// data rows, has a high half that is all ones. Under it the words of the block are the data rows
+/// of a codeword, and what is written are its parity rows; there are no others.
 ///
 /// The block has as many bytes as the split says, and `parity` as many as the parity rows. If `min`
 /// is `total`, or there are no bytes, only the mask is found. It takes memory for `min` weights for
 /// each parity row, for a few times N elements while these are made, where N is `total` rounded up
-/// to a power of two, and, where the mask is not 0, for a flag for each word. If that is refused, it
-/// writes nothing.
+/// to a power of two, and, where the mask is not 0, for a flag for each word. If that is refused,
+/// it writes nothing.
 ///
 /// ```
 /// use systematic_shards::{Split, encode};

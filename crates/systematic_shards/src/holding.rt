@@ -38,8 +38,8 @@ fn sorted<'a, M: WordMemory>(alloc: Global, rows: &[Row<'a, M>]) -> Mem<Vec<Row<
     Ok(out)
 }
 
-/// Puts the row behind those of other indices. If the last of these has its index, it is left out, and
-/// a word that differs is refused.
+/// Puts the row behind those of other indices. If the last of these has its index, it is left out,
+/// and a word that differs is refused.
 fn keep<'a, M: WordMemory>(
     kept: &mut Vec<Row<'a, M>>,
     row: Row<'a, M>,

@@ -5,8 +5,8 @@ ghost use Rattle.systematic_shards.specs.Masks.{UnmaskedIsMasked};
 ghost use Rattle.systematic_shards.specs.Shards.{HaveCodewordThrough, HaveOneCodewordOf};
 ghost use Rattle.systematic_shards.specs.Shards.{HaveOneEncoding};
 
-/// Through any rows of at most `min` distinct indices goes a codeword, and no two different ones where
-/// the rows are `min`.
+/// Through any rows of at most `min` distinct indices goes a codeword, and no two different ones
+/// where the rows are `min`.
 pub fn codewords()
     ensures once { HaveOneCodeword }
     ensures through { HaveCodeword }
@@ -17,9 +17,9 @@ pub fn masks()
     ensures { UnmaskedIsMasked }
 {}
 
-/// A block under its mask has one list of parity rows. Rows of `min` distinct indices or more belong
-/// to one codeword at most, so whichever rows are lost, those that are rebuilt are they; and rows of
-/// `min` distinct indices always belong to one.
+/// A block under its mask has one list of parity rows. Rows of `min` distinct indices or more
+/// belong to one codeword at most, so whichever rows are lost, those that are rebuilt are they; and
+/// rows of `min` distinct indices always belong to one.
 pub fn shards()
     ensures encoded { HaveOneEncoding }
     ensures rebuilt { HaveOneCodewordOf }

@@ -1,15 +1,15 @@
 //! Systematic shards: the data as they are, and parity.
 //!
-//! A block of bytes is cut into `min` data rows of words: eight bytes a word, the lowest first, with
-//! zeros behind the last byte. Parity rows make them `total` rows. Column by column the words of the
-//! rows are values of one polynomial of at most `min` coefficients: row i has its value at power i of
-//! the root of unity of order N, the least power of two that is `total` or more. So any `min` rows
-//! give back all others. This is Reed and Solomon's code in its systematic form.
+//! A block of bytes is cut into `min` data rows of words: eight bytes a word, the lowest first,
+//! with zeros behind the last byte. Parity rows make them `total` rows. Column by column the words
+//! of the rows are values of one polynomial of at most `min` coefficients: row i has its value at
+//! power i of the root of unity of order N, the least power of two that is `total` or more. So any
+//! `min` rows give back all others. This is Reed and Solomon's code in its systematic form.
 //!
 //! A word can be P or more, and is then no element of the field. So the high half of each word of
-//! the data is xored with a mask before it is taken as an element: the least mask that leaves no high
-//! half all ones. It is nearly always 0. Parity words are elements as they are. The data stand in the
-//! data rows byte for byte: they are never written under the mask.
+//! the data is xored with a mask before it is taken as an element: the least mask that leaves no
+//! high half all ones. It is nearly always 0. Parity words are elements as they are. The data stand
+//! in the data rows byte for byte: they are never written under the mask.
 //!
 //! Rows lie in the caller's memory, as words or as bytes. A data row hides nothing of the data.
 #![tactic(auto)]

@@ -84,8 +84,8 @@ fn is_within(size: usize, k: usize, word: u64) -> bool
     left >= 8 || word >> (8 * left) == 0
 }
 
-/// The first column in which row `place` of rows of this width, in so many bytes, has a word that does
-/// not lie before their end; it may be past the width.
+/// The first column in which row `place` of rows of this width, in so many bytes, has a word that
+/// does not lie before their end; it may be past the width.
 fn first_past(size: usize, width: usize, place: usize) -> usize
     requires { (place + 1) * width ≤ 2 ^ 61 }
     ensures { (k : ℕ) → k < result → 8 * (place * width + k) + 8 ≤ size }
@@ -93,7 +93,8 @@ fn first_past(size: usize, width: usize, place: usize) -> usize
     (size / 8).saturating_sub(place * width)
 }
 
-/// Whether so many bytes have room for the words of a row, as row `place`: those past the end are zeros.
+/// Whether so many bytes have room for the words of a row, as row `place`: those past the end are
+/// zeros.
 fn is_row_within<M: WordMemory>(cells: &[M], width: usize, place: usize, size: usize) -> bool
     requires inside { (place + 1) * width ≤ 2 ^ 61 }
     requires words { (k : ℕ) → k < width → M.word cells.now k < 2 ^ 64 }
@@ -179,8 +180,8 @@ fn is_column_within(column: &[F], plan: &Plan<'_>, code: Code, k: usize, size: u
     true
 }
 
-/// Whether so many bytes have room for the rows of the plan, none of which has a place behind `last`.
-/// `column` is room for a column.
+/// Whether so many bytes have room for the rows of the plan, none of which has a place behind
+/// `last`. `column` is room for a column.
 fn are_lost_within<M: WordMemory>(
     rows: &[Row<'_, M>],
     plan: &Plan<'_>,
@@ -211,8 +212,8 @@ fn are_lost_within<M: WordMemory>(
 /// Writes the rows of the wanted indices over `out`, row after row, if what lies past its end are
 /// zeros; else it writes nothing. Answers which it was.
 ///
-/// The rows in hand are copied. Each other one comes by weights from the first `min` of these: so it
-/// takes `min` products a word. For many rows from many, transforms would take fewer.
+/// The rows in hand are copied. Each other one comes by weights from the first `min` of these: so
+/// it takes `min` products a word. For many rows from many, transforms would take fewer.
 pub(crate) fn write_wanted<M: WordMemory>(
     alloc: Global,
     held: &Held<'_, M>,

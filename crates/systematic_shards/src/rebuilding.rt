@@ -18,10 +18,10 @@ use std::alloc::Global;
 
 /// Writes the rows of the wanted indices, data rows or parity rows, over `out`, row after row.
 ///
-/// The rows in hand have `min` or more distinct indices, and belong to one codeword: what is written
-/// are its rows. With just `min` indices they always do, so damage is not found. A wanted row that is
-/// in hand is copied; an index that is wanted twice is written twice; with none wanted the rows are
-/// only checked.
+/// The rows in hand have `min` or more distinct indices, and belong to one codeword: what is
+/// written are its rows. With just `min` indices they always do, so damage is not found. A wanted
+/// row that is in hand is copied; an index that is wanted twice is written twice; with none wanted
+/// the rows are only checked.
 ///
 /// It refuses, in this order:
 ///
@@ -29,15 +29,15 @@ use std::alloc::Global;
 /// - the first row of a wrong length, with `Mismatch`, or with an index of `total` or more, with
 ///   `Index`;
 /// - a wanted index of `total` or more, with `Index`;
-/// - a word of a parity row that is P or more, or one of a data row whose high half is all ones under
-///   the mask, with `Word`;
+/// - a word of a parity row that is P or more, or one of a data row whose high half is all ones
+///   under the mask, with `Word`;
 /// - two rows of one index that differ, with `Conflict`; equal ones count once;
 /// - fewer than `min` distinct indices, with `TooFew`;
 /// - rows of no codeword, with `Inconsistent`.
 ///
-/// It takes memory for the indices and addresses of the rows, for `min` weights for each row past the
-/// first `min` and for each that is lost, and for a few times N elements while these are made, where
-/// N is `total` rounded up to a power of two. If it refuses, it writes nothing.
+/// It takes memory for the indices and addresses of the rows, for `min` weights for each row past
+/// the first `min` and for each that is lost, and for a few times N elements while these are made,
+/// where N is `total` rounded up to a power of two. If it refuses, it writes nothing.
 ///
 /// ```
 /// use systematic_shards::{Code, Row, Split, rebuild};
@@ -88,11 +88,11 @@ fn is_of_no_codeword(e: &Error) -> bool
     }
 }
 
-/// Whether the rows, of `min` or more distinct indices, belong to one codeword. Two rows of one index
-/// that differ do not.
+/// Whether the rows, of `min` or more distinct indices, belong to one codeword. Two rows of one
+/// index that differ do not.
 ///
-/// With just `min` indices rows that do not differ always do. It refuses what `rebuild` refuses, but
-/// for `Conflict` and `Inconsistent`, where the answer is no; and it takes memory as that does.
+/// With just `min` indices rows that do not differ always do. It refuses what `rebuild` refuses,
+/// but for `Conflict` and `Inconsistent`, where the answer is no; and it takes memory as that does.
 ///
 /// ```
 /// use systematic_shards::{Code, Row, Split, verify};

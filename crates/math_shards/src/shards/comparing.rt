@@ -161,8 +161,8 @@ fn have_columns<R: Row>(
     true
 }
 
-/// Whether the rows have the values of all columns, strip by strip of at most as many columns as the
-/// room has in 2^lg rows.
+/// Whether the rows have the values of all columns, strip by strip of at most as many columns as
+/// the room has in 2^lg rows.
 fn have_strips<R: Row>(
     alloc: Global,
     rows: &[R],

@@ -44,8 +44,8 @@ use std::alloc::Global;
 /// It joins the first `min` shards of distinct indices. Let N be `total` rounded up to a power of
 /// two. Beside the data, it takes memory for as many elements as these shards have cells, and:
 ///
-/// - If `min` is small, and no more than a shard has cells, it joins by weights, in memory for `min`
-///   rows of `min` cells, for a few times N elements and for one strip of N rows.
+/// - If `min` is small, and no more than a shard has cells, it joins by weights, in memory for
+///   `min` rows of `min` cells, for a few times N elements and for one strip of N rows.
 /// - Otherwise it joins by transforms of strips of columns, in memory for a few times N elements
 ///   and for one strip of N rows.
 /// - If there are further shards, it then compares all shards with the data, in memory for a table
@@ -127,8 +127,8 @@ pub(super) fn joined_elements<R: Row>(
     Err(error)
 }
 
-/// The data that the rows fit; `None` where fewer than `min` rows have distinct indices, or some row
-/// does not fit.
+/// The data that the rows fit; `None` where fewer than `min` rows have distinct indices, or some
+/// row does not fit.
 ///
 /// The first `min` rows of distinct indices have the values of one polynomial a column. Where there
 /// are further rows, all are compared with the values of these.

@@ -24,8 +24,8 @@ use math_transforms::transform::size_of;
 use std::alloc::Global;
 
 /// Whether weights take less time: there are no more rows than a row has cells, and the products
-/// that weights take, one for each pair of rows, are no more than some for each row and level of the
-/// transforms, in a column.
+/// that weights take, one for each pair of rows, are no more than some for each row and level of
+/// the transforms, in a column.
 fn are_weights_cheaper(layout: Layout) -> bool {
     let min = layout.min as usize;
     let part = layout.part();

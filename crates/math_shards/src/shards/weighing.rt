@@ -5,10 +5,10 @@
 //! others. The sum of these, each times cell j of its shard, has the cells j of all shards as its
 //! values. So it is the polynomial of column j, since no other one of k coefficients has them.
 //! Coefficient r of column j is then the sum of the cells j of all shards, each times coefficient r
-//! of its polynomial: these weights are the same for all columns. Transforms (`math_restoring`) give
-//! them: of k rows of k cells, where the row of shard i has one in place i and zero in every other,
-//! they are the coefficients. Each coefficient then takes k products and one reduction, and the
-//! coefficients of a column are written over its cells.
+//! of its polynomial: these weights are the same for all columns. Transforms (`math_restoring`)
+//! give them: of k rows of k cells, where the row of shard i has one in place i and zero in every
+//! other, they are the coefficients. Each coefficient then takes k products and one reduction, and
+//! the coefficients of a column are written over its cells.
 
 ghost use Rattle.std.specs.Prelude.{◌≡◌, ◌+◌, ◌*◌, ◌<◌, ◌≤◌, ℕ, All, Contains, length};
 ghost use Rattle.std.specs.Prelude.{IfOk, OnOk, slice_index_or};

@@ -67,8 +67,8 @@ fn write_numbers(words: &mut [u64], items: &[F])
     }
 }
 
-/// Writes the numbers of the elements over the bytes from eight times `from` on, eight for each, the
-/// highest first.
+/// Writes the numbers of the elements over the bytes from eight times `from` on, eight for each,
+/// the highest first.
 ///
 /// Each turn of the loop writes two. If it wrote one, LLVM would make a vector loop of it, which
 /// takes twice as long on processors that cannot move bytes within a register.

@@ -1,7 +1,7 @@
 //! The values of all columns at few points.
 //!
-//! The value of a column at a point is the sum of its coefficients, each times a power of the point.
-//! For few points that is less work than a transform, which gives the values at all points.
+//! The value of a column at a point is the sum of its coefficients, each times a power of the
+//! point. For few points that is less work than a transform, which gives the values at all points.
 
 ghost use Rattle.std.specs.Prelude.{◌≡◌, ◌+◌, ◌*◌, ◌<◌, ◌≤◌, ◌^◌, ℕ, OnErr, OnOk, length};
 ghost use Rattle.math_theory.specs.Powers.{power};

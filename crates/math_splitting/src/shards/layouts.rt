@@ -43,7 +43,8 @@ impl Layout {
         }
     }
 
-    /// Returns the layout for shards of so many cells, or `None` if no shards can have these numbers.
+    /// Returns the layout for shards of so many cells, or `None` if no shards can have these
+    /// numbers.
     pub fn checked(min: u32, total: u32, width: usize) -> Option<Layout>
         ensures some { IfSome result (λ layout. (layout.min ≡ min) × (layout.total ≡ total)
             × (layout.width ≡ width)) }

@@ -53,8 +53,8 @@ pub fn split(alloc: Global, data: &[u64], min: u32, total: u32) -> Mem<Vec<Shard
     split_source(alloc, &source_of(data), min, total)
 }
 
-/// Cuts data that lie in any form into shards, as `split` does with words. There are fewer than 2^61
-/// words; the other conditions are those of `split`.
+/// Cuts data that lie in any form into shards, as `split` does with words. There are fewer than
+/// 2^61 words; the other conditions are those of `split`.
 ///
 /// ```
 /// let source = Source { first: Some(4), words: &[[6, 0, 0, 0, 0, 0, 0, 0]], last: None };
@@ -79,9 +79,10 @@ pub fn split_source<W: Word>(
 /// Gives the shards of these indices, in their order: those that `split_source` gives of all. An
 /// index may stand there twice.
 ///
-/// The conditions are those of `split_source`, and each index is below `total`. Where there are few indices,
-/// each value is a sum of `min` products; else all values of a strip are computed as `split` does, and
-/// those of these indices are kept. Beside the shards it takes memory as `split` does, or less.
+/// The conditions are those of `split_source`, and each index is below `total`. Where there are few
+/// indices, each value is a sum of `min` products; else all values of a strip are computed as
+/// `split` does, and those of these indices are kept. Beside the shards it takes memory as `split`
+/// does, or less.
 ///
 /// ```
 /// let source = Source { first: None, words: &[4_u64, 6], last: None };
@@ -161,10 +162,10 @@ pub fn split_source_rows<W: Word, R: Room>(
 /// Writes the shards of these indices over words, or over bytes, those that `split_source_rows`
 /// writes of all: row t is the shard of index t of the list. An index may stand there twice.
 ///
-/// The conditions are those of `split_source_rows`, with as many rows as there are indices, and each
-/// index is below `total`. Where there are few indices, each value is a sum of `min` products; else
-/// all values of a strip are computed as `split_rows` does, and those of these indices are written.
-/// Takes memory as `split_rows` does, or less. Where that is refused nothing is written.
+/// The conditions are those of `split_source_rows`, with as many rows as there are indices, and
+/// each index is below `total`. Where there are few indices, each value is a sum of `min` products;
+/// else all values of a strip are computed as `split_rows` does, and those of these indices are
+/// written. Takes memory as `split_rows` does, or less. Where that is refused nothing is written.
 ///
 /// ```
 /// let source = Source { first: None, words: &[4_u64, 6], last: None };
@@ -194,7 +195,8 @@ pub fn split_source_rows_at<W: Word, R: Room>(
     write_shards(alloc, source, min, total, Wanted::At(indices), cells)
 }
 
-/// Writes the shards that are asked for over the rows of the cells, in the way that takes less work.
+/// Writes the shards that are asked for over the rows of the cells, in the way that takes less
+/// work.
 fn write_shards<W: Word, R: Room>(
     alloc: Global,
     source: &Source<'_, W>,

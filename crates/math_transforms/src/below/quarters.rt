@@ -7,8 +7,8 @@
 //! but for a factor of two: so four times the coefficients come.
 //!
 //! Four products are seen here, by g twice and by e and f. But (b + d g) e is b e + d (e g), and
-//! (b - d g) f is b f - d (f g): with e g and f g at hand each is a sum of two products, which a type
-//! may reduce at once.
+//! (b - d g) f is b f - d (f g): with e g and f g at hand each is a sum of two products, which a
+//! type may reduce at once.
 
 ghost use Rattle.std.specs.Prelude.{
   ◌≡◌,

@@ -1,8 +1,8 @@
 //! Values on a domain of 2^lg points, moved to the coset of the domain by the shift.
 //!
 //! The way back from the tree of the domain gives 2^lg times the coefficients, and the tree of the
-//! coset leads from these to the values on it. The rows of values are in bit-reversed order in both,
-//! so that no row changes its place.
+//! coset leads from these to the values on it. The rows of values are in bit-reversed order in
+//! both, so that no row changes its place.
 
 ghost use Rattle.std.specs.Prelude.{◌≡◌, ◌+◌, ◌*◌, ◌<◌, ◌≤◌, ◌^◌, IsOk, IsTrue, OnOk, OnErr, length};
 ghost use Rattle.math_transforms.specs.CosetValues.{AreMovedValues};
@@ -18,8 +18,8 @@ use std::alloc::Global;
 /// values that the same polynomials have at the shift times these powers. Both are in bit-reversed
 /// order.
 ///
-/// Adds cols 2^lg lg butterflies. Where it is refused, the cells have some values, and one butterfly
-/// or more is counted.
+/// Adds cols 2^lg lg butterflies. Where it is refused, the cells have some values, and one
+/// butterfly or more is counted.
 pub fn move_rows<F: FieldNTT>(
     alloc: Global,
     cells: &mut [F],
