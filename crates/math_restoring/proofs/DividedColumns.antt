@@ -54,7 +54,7 @@ module _ (d : CosetDivision) (D : IsCosetDivision d) (c k : ℕ) (l : k < c) whe
 
   -- there is a level
   some : 1 ≤ d.lg
-  some = omega (arith, D.least, D.part)
+  some = omega (arith, D.tables.least, D.tables.part)
 
   -- a point of the coset in natural order
   abbrev coset_at : ℕ → F
@@ -62,7 +62,7 @@ module _ (d : CosetDivision) (D : IsCosetDivision d) (c k : ℕ) (l : k < c) whe
 
   coset_at-point : (t : ℕ) → t < m → coset_at t ≡ coset_point d.part (bit_reversed d.part t)
   coset_at-point t b =
-      ap (product shift_of) (sym (lower_root d.lg d.part t D.domain D.part) ∙ ap (raised (root_of d.part)) (sym (bit_reversed-twice d.part t b)))
+      ap (product shift_of) (sym (lower_root d.lg d.part t D.tables.domain D.tables.part) ∙ ap (raised (root_of d.part)) (sym (bit_reversed-twice d.part t b)))
 
   module _ (cells g values scaled new : List F) (count : length cells ≡ n) (g_count : length g ≡ n)
       (products : (i : ℕ) → i < n → same (at (raised (root_of d.lg) i) g) (product (item cells i) (at (raised (root_of d.lg) i) D.v)))
@@ -78,10 +78,10 @@ module _ (d : CosetDivision) (D : IsCosetDivision d) (c k : ℕ) (l : k < c) whe
         let y = item scaled (t * c + k) in
         let v = at x D.v in
         let w = twos goldilocks d.part in
-        let inside : t < length d.inverses.items = omega (arith, b, D.inverse_count) in
+        let inside : t < length d.inverses.items = omega (arith, b, D.tables.inverse_count) in
         let place : m * 1 + t ≡ m + t = omega arith in
         let one : same (product x (class_at goldilocks d.coset_inverses.items (m * 1 + t))) (residue 1) =
-        rw place (inverse-coset_point d.part t d.coset_inverses.items D.coset_inverses D.least (omega (arith, D.part, D.domain)) b) in
+        rw place (inverse-coset_point d.part t d.coset_inverses.items D.tables.coset_inverses D.tables.least (omega (arith, D.tables.part, D.tables.domain)) b) in
         ap (λ z. number (product z v)) (same_number (at x (column m c k new)) (product y w) (third t k x b l one))
         ∙ combine2_same equality group commutes ring (cell ∷ i ∷ y ∷ v ∷ w ∷ []) ((v2 ⊗ v4) ⊗ v3) v0 (v4 ⊗ v3) v2 (v0 ⊗ v1) v0 ((v1 ⊗ v3) ⊗ v4) 𝟙 (second t k inside l) (D.inverses t b) refl
         ∙ here t b
@@ -91,8 +91,8 @@ module _ (d : CosetDivision) (D : IsCosetDivision d) (c k : ℕ) (l : k < c) whe
 
     pub divided-fits : Fits same nought sum product (residue 1) (root_of d.lg) cells d.points (column m c k new)
     divided-fits =
-        recovered-fits equality group commutes ring field (root_of d.lg) shift_of n d.points D.points (shift_coset d.lg D.domain) (2 ^ (d.lg - d.part)) m cells D.v D.v g (column m c k new) count D.size
-        g_count (length-column nought (matrix_of m c new) k) D.some D.few (pow_pos (d.lg - d.part)) (omega (arith, blocks-all d.lg d.part D.part)) D.vanishes (λ i b. refl) products quotients
+        recovered-fits equality group commutes ring field (root_of d.lg) shift_of n d.points D.tables.points (shift_coset d.lg D.tables.domain) (2 ^ (d.lg - d.part)) m cells D.v D.v g (column m c k new) count D.size
+        g_count (length-column nought (matrix_of m c new) k) D.tables.some D.tables.few (pow_pos (d.lg - d.part)) (omega (arith, blocks-all d.lg d.part D.tables.part)) D.vanishes (λ i b. refl) products quotients
 
   module _ (cells old : List F)
       (times : (i : ℕ) → i < n → same (item old (bit_reversed d.lg i * c + k)) (product (item cells i) (item d.factors.items (bit_reversed d.lg i)))) where
@@ -111,7 +111,7 @@ module _ (d : CosetDivision) (D : IsCosetDivision d) (c k : ℕ) (l : k < c) whe
         let w = twos goldilocks d.lg in
         let place : n * 1 + t ≡ n + t = omega arith in
         rw (← natural)
-        (whole t k x below l (rw place (inverse-domain_point d.lg t d.domain.items D.domain_inverses some D.domain below))
+        (whole t k x below l (rw place (inverse-domain_point d.lg t d.domain.items D.tables.domain_inverses some D.tables.domain below))
         ∙ combine2_same equality group commutes ring (a ∷ f ∷ o ∷ v ∷ w ∷ []) (v2 ⊗ v4) (v0 ⊗ v3) v4 v2 (v0 ⊗ v1) v0 (v1 ⊗ v4) v3 (times i b) (D.factors.whole t e below) refl)
 
     module _ (sums : List F) (fewer : d.part < d.lg) (low high : List F) (low_count : length low ≡ half) (high_count : length high ≡ half)
@@ -128,13 +128,13 @@ module _ (d : CosetDivision) (D : IsCosetDivision d) (c k : ℕ) (l : k < c) whe
       less = sum (residue 1) (negative step_power)
 
       step_is : d.step ≡ raised shift_of (2 ^ d.part)
-      step_is = same_number d.step (raised shift_of (2 ^ d.part)) D.step
+      step_is = same_number d.step (raised shift_of (2 ^ d.part)) D.tables.step
 
       plus-inverse : same (product plus (inverse plus)) (residue 1)
-      plus-inverse = field.inverts plus (plus-nonzero d.lg d.part d.step fewer D.domain step_is)
+      plus-inverse = field.inverts plus (plus-nonzero d.lg d.part d.step fewer D.tables.domain step_is)
 
       less-inverse : same (product less (inverse less)) (residue 1)
-      less-inverse = field.inverts less (minus-nonzero d.lg d.part d.step fewer D.domain step_is)
+      less-inverse = field.inverts less (minus-nonzero d.lg d.part d.step fewer D.tables.domain step_is)
 
       -- the polynomial of all coefficients
       abbrev pub g : List F
@@ -170,7 +170,7 @@ module _ (d : CosetDivision) (D : IsCosetDivision d) (c k : ℕ) (l : k < c) whe
           let p = inverse plus in
           let value : at x low ≡ product o w = same_number (at x low) (product o w) (lows t b) in
           let factor : same (product f (product w (sum (residue 1) (residue 1)))) (product v plus) = rw (twos-more d.lg some) at (D.factors.low t fewer b) in
-          rw (g-at x (residue 1) (even-power d.lg t some D.domain b), value)
+          rw (g-at x (residue 1) (even-power d.lg t some D.tables.domain b), value)
           (ring_same equality group commutes ring (product o w ∷ p ∷ at x high ∷ inverse less ∷ []) (((v0 ⊗ v1) ⊕ (v2 ⊗ v3)) ⊕ (𝟙 ⊗ ((v0 ⊗ v1) ⊕ (v2 ⊗ minus v3)))) ((𝟙 ⊕ 𝟙) ⊗ (v0 ⊗ v1)) refl
           ∙ combine3_same equality group commutes ring (a ∷ f ∷ o ∷ w ∷ v ∷ step_power ∷ p ∷ []) ((𝟙 ⊕ 𝟙) ⊗ ((v2 ⊗ v3) ⊗ v6)) (v0 ⊗ v4)
           ((𝟙 ⊕ 𝟙) ⊗ (v6 ⊗ v3)) v2 (v0 ⊗ v1) (v0 ⊗ v6) (v1 ⊗ (v3 ⊗ (𝟙 ⊕ 𝟙))) (v4 ⊗ (𝟙 ⊕ v5)) (v0 ⊗ v4) ((𝟙 ⊕ v5) ⊗ v6) 𝟙 here factor plus-inverse refl)
@@ -187,7 +187,7 @@ module _ (d : CosetDivision) (D : IsCosetDivision d) (c k : ℕ) (l : k < c) whe
           let p = inverse less in
           let value : at x high ≡ product o w = same_number (at x high) (product o w) (highs t b) in
           let factor : same (product f (product w (sum (residue 1) (residue 1)))) (product v less) = rw (twos-more d.lg some) at (D.factors.high t fewer b) in
-          rw (g-at x (negative (residue 1)) (odd-power d.lg t some D.domain b), value)
+          rw (g-at x (negative (residue 1)) (odd-power d.lg t some D.tables.domain b), value)
           (ring_same equality group commutes ring (product o w ∷ p ∷ at x low ∷ inverse plus ∷ []) (((v2 ⊗ v3) ⊕ (v0 ⊗ v1)) ⊕ (minus 𝟙 ⊗ ((v2 ⊗ v3) ⊕ (v0 ⊗ minus v1)))) ((𝟙 ⊕ 𝟙) ⊗ (v0 ⊗ v1)) refl
           ∙ combine3_same equality group commutes ring (a ∷ f ∷ o ∷ w ∷ v ∷ step_power ∷ p ∷ []) ((𝟙 ⊕ 𝟙) ⊗ ((v2 ⊗ v3) ⊗ v6)) (v0 ⊗ v4)
           ((𝟙 ⊕ 𝟙) ⊗ (v6 ⊗ v3)) v2 (v0 ⊗ v1) (v0 ⊗ v6) (v1 ⊗ (v3 ⊗ (𝟙 ⊕ 𝟙))) (v4 ⊗ (𝟙 ⊕ minus v5)) (v0 ⊗ v4) ((𝟙 ⊕ minus v5) ⊗ v6) 𝟙 here factor less-inverse refl)
@@ -213,7 +213,7 @@ module _ (d : CosetDivision) (D : IsCosetDivision d) (c k : ℕ) (l : k < c) whe
       pub coset-sums : (t : ℕ) → same (at (coset_point d.part t) (column half c k sums)) (at (coset_point d.part t) g)
       coset-sums t =
           let x = coset_point d.part t in
-          let turn : raised x half ≡ step_power = power-below d.lg d.part x d.step fewer (coset-power d.part t (omega (arith, D.part, D.domain)) ∙ sym step_is) in
+          let turn : raised x half ≡ step_power = power-below d.lg d.part x d.step fewer (coset-power d.part t (omega (arith, D.tables.part, D.tables.domain)) ∙ sym step_is) in
           rw (g-at x step_power turn)
           (total x
           ∙ combine2_same equality group commutes ring (at x low ∷ at x high ∷ step_power ∷ inverse plus ∷ inverse less ∷ []) (v0 ⊕ v1)
@@ -238,7 +238,7 @@ module _ (d : CosetDivision) (D : IsCosetDivision d) (c k : ℕ) (l : k < c) (ce
   evaluated-at t b =
       let place : rows * 1 + t ≡ rows + t = omega arith in
       let x = coset_point d.part t in
-      let class : class_at goldilocks d.coset.items (rows + t) ≡ x = tree-coset_point d.part t d.coset.items D.coset_tree D.least (omega (arith, D.part, D.domain)) b in
+      let class : class_at goldilocks d.coset.items (rows + t) ≡ x = tree-coset_point d.part t d.coset.items D.tables.coset_tree D.tables.least (omega (arith, D.tables.part, D.tables.domain)) b in
       rw (place, class) at (evaluated t k b l)
 
   -- what is found fits, where all points of the domain are taken
@@ -261,7 +261,7 @@ module _ (d : CosetDivision) (D : IsCosetDivision d) (c k : ℕ) (l : k < c) (ce
       let within : rows * c ≤ length folded = rows-within d.part (d.lg - 1) rows c (length folded) (omega (arith, fewer)) refl long in
       let one : column rows c k taken ≡ column rows c k folded = ap (column rows c k) taken_is ∙ column-taken rows c k (folded ++ rest) l ∙ column-before rows c k folded rest l within in
       let step : (t : ℕ) → same (raised (coset_point d.part t) rows) d.step =
-      λ t. ap number (coset-power d.part t (omega (arith, D.part, D.domain))) ∙ sym D.step in
+      λ t. ap number (coset-power d.part t (omega (arith, D.tables.part, D.tables.domain))) ∙ sym D.tables.step in
       divided-fits d D c k l cells (g d D c k l cells old times sums fewer low high s.2 s.3 s.4 s.5 s.6) values scaled new count
       (g-count d D c k l cells old times sums fewer low high s.2 s.3 s.4 s.5 s.6)
       (half-products d D c k l cells old times sums fewer low high s.2 s.3 s.4 s.5 s.6)

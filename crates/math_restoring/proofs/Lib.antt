@@ -5,6 +5,7 @@ pub mod DividedColumns
 pub mod FilledPoints
 pub mod MadeDivisions
 pub mod PlacedRows
+pub mod PlacesOfRestorers
 pub mod PointsOfTrees
 pub mod RaisedElements
 pub mod RestoredColumns

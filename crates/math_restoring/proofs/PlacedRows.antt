@@ -2,10 +2,8 @@
 use Rattle.std.proofs.Common.{◌≡◌, ◌≢◌, ◌∙◌, inl, inr, ℕ, ◌+◌, ◌*◌, ◌<◌, ◌≤◌, ◌^◌, List, ◌++◌, length, take, drop, get_or, sym, ap, arith}
 use Rattle.std.specs.List.{All}
 use Rattle.std.proofs.lemmas.Bool.{cases_lt}
-use Rattle.std.proofs.lemmas.List.{get_or_default, length-drop, length-take-le}
+use Rattle.std.proofs.lemmas.List.{length-drop, length-take-le}
 use Rattle.std.proofs.lemmas.Nat.{mul-add-lt}
-use Rattle.math_theory.specs.BitReversal.{bit_reversed}
-use Rattle.math_theory.proofs.transforms.BitOrder.{bit_reversed-below}
 use Rattle.math_base.specs.declared.fields.goldilocks.F.{F}
 use Rattle.math_base.specs.Elements.{number, product, same}
 use Rattle.math_transforms.proofs.WrittenCells.{row-within}
@@ -22,55 +20,46 @@ distinct-places lg indices places below distinct are i j a b e =
     distinct i j a here
     (reversed-only lg (get_or indices i 0) (get_or indices j 0) (below i 0 there) (below j 0 here) (sym (are.each i there) ∙ e ∙ are.each j here))
 
--- and within the domain
-pub places-below : (lg n : ℕ) (indices places : List ℕ) → n ≡ 2 ^ lg → ArePlacesOf lg indices places → All (λ p. p < n) places
-places-below lg n indices places is are t d l =
-    let here : t < length indices = omega (arith, l, are.count) in
-    let at : get_or places t 0 ≡ bit_reversed lg (get_or indices t 0) = are.each t here in
-    let apart : get_or places t d ≡ get_or places t 0 = get_or_default places t d 0 l in
-    omega (arith, at, apart, bit_reversed-below lg (get_or indices t 0), is)
-
 -- the products of the first t rows stand at their places, and the cells at other places are zero
-pub record ArePlacedBefore (n : ℕ) (places : List ℕ) (factors : List F) (width from c : ℕ) (cells : List F) (t : ℕ) (room : List F) : Type 0 where
-  pub placed : (s k : ℕ) → s < t → k < c
-      → same (get_or room (get_or places s 0 * c + k) nought) (product (get_or cells (s * width + from + k) nought) (get_or factors (get_or places s 0) nought))
+pub record ArePlacedBefore (n : ℕ) (places : List ℕ) (factors : List F) (c : ℕ) (cell : ℕ → ℕ → F) (t : ℕ) (room : List F) : Type 0 where
+  pub placed : (s k : ℕ) → s < t → k < c → same (get_or room (get_or places s 0 * c + k) nought) (product (cell s k) (get_or factors (get_or places s 0) nought))
   pub others : (p k : ℕ) → p < n → k < c → ((s : ℕ) → s < t → get_or places s 0 ≢ p) → same (get_or room (p * c + k) nought) nought
 
 -- A row more.
-module _ (n : ℕ) (places : List ℕ) (factors : List F) (width from c t m : ℕ) (cells room row : List F) (e : m ≡ c) (distinct : AreDistinct places) (l : t < length places)
-    (inside : get_or places t 0 * c + c ≤ length room) (long : length row ≡ m)
-    (made : (k : ℕ) → k < c → same (get_or row k nought) (product (get_or cells (t * width + from + k) nought) (get_or factors (get_or places t 0) nought))) where
+module _ (n : ℕ) (places : List ℕ) (factors : List F) (c : ℕ) (cell : ℕ → ℕ → F) (t now m : ℕ) (room row : List F) (e : m ≡ c) (is : now ≡ get_or places t 0)
+    (distinct : AreDistinct places) (l : t < length places) (inside : now * c + c ≤ length room) (long : length row ≡ m)
+    (made : (k : ℕ) → k < c → same (get_or row k nought) (product (cell t k) (get_or factors (get_or places t 0) nought))) where
   abbrev pub placed : List F
-  placed = take (get_or places t 0 * c) room ++ (row ++ drop m (drop (get_or places t 0 * c) room))
+  placed = take (now * c) room ++ (row ++ drop m (drop (now * c) room))
 
   -- the row lies within the room
-  placed_fits : get_or places t 0 * c + m ≤ length room
+  placed_fits : now * c + m ≤ length room
   placed_fits = omega (arith, e, inside)
 
   -- a cell at another place is as it was
-  elsewhere : (p k : ℕ) → (get_or places t 0 ≢ p) → k < c → get_or placed (p * c + k) nought ≡ get_or room (p * c + k) nought
-  elsewhere p k apart b =
-      let now = get_or places t 0 in
-      elim (cases_lt p now) as (λ _. get_or placed (p * c + k) nought ≡ get_or room (p * c + k) nought) [
-        | inl low ↦ put-before nought room row (now * c) m placed_fits long (p * c + k) (omega (arith, mul-add-lt p c k now low b))
-        | inr high ↦
-            let more : now < p = omega (arith, high, apart) in
-            put-after nought room row (now * c) m placed_fits long (p * c + k) (omega (arith, row-within now p c more, e))
-      ]
+  elsewhere : (p k : ℕ) → (now ≢ p) → k < c → get_or placed (p * c + k) nought ≡ get_or room (p * c + k) nought
+  elsewhere p k apart b = elim (cases_lt p now) as (λ _. get_or placed (p * c + k) nought ≡ get_or room (p * c + k) nought) [
+    | inl low ↦ put-before nought room row (now * c) m placed_fits long (p * c + k) (omega (arith, mul-add-lt p c k now low b))
+    | inr high ↦
+        let more : now < p = omega (arith, high, apart) in
+        put-after nought room row (now * c) m placed_fits long (p * c + k) (omega (arith, row-within now p c more, e))
+  ]
 
   -- its products stand at its place, and the others are as they were
-  pub placed-more : ArePlacedBefore n places factors width from c cells t room → ArePlacedBefore n places factors width from c cells (t + 1) placed
+  pub placed-more : ArePlacedBefore n places factors c cell t room → ArePlacedBefore n places factors c cell (t + 1) placed
   placed-more h = record {
-    placed = λ s k a b.
-        let now = get_or places t 0 in
-        elim (cases_lt s t)
-        as (λ _. same (get_or placed (get_or places s 0 * c + k) nought) (product (get_or cells (s * width + from + k) nought) (get_or factors (get_or places s 0) nought))) [
-          | inl before ↦ ap number (elsewhere (get_or places s 0) k (λ same_place. distinct s t before l (sym same_place)) b) ∙ h.placed s k before b
+    placed = λ s k a b. elim (cases_lt s t)
+        as (λ _. same (get_or placed (get_or places s 0 * c + k) nought) (product (cell s k) (get_or factors (get_or places s 0) nought))) [
+          | inl before ↦
+              ap number (elsewhere (get_or places s 0) k (λ same_place. distinct s t before l (sym same_place ∙ is)) b)
+              ∙ h.placed s k before b
           | inr o ↦
               let same_row : s ≡ t = omega (arith, a, o) in
-              rw same_row (ap number (put-within nought room row (now * c) m placed_fits long k (omega (arith, b, e))) ∙ made k b)
+              let here : get_or placed (get_or places t 0 * c + k) nought ≡ get_or row k nought =
+              ap (λ q. get_or placed (q * c + k) nought) (sym is) ∙ put-within nought room row (now * c) m placed_fits long k (omega (arith, b, e)) in
+              rw same_row (ap number here ∙ made k b)
         ];
-    others = λ p k a b apart. ap number (elsewhere p k (apart t (omega arith)) b) ∙ h.others p k a b (λ s before. apart s (omega (arith, before)));
+    others = λ p k a b apart. ap number (elsewhere p k (λ same_place. apart t (omega arith) (sym is ∙ same_place)) b) ∙ h.others p k a b (λ s before. apart s (omega (arith, before)));
   }
 
 -- row i gets c cells of row i of the room, from column `from` on

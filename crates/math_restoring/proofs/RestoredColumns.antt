@@ -16,7 +16,7 @@ use Rattle.math_transforms.proofs.DomainSteps.{column-cell}
 use Rattle.math_transforms.proofs.MatrixRows.{length-column}
 use Rattle.math_restoring.specs.declared.dividing.CosetDivision.{CosetDivision}
 use Rattle.math_restoring.specs.CosetDivisions.{DoColumnsFit, IsCosetDivision, raised}
-use Rattle.math_restoring.specs.Restored.{AreDistinct, AreFilled, ArePlaced, ArePlacesOf, AreTaken, HaveCellsAsValues}
+use Rattle.math_restoring.specs.Restored.{AreDistinct, AreFilled, ArePlaced, ArePlacesOf, AreTaken, FitsAt, HaveCellsAsValues}
 use Rattle.math_restoring.proofs.CombinedColumns.{at, column, column_kept, nought, one_row}
 use Rattle.math_values.proofs.ElementRing.{elements}
 use Rattle.math_values.proofs.ElementValues.{same_values}
@@ -93,11 +93,11 @@ zero_times : (x y : F) → same x nought → same x (product nought y)
 zero_times x y e = e ∙ ap number (ring elements (y ∷ []) 𝟘 (𝟘 ⊗ v0) refl)
 
 -- what is placed is the cell of its point times the factor
-module _ (lg : ℕ) (indices places : List ℕ) (factors : List F) (width from c : ℕ) (old placed : List F) (below : All (λ i. i < 2 ^ lg) indices) (are : ArePlacesOf lg indices places)
-    (count : length factors ≡ 2 ^ lg) (put : ArePlaced (length factors) places factors width from c old placed) (k : ℕ) (b : k < c) where
+module _ (lg : ℕ) (indices places : List ℕ) (factors : List F) (c : ℕ) (cell : ℕ → ℕ → F) (placed : List F) (below : All (λ i. i < 2 ^ lg) indices)
+    (are : ArePlacesOf lg indices places) (put : ArePlaced (2 ^ lg) places factors c cell placed) (k : ℕ) (b : k < c) where
   -- the cell of a row in the column
   abbrev cell_in : ℕ → F
-  cell_in t = get_or old (t * width + from + k) nought
+  cell_in t = cell t k
 
   -- by whether the point is that of an index
   placed_at : (i : ℕ) → i < 2 ^ lg → (w : Where indices i)
@@ -107,7 +107,7 @@ module _ (lg : ℕ) (indices places : List ℕ) (factors : List F) (width from c
       rw (← place) (put.placed t k (omega (arith, a, are.count)) b)
   placed_at i l (inr none) =
       zero_times (get_or placed (bit_reversed lg i * c + k) nought) (get_or factors (bit_reversed lg i) nought)
-      (put.others (bit_reversed lg i) k (omega (arith, count, bit_reversed-below lg i)) b
+      (put.others (bit_reversed lg i) k (bit_reversed-below lg i) b
       (λ t a e.
       let here : t < length indices = omega (arith, a, are.count) in
       none t here (reversed-only lg (get_or indices t 0) i (below t 0 here) l (sym (are.each t here) ∙ e))))
@@ -119,6 +119,30 @@ module _ (lg : ℕ) (indices places : List ℕ) (factors : List F) (width from c
       placed_at i l (where_is indices i)
       ∙ ap (λ x. number (product x (get_or factors (bit_reversed lg i) nought))) (sym (cell-of indices cell_in (2 ^ lg) i l))
 
+-- What is placed and then divided has the cells as its values.
+module _ (d : CosetDivision) (indices places : List ℕ) (c : ℕ) (cell : ℕ → ℕ → F) (old new : List F) (division : IsCosetDivision d) (count : count_true d.points ≡ length indices)
+    (filled : AreFilled indices d.points) (below : All (λ i. i < 2 ^ d.lg) indices) (distinct : AreDistinct indices) (are : ArePlacesOf d.lg indices places)
+    (put : ArePlaced (2 ^ d.lg) places d.factors.items c cell old) (fits : DoColumnsFit d c old new) where
+  -- the cells of a column, in natural order
+  abbrev natural : ℕ → List F
+  natural k = cells_of indices (λ t. cell t k) (2 ^ d.lg)
+
+  -- the coefficients fit them
+  fit_of_column : (k : ℕ) → k < c → Fits same nought sum product (residue 1) (root_of d.lg) (natural k) d.points (column (2 ^ d.part) c k new)
+  fit_of_column k b =
+      fits k (natural k) b (cells-count indices (λ t. cell t k) (2 ^ d.lg)) (placed_cells d.lg indices places d.factors.items c cell old below are put k b)
+
+  pub values_of_column : (k : ℕ) → k < c → FitsAt d.lg indices (λ t. cell t k) (column (2 ^ d.part) c k new)
+  values_of_column k b = record {
+    few = λ i past. (fit_of_column k b).zero_from i (omega (arith, past, count));
+    values = λ t a.
+        let i = get_or indices t 0 in
+        let f : ℕ → F = λ s. cell s k in
+        let domain : i < 2 ^ d.lg = below t 0 a in
+        (fit_of_column k b).agrees i (omega (arith, domain, cells-count indices f (2 ^ d.lg))) (filled t a)
+        ∙ ap number (cell-of indices f (2 ^ d.lg) i domain ∙ cell_found indices f t distinct a (where_is indices i));
+  }
+
 -- in the first n columns the coefficients are written, and the cells of the further ones are as they were
 pub record AreRestoredBefore (lg : ℕ) (indices : List ℕ) (width : ℕ) (start : List F) (n : ℕ) (cells : List F) : Type 0 where
   pub done : (t k : ℕ) → t < length indices → k < n
@@ -126,61 +150,45 @@ pub record AreRestoredBefore (lg : ℕ) (indices : List ℕ) (width : ℕ) (star
   pub left : (r k : ℕ) → r < length indices → n ≤ k → k < width → get_or cells (r * width + k) nought ≡ get_or start (r * width + k) nought
 
 -- A strip more.
-module _ (d : CosetDivision) (indices places : List ℕ) (width from c : ℕ) (start old new placed strip : List F) (division : IsCosetDivision d) (count : count_true d.points ≡ length indices)
-    (filled : AreFilled indices d.points) (below : All (λ i. i < 2 ^ d.lg) indices) (distinct : AreDistinct indices) (are : ArePlacesOf d.lg indices places) (within : from + c ≤ width)
-    (put : ArePlaced (length d.factors.items) places d.factors.items width from c old placed) (fits : DoColumnsFit d c placed strip)
+module _ (lg part : ℕ) (indices : List ℕ) (width from c : ℕ) (start old new strip : List F) (few : length indices ≤ 2 ^ part) (within : from + c ≤ width)
+    (restored : (k : ℕ) → k < c → FitsAt lg indices (λ t. get_or old (t * width + from + k) nought) (column (2 ^ part) c k strip))
     (taken : AreTaken width from c (length indices) strip old new) where
-  -- the cells of a column of the strip, in natural order
-  abbrev natural : ℕ → List F
-  natural j = cells_of indices (λ t. get_or old (t * width + from + j) nought) (2 ^ d.lg)
-
-  -- the coefficients of the strip fit them
-  fit_of_strip : (j : ℕ) → j < c → Fits same nought sum product (residue 1) (root_of d.lg) (natural j) d.points (column (2 ^ d.part) c j strip)
-  fit_of_strip j b =
-      fits j (natural j) b (cells-count indices (λ t. get_or old (t * width + from + j) nought) (2 ^ d.lg))
-      (placed_cells d.lg indices places d.factors.items width from c old placed below are division.factor_count put j b)
-
   -- the coefficients of a column are those of the strip
-  coefficients_of_strip : (j : ℕ) → j < c → HaveSameCoefficients same nought (column (length indices) width (from + j) new) (column (2 ^ d.part) c j strip)
+  coefficients_of_strip : (j : ℕ) → j < c → HaveSameCoefficients same nought (column (length indices) width (from + j) new) (column (2 ^ part) c j strip)
   coefficients_of_strip j b i =
       let n = length indices in
       let p = column n width (from + j) new in
-      let q = column (2 ^ d.part) c j strip in
+      let q = column (2 ^ part) c j strip in
       elim (cases_lt i n) as (λ _. same (get_or p i nought) (get_or q i nought)) [
         | inl inside ↦
             ap number
             (column-cell nought n width (from + j) i new inside (omega (arith, b, within)) ∙ taken.written i j inside b
-            ∙ sym (column-cell nought (2 ^ d.part) c j i strip (omega (arith, inside, count, division.few)) b))
+            ∙ sym (column-cell nought (2 ^ part) c j i strip (omega (arith, inside, few)) b))
         | inr past ↦
             ap number (get_or_past p i nought (omega (arith, past, length-column nought (matrix_of n width new) (from + j))))
-            ∙ sym ((fit_of_strip j b).zero_from i (omega (arith, past, count)))
+            ∙ sym ((restored j b).few i past)
       ]
 
   -- its values at the indices are the cells
   value_of_strip : (t j : ℕ) → t < length indices → j < c
-      → same (value_at d.lg (column (length indices) width (from + j) new) (get_or indices t 0)) (get_or old (t * width + from + j) nought)
+      → same (value_at lg (column (length indices) width (from + j) new) (get_or indices t 0)) (get_or old (t * width + from + j) nought)
   value_of_strip t j a b =
-      let i = get_or indices t 0 in
-      let cell : ℕ → F = λ s. get_or old (s * width + from + j) nought in
-      let domain : i < 2 ^ d.lg = below t 0 a in
-      same_values _ (column (length indices) width (from + j) new) (column (2 ^ d.part) c j strip) (coefficients_of_strip j b)
-      ∙ (fit_of_strip j b).agrees i (omega (arith, domain, cells-count indices cell (2 ^ d.lg))) (filled t a)
-      ∙ ap number (cell-of indices cell (2 ^ d.lg) i domain ∙ cell_found indices cell t distinct a (where_is indices i))
+      same_values _ (column (length indices) width (from + j) new) (column (2 ^ part) c j strip) (coefficients_of_strip j b) ∙ (restored j b).values t a
 
   -- the columns so far are restored, and these
-  pub restored-more : AreRestoredBefore d.lg indices width start from old → AreRestoredBefore d.lg indices width start (from + c) new
+  pub restored-more : AreRestoredBefore lg indices width start from old → AreRestoredBefore lg indices width start (from + c) new
   restored-more h = record {
     done = λ t k a b.
         let n = length indices in
-        elim (cases_lt k from) as (λ _. same (value_at d.lg (column n width k new) (get_or indices t 0)) (get_or start (t * width + k) nought)) [
+        elim (cases_lt k from) as (λ _. same (value_at lg (column n width k new) (get_or indices t 0)) (get_or start (t * width + k) nought)) [
           | inl before ↦
-              ap (λ p. number (value_at d.lg p (get_or indices t 0))) (column_kept n width k old new (omega (arith, before, within)) (λ r l. taken.before r k l before))
+              ap (λ p. number (value_at lg p (get_or indices t 0))) (column_kept n width k old new (omega (arith, before, within)) (λ r l. taken.before r k l before))
               ∙ h.done t k a before
           | inr o ↦
               let j = k - from in
               let is : from + j ≡ k = omega (arith, o) in
               let place : t * width + from + j ≡ t * width + k = omega (arith, is) in
-              ap (λ m. number (value_at d.lg (column n width m new) (get_or indices t 0))) (sym is) ∙ value_of_strip t j a (omega (arith, b, o))
+              ap (λ m. number (value_at lg (column n width m new) (get_or indices t 0))) (sym is) ∙ value_of_strip t j a (omega (arith, b, o))
               ∙ ap number (ap (λ m. get_or old m nought) place ∙ h.left t k a o (omega (arith, b, within)))
         ];
     left = λ r k a b l. taken.after r k a b l ∙ h.left r k a (omega (arith, b)) l;

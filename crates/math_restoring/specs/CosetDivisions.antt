@@ -60,25 +60,30 @@ abbrev pub AreDividedInverses : ℕ → List F → List F → Type 0
 AreDividedInverses part v items =
     (t : ℕ) → t < 2 ^ part → same (product (product (item items t) (value_in_ring goldilocks v (coset_point part t))) (twos goldilocks part)) (residue 1)
 
--- some points of a domain of 2^lg are filled, and no more than 2^part; v vanishes at the others, and at no other power of the root; there are the factors
--- that it gives, the inverses of its values on the coset, the tree of the inverses of the domain, and those of the coset and of its inverses
-pub record IsCosetDivision (d : CosetDivision) : Type 0 where
+-- some points of a domain of 2^lg are filled, and no more than 2^part; there are a factor for each point, the tree of the inverses of the domain, those of the
+-- coset and of its inverses, an inverse for each point of the coset, and power 2^part of the shift
+pub record HasTables (d : CosetDivision) : Type 0 where
   pub domain : d.lg ≤ 32
   pub least : 1 ≤ d.part
   pub part : d.part ≤ d.lg
   pub points : length d.points ≡ 2 ^ d.lg
   pub some : 0 < count_true d.points
   pub few : count_true d.points ≤ 2 ^ d.part
-  pub v : List F
-  pub size : length v ≡ 2 ^ d.lg
-  pub vanishes : VanishesAtFalse goldilocks (root_of d.lg) d.points (value_in_ring goldilocks v)
   pub step : same d.step (raised shift_of (2 ^ d.part))
   pub factor_count : length d.factors.items ≡ 2 ^ d.lg
-  pub factors : AreFactors d.lg d.part d.step v d.factors.items
   pub domain_inverses : IsTreeOf goldilocks (λ l. inverse (root_of l)) (residue 1) d.lg d.domain.items
   pub coset_tree : IsTreeOf goldilocks root_of shift_of d.part d.coset.items
   pub coset_inverses : IsTreeOf goldilocks (λ l. inverse (root_of l)) (inverse shift_of) d.part d.coset_inverses.items
   pub inverse_count : length d.inverses.items ≡ 2 ^ d.part
+
+-- there are tables; v vanishes at the points that are not filled, and at no other power of the root; the factors are those that it gives, and the inverses those of
+-- its values on the coset
+pub record IsCosetDivision (d : CosetDivision) : Type 0 where
+  pub tables : HasTables d
+  pub v : List F
+  pub size : length v ≡ 2 ^ d.lg
+  pub vanishes : VanishesAtFalse goldilocks (root_of d.lg) d.points (value_in_ring goldilocks v)
+  pub factors : AreFactors d.lg d.part d.step v d.factors.items
   pub inverses : AreDividedInverses d.part v d.inverses.items
 
 -- whatever cells of the domain, in natural order, times the factors are column k of the old rows, which are in the order of the tree: column k of the first 2^part

@@ -1,2 +1,3 @@
 pub mod CosetDivisions
 pub mod Restored
+pub mod Restorers

@@ -25,11 +25,17 @@ pub record ArePlacesOf (lg : ℕ) (indices places : List ℕ) : Type 0 where
   pub count : length places ≡ length indices
   pub each : (t : ℕ) → t < length indices → slice_index_or places t 0 ≡ bit_reversed lg (slice_index_or indices t 0)
 
--- c cells of each row, from column `from` on, times the factor of its place, stand in the row of the room at its place, and the other ones of the n rows are zero
-pub record ArePlaced (n : ℕ) (places : List ℕ) (factors : List F) (width from c : ℕ) (cells room : List F) : Type 0 where
+-- of n rows of c cells in the room, the one at place number t has the cells of row t, times the factor of the place, and the other ones have zeros
+pub record ArePlaced (n : ℕ) (places : List ℕ) (factors : List F) (c : ℕ) (cell : ℕ → ℕ → F) (room : List F) : Type 0 where
   pub placed : (t k : ℕ) → t < length places → k < c
-      → same (item room (slice_index_or places t 0 * c + k)) (product (item cells (t * width + from + k)) (item factors (slice_index_or places t 0)))
+      → same (item room (slice_index_or places t 0 * c + k)) (product (cell t k) (item factors (slice_index_or places t 0)))
   pub others : (p k : ℕ) → p < n → k < c → ((t : ℕ) → t < length places → slice_index_or places t 0 ≢ p) → same (item room (p * c + k)) (residue 0)
+
+-- p has no more coefficients than there are indices, but for zeros, and at the powers of the root of order 2^lg that are the indices it has the values
+pub record FitsAt (lg : ℕ) (indices : List ℕ) (value : ℕ → F) (p : List F) : Type 0 where
+  pub few : (i : ℕ) → length indices ≤ i → same (item p i) (residue 0)
+  pub values : (t : ℕ) → t < length indices
+      → same (value_in_ring goldilocks p (power (residue 1) product (root_of lg) (slice_index_or indices t 0))) (value t)
 
 -- c columns of rows of cells, from column `from` on, are those of the first rows of the room, and the columns before them and after them are as they were
 pub record AreTaken (width from c rows : ℕ) (room old new : List F) : Type 0 where

@@ -28,9 +28,11 @@ ghost use Rattle.math_base.specs.Elements.{inverse, negative, product, residue, 
 ghost use Rattle.math_base.specs.Elements.{shift_of, sum, goldilocks};
 ghost use Rattle.math_base.specs.Polynomials.{value_in_ring};
 ghost use Rattle.math_transforms.specs.MissingPoints.{VanishesAtFalse};
-ghost use Rattle.math_transforms.specs.RootTrees.{IsTreeOf};
+ghost use Rattle.math_transforms.specs.RootTrees.{AreMultiplesAtPoints, ArePoints};
+ghost use Rattle.math_transforms.specs.RootTrees.{AreValuesAtPoints, IsTreeOf};
 ghost use Rattle.math_restoring.specs.CosetDivisions.{AreDividedInverses, AreFactors, AreFolded};
-ghost use Rattle.math_restoring.specs.CosetDivisions.{AreSumsOf, DoColumnsFit, IsCosetDivision};
+ghost use Rattle.math_restoring.specs.CosetDivisions.{AreSumsOf, DoColumnsFit, HasTables};
+ghost use Rattle.math_restoring.specs.CosetDivisions.{IsCosetDivision};
 ghost use Rattle.math_restoring.specs.Restored.{item};
 
 use math_base::algebra::{Field, FieldNTT, Mem};
@@ -81,6 +83,28 @@ fn squared(x: F, n: u8) -> F
     out
 }
 
+/// `evaluate_below` over `F`, whose calls never refuse.
+fn evaluate(alloc: Global, cells: &mut [F], cols: usize, points: &Points<'_, F>)
+    requires points { ArePoints goldilocks 32 (root_of 2) points.now }
+    requires size { length cells.old ≡ 2 ^ points.now.lg * cols }
+    ensures { AreValuesAtPoints goldilocks points.now cols cells.old cells.new }
+{
+    let Ok(()) = evaluate_below(alloc, cells, cols, points, &mut Work::new()) else {
+        unreachable!()
+    };
+}
+
+/// `interpolate_below` over `F`, whose calls never refuse.
+fn interpolate(alloc: Global, cells: &mut [F], cols: usize, inverses: &Points<'_, F>)
+    requires points { ArePoints goldilocks 32 (inverse (root_of 2)) inverses.now }
+    requires size { length cells.old ≡ 2 ^ inverses.now.lg * cols }
+    ensures { AreMultiplesAtPoints goldilocks inverses.now cols cells.old cells.new }
+{
+    let Ok(()) = interpolate_below(alloc, cells, cols, inverses, &mut Work::new()) else {
+        unreachable!()
+    };
+}
+
 /// Adds to each cell the other one in its place.
 fn add_cells(cells: &mut [F], others: &[F])
     requires { length others.now ≡ length cells.old }
@@ -124,12 +148,12 @@ fn fold(cells: &mut [F], cols: usize, lg: u8, part: u8, step: F)
 
 /// Writes over the low half of 2^lg rows the sums of the coefficients of both halves, of which each
 /// is interpolated by itself.
-fn write_sums(alloc: Global, cells: &mut [F], cols: usize, lg: u8, inverses: &[F]) -> Mem<()>
+fn write_sums(alloc: Global, cells: &mut [F], cols: usize, lg: u8, inverses: &[F])
     requires some { 1 ≤ lg }
     requires domain { lg ≤ 32 }
     requires size { length cells.old ≡ 2 ^ lg * cols }
     requires tree { IsTreeOf goldilocks (λ l. inverse (root_of l)) (residue 1) lg inverses.now }
-    ensures { OnOk result (AreSumsOf lg cols cells.old cells.new) }
+    ensures { AreSumsOf lg cols cells.old cells.new }
 {
     let half = size_of(lg - 1) * cols;
     let (low, high) = cells.split_at_mut(half);
@@ -138,15 +162,14 @@ fn write_sums(alloc: Global, cells: &mut [F], cols: usize, lg: u8, inverses: &[F
         place: 2,
         lg: lg - 1,
     };
-    interpolate_below(alloc, low, cols, &even, &mut Work::new())?;
+    interpolate(alloc, low, cols, &even);
     let odd = Points {
         roots: inverses,
         place: 3,
         lg: lg - 1,
     };
-    interpolate_below(alloc, high, cols, &odd, &mut Work::new())?;
+    interpolate(alloc, high, cols, &odd);
     add_cells(low, high);
-    Ok(())
 }
 
 /// The factor times 1 + c and times 1 - c, where c is the power.
@@ -174,7 +197,7 @@ fn write_factors(alloc: Global, cells: &mut [F], lg: u8, part: u8, step: F, root
         place: 1,
         lg,
     };
-    evaluate_below(alloc, cells, 1, &points, &mut Work::new())?;
+    evaluate(alloc, cells, 1, &points);
     let factor = size_inverse::<F>(alloc, lg)?;
     if part == lg {
         multiply_rows(alloc, cells, size_of(lg), &[factor])?;
@@ -216,7 +239,7 @@ fn divided_inverses(
         place: 1,
         lg: part,
     };
-    evaluate_below(alloc, first, 1, &coset, &mut Work::new())?;
+    evaluate(alloc, first, 1, &coset);
     let numerator = size_inverse::<F>(alloc, part)?;
     let inverses = quotients(alloc, numerator, first)?;
     Ok(inverses)
@@ -272,16 +295,12 @@ pub(crate) fn coset_division(
 }
 
 /// Turns 2^lg rows of values times factors, in the order of the tree of the domain, into
-/// coefficients, which stand in the first 2^part rows.
-pub(crate) fn divide(
-    alloc: Global,
-    cells: &mut [F],
-    cols: usize,
-    division: &CosetDivision,
-) -> Mem<()>
-    requires division { IsCosetDivision division.now }
+/// coefficients, which stand in the first 2^part rows. Takes no memory.
+pub(crate) fn divide(alloc: Global, cells: &mut [F], cols: usize, division: &CosetDivision)
+    requires tables { HasTables division.now }
     requires size { length cells.old ≡ 2 ^ division.now.lg * cols }
-    ensures { OnOk result (DoColumnsFit division.now cols cells.old cells.new) }
+    ensures { IsCosetDivision division.now
+        → DoColumnsFit division.now cols cells.old cells.new }
 {
     let lg = division.lg;
     let part = division.part;
@@ -291,9 +310,9 @@ pub(crate) fn divide(
             place: 1,
             lg,
         };
-        interpolate_below(alloc, cells, cols, &domain, &mut Work::new())?;
+        interpolate(alloc, cells, cols, &domain);
     } else {
-        write_sums(alloc, cells, cols, lg, &division.domain)?;
+        write_sums(alloc, cells, cols, lg, &division.domain);
         let sums = &mut cells[..size_of(lg - 1) * cols];
         fold(sums, cols, lg - 1, part, division.step);
     }
@@ -303,13 +322,14 @@ pub(crate) fn divide(
         place: 1,
         lg: part,
     };
-    evaluate_below(alloc, first, cols, &coset, &mut Work::new())?;
-    multiply_rows(alloc, first, cols, &division.inverses)?;
+    evaluate(alloc, first, cols, &coset);
+    let Ok(()) = multiply_rows(alloc, first, cols, &division.inverses) else {
+        unreachable!()
+    };
     let inverses = Points {
         roots: &division.coset_inverses,
         place: 1,
         lg: part,
     };
-    interpolate_below(alloc, first, cols, &inverses, &mut Work::new())?;
-    Ok(())
+    interpolate(alloc, first, cols, &inverses);
 }

@@ -4,13 +4,17 @@
 //! them into coefficients. Each column is restored by itself, whatever the others are. So the
 //! columns are taken strip by strip, each in the same room: a strip stays in a cache near the
 //! processor through all levels of its transforms, and beside the cells there is but one strip.
+//!
+//! What is the same for all strips is made once, and takes all memory: from then on nothing is
+//! refused.
 
-ghost use Rattle.std.specs.Prelude.{◌≡◌, ◌+◌, ◌*◌, ◌<◌, ◌≤◌, ◌^◌, ℕ, All, length};
-ghost use Rattle.std.specs.Prelude.{IfOk, OnOk};
+ghost use Rattle.std.specs.Prelude.{◌≡◌, ◌+◌, ◌*◌, ◌<◌, ◌≤◌, ◌^◌, ℕ, All, length, slice_index};
+ghost use Rattle.std.specs.Prelude.{IfOk, OnErr, OnOk};
 ghost use Rattle.math_theory.specs.Recovery.{count_true};
+ghost use Rattle.math_base.specs.declared.fields.goldilocks.F.{F};
 ghost use Rattle.math_base.specs.Elements.{product, same};
-ghost use Rattle.math_restoring.specs.CosetDivisions.{IsCosetDivision};
-ghost use Rattle.math_restoring.specs.Restored.{AreDistinct, AreFilled, ArePlaced, ArePlacesOf};
+ghost use Rattle.math_restoring.specs.CosetDivisions.{HasTables, IsCosetDivision};
+ghost use Rattle.math_restoring.specs.Restored.{AreDistinct, AreFilled, ArePlacesOf};
 ghost use Rattle.math_restoring.specs.Restored.{AreTaken, HaveCellsAsValues, item};
 
 use crate::dividing::{CosetDivision, coset_division, divide};
@@ -66,34 +70,6 @@ fn write_products(cells: &[F], factor: F, room: &mut [F])
     }
 }
 
-/// Writes over the room zeros, and `cols` cells of each row, from column `from` on, times the
-/// factor of its place, over the row at its place.
-fn place_rows(
-    places: &[usize],
-    factors: &[F],
-    cells: &[F],
-    width: usize,
-    from: usize,
-    cols: usize,
-    room: &mut [F],
-)
-    requires size { length cells.now ≡ length places.now * width }
-    requires within { from + cols ≤ width }
-    requires below { All (λ p. p < length factors.now) places.now }
-    requires room { length room.old ≡ length factors.now * cols }
-    requires distinct { AreDistinct places.now }
-    ensures { ArePlaced (length factors.now) places.now factors.now width from cols
-        cells.now room.new }
-{
-    room.fill(F::from(0));
-    for t in 0..places.len() {
-        let at = t * width + from;
-        let place = places[t] * cols;
-        let row = &mut room[place..place + cols];
-        write_products(&cells[at..at + cols], factors[places[t]], row);
-    }
-}
-
 /// Writes the first rows of the room over `cols` cells of each row, from column `from` on.
 fn take_rows(cells: &mut [F], width: usize, from: usize, cols: usize, count: usize, room: &[F])
     requires room { count * cols ≤ length room.now }
@@ -108,47 +84,130 @@ fn take_rows(cells: &mut [F], width: usize, from: usize, cols: usize, count: usi
     }
 }
 
-/// Writes the coefficients of all columns over their cells, strip by strip of at most so many
-/// columns, each in the same room.
-fn restore_strips(
+/// What turns columns of values at distinct indices, the same ones for all columns, into
+/// coefficients. An index stands for this power of the root of order 2^lg.
+///
+/// It works in a room of 2^lg rows, in which each index has a place and a factor: whoever has its
+/// cells writes them there, times the factor, and zeros over all other rows.
+#[derive(Drop)]
+pub struct Restorer {
     alloc: Global,
-    cells: &mut [F],
-    width: usize,
-    indices: &[u32],
-    places: &[usize],
-    division: &CosetDivision,
-    most: usize,
-    room: &mut [F],
-) -> Mem<()>
-    requires division { IsCosetDivision division.now }
-    requires size { length cells.old ≡ length indices.now * width }
-    requires below { All (λ i. i < 2 ^ division.now.lg) indices.now }
-    requires distinct { AreDistinct indices.now }
-    requires places { ArePlacesOf division.now.lg indices.now places.now }
-    requires filled { AreFilled indices.now division.now.points }
-    requires count { count_true division.now.points ≡ length indices.now }
-    requires most { 1 ≤ most }
-    requires room { length room.old ≡ 2 ^ division.now.lg * most }
-    ensures { OnOk result
-        (HaveCellsAsValues division.now.lg indices.now width cells.old cells.new) }
-{
-    let mut from = 0;
-    while from < width {
-        let cols = most.min(width - from);
-        let strip = &mut room[..size_of(division.lg) * cols];
-        place_rows(places, &division.factors, cells, width, from, cols, strip);
-        divide(alloc, strip, cols, division)?;
-        take_rows(cells, width, from, cols, indices.len(), strip);
-        from += cols;
+    indices: Vec<u32>,
+    places: Vec<usize>,
+    division: CosetDivision,
+    ghost tables: { HasTables division },
+    ghost divides: { ∥ IsCosetDivision division ∥₁ },
+    ghost below: { All (λ i. i < 2 ^ division.lg) indices.items },
+    ghost distinct: { AreDistinct indices.items },
+    ghost are_places: { ArePlacesOf division.lg indices.items places.items },
+    ghost filled: { AreFilled indices.items division.points },
+    ghost count: { count_true division.points ≡ length indices.items },
+}
+
+impl Restorer {
+    ghost use Rattle.math_restoring.specs.Restorers.{ArePlacedBy, AreRestoredBy, factors_of};
+    ghost use Rattle.math_restoring.specs.Restorers.{indices_of, lg_of, part_of, places_of};
+
+    /// Makes what restores columns of values at the indices. These are distinct and below 2^lg, one
+    /// at least, and no more than 2^part of them.
+    ///
+    /// Takes memory for a few tables of 2^lg elements; nothing that it does afterwards takes any.
+    pub fn new(alloc: Global, indices: &[u32], lg: u8, part: u8) -> Mem<Restorer>
+        requires some { 1 ≤ length indices.now }
+        requires few { length indices.now ≤ 2 ^ part }
+        requires least { 1 ≤ part }
+        requires part { part ≤ lg }
+        requires domain { lg ≤ 32 }
+        requires below { All (λ i. i < 2 ^ lg) indices.now }
+        requires distinct { AreDistinct indices.now }
+        ensures indices { IfOk result (λ r. indices_of r ≡ indices.now) }
+        ensures sizes { IfOk result (λ r. (lg_of r ≡ lg) × (part_of r ≡ part)) }
+    {
+        let points = points_of(alloc, indices, lg)?;
+        let places = places_of(alloc, indices, lg)?;
+        let division = coset_division(alloc, points, lg, part)?;
+        let indices = Vec::from_slice(alloc, indices)?;
+        Ok(Restorer {
+            alloc,
+            indices,
+            places,
+            division,
+        })
     }
-    Ok(())
+
+    /// Returns the row of the room in which the cells of index number t have their place.
+    pub fn place(&self, t: usize) -> usize
+        requires { t < length (indices_of self.now) }
+        ensures place { result ≡ slice_index (places_of self.now) t }
+        ensures inside { result < 2 ^ lg_of self.now }
+    {
+        self.places[t]
+    }
+
+    /// Returns the factor of the cells of index number t.
+    pub fn factor(&self, t: usize) -> F
+        requires { t < length (indices_of self.now) }
+        ensures { result ≡ item (factors_of self.now) (slice_index (places_of self.now) t) }
+    {
+        self.division.factors[self.places[t]]
+    }
+
+    /// Turns columns of cells, which stand times their factors in their places, into coefficients:
+    /// those of a column stand in the first rows, as many as there are indices, and behind them
+    /// are zeros up to row 2^part. Takes no memory.
+    pub fn restore(&self, room: &mut [F], cols: usize)
+        requires { length room.old ≡ 2 ^ lg_of self.now * cols }
+        ensures { (cell : ℕ → ℕ → F) → ArePlacedBy self.now cols cell room.old
+            → AreRestoredBy self.now cols cell room.new }
+    {
+        divide(self.alloc, room, cols, &self.division);
+    }
+
+    /// Writes over the room zeros, and `cols` cells of each row, from column `from` on, times the
+    /// factor of its place, over the row at its place.
+    fn place_rows(&self, cells: &[F], width: usize, from: usize, cols: usize, room: &mut [F])
+        requires size { length cells.now ≡ length (indices_of self.now) * width }
+        requires within { from + cols ≤ width }
+        requires room { length room.old ≡ 2 ^ lg_of self.now * cols }
+        ensures { ArePlacedBy self.now cols (λ t k. item cells.now (t * width + from + k))
+            room.new }
+    {
+        room.fill(F::from(0));
+        for t in 0..self.indices.len() {
+            let at = t * width + from;
+            let place = self.place(t) * cols;
+            let row = &mut room[place..place + cols];
+            write_products(&cells[at..at + cols], self.factor(t), row);
+        }
+    }
+
+    /// Writes the coefficients of all columns over their cells, strip by strip of at most so many
+    /// columns, each in the same room.
+    fn restore_strips(&self, cells: &mut [F], width: usize, most: usize, room: &mut [F])
+        requires size { length cells.old ≡ length (indices_of self.now) * width }
+        requires most { 1 ≤ most }
+        requires room { length room.old ≡ 2 ^ lg_of self.now * most }
+        ensures { HaveCellsAsValues (lg_of self.now) (indices_of self.now) width
+            cells.old cells.new }
+    {
+        let mut from = 0;
+        while from < width {
+            let cols = most.min(width - from);
+            let strip = &mut room[..size_of(self.division.lg) * cols];
+            self.place_rows(cells, width, from, cols, strip);
+            self.restore(strip, cols);
+            take_rows(cells, width, from, cols, self.indices.len(), strip);
+            from += cols;
+        }
+    }
 }
 
 /// Writes the coefficients of all columns over their cells, by transforms: row t of the cells has
 /// the values at power t of the indices of the root of order 2^lg, and there are no more than
 /// 2^part indices.
 ///
-/// Takes memory for a few tables of 2^lg elements, and for one strip.
+/// Takes memory for a few tables of 2^lg elements, and for one strip. If that is refused, it writes
+/// nothing.
 pub fn put_restored(
     alloc: Global,
     indices: &[u32],
@@ -164,18 +223,15 @@ pub fn put_restored(
     requires below { All (λ i. i < 2 ^ lg) indices.now }
     requires distinct { AreDistinct indices.now }
     requires size { length cells.old ≡ length indices.now * width }
-    ensures { OnOk result (HaveCellsAsValues lg indices.now width cells.old cells.new) }
+    ensures ok { OnOk result (HaveCellsAsValues lg indices.now width cells.old cells.new) }
+    ensures err { OnErr result (cells.new ≡ cells.old) }
 {
     if width == 0 || part == 0 {
         return Ok(());
     }
-    let points = points_of(alloc, indices, lg)?;
-    let places = places_of(alloc, indices, lg)?;
-    let division = coset_division(alloc, points, lg, part)?;
+    let restorer = Restorer::new(alloc, indices, lg, part)?;
     let most = most_cols(STRIP_CELLS, lg, width);
     let mut room = strip_room(alloc, size_of(lg), most)?;
-    restore_strips(
-        alloc, cells, width, indices, &places, &division, most, &mut room,
-    )?;
+    restorer.restore_strips(cells, width, most, &mut room);
     Ok(())
 }

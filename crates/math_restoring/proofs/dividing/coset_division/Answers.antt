@@ -33,21 +33,23 @@ returns-clause-division c =
     let factors : AreFactors c.args.lg c.args.part c.squared-step.result v new = rw c.deref_mut-2.ensures.value at c.in_ok-write_factors.ensures in
     let inverses : AreDividedInverses c.args.part v c.in_ok-inverses.inverses.items = rw copied at c.in_ok-inverses.ensures.inverses in
     record {
-      domain = c.requires.domain;
-      least = c.requires.least;
-      part = c.requires.part;
-      points = c.requires.points;
-      some = c.requires.some;
-      few = c.requires.few;
+      tables = record {
+        domain = c.requires.domain;
+        least = c.requires.least;
+        part = c.requires.part;
+        points = c.requires.points;
+        some = c.requires.some;
+        few = c.requires.few;
+        step = rw shift at c.squared-step.ensures;
+        factor_count = rw written long;
+        domain_inverses = c.in_ok-domain.ensures;
+        coset_tree = rw shift at c.in_ok-coset.ensures;
+        coset_inverses = rw (home, shift) at c.in_ok-coset_inverses.ensures;
+        inverse_count = c.in_ok-inverses.ensures.count;
+      };
       v = v;
       size = count;
       vanishes = c.in_ok-factors.ensures.vanishes;
-      step = rw shift at c.squared-step.ensures;
-      factor_count = rw written long;
       factors = rw written factors;
-      domain_inverses = c.in_ok-domain.ensures;
-      coset_tree = rw shift at c.in_ok-coset.ensures;
-      coset_inverses = rw (home, shift) at c.in_ok-coset_inverses.ensures;
-      inverse_count = c.in_ok-inverses.ensures.count;
       inverses = inverses;
     }

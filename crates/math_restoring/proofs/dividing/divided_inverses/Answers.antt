@@ -18,8 +18,8 @@ within c =
 taken : (c : After-size_of) → length (take c.size_of.result c.fold.new.cells) ≡ 2 ^ c.args.part
 taken c = length-take-le c.size_of.result c.fold.new.cells (within c) ∙ c.size_of.ensures
 
-pub evaluate_below-requires-clause-points : goal.evaluate_below-requires-clause-points
-evaluate_below-requires-clause-points c =
+pub evaluate-requires-clause-points : goal.evaluate-requires-clause-points
+evaluate-requires-clause-points c =
     let small : c.args.part ≤ 32 = omega (arith, c.requires.part, c.requires.domain) in
     record { domain = small; small = omega (arith, small); tree = forward-tree shift_of c.args.part c.args.roots.now small c.requires.tree; some = omega arith; within = omega (arith, c.requires.tree.count) }
 
@@ -29,20 +29,20 @@ slice_bounds-first-end c = within c
 pub slice_bounds-first-end-2 : goal.slice_bounds-first-end-2
 slice_bounds-first-end-2 c = c.size_of.ensures ∙ sym (taken (goal.at.slice_bounds-first-end-2 c).After-size_of)
 
-pub evaluate_below-requires-clause-size : goal.evaluate_below-requires-clause-size
-evaluate_below-requires-clause-size c = taken (goal.at.evaluate_below-requires-clause-size c).After-size_of ∙ omega arith
+pub evaluate-requires-clause-size : goal.evaluate-requires-clause-size
+evaluate-requires-clause-size c = taken (goal.at.evaluate-requires-clause-size c).After-size_of ∙ omega arith
 
 pub returns-clause-count : goal.returns-clause-count
-returns-clause-count c = c.in_ok-inverses.ensures.count ∙ c.evaluate_below.auto.cells ∙ taken (goal.at.returns-clause-count c).After-size_of
+returns-clause-count c = c.in_ok-inverses.ensures.count ∙ c.evaluate.auto.cells ∙ taken (goal.at.returns-clause-count c).After-size_of
 
 pub returns-clause-inverses : goal.returns-clause-inverses
 returns-clause-inverses c =
     let part = c.args.part in
     let v = c.args.cells.now in
     let folded = c.fold.new.cells in
-    let divisors : List F = c.evaluate_below.new.cells in
-    let long : length divisors ≡ 2 ^ part = c.evaluate_below.auto.cells ∙ taken (goal.at.returns-clause-inverses c).After-size_of in
-    let evaluated : AreValuesBelow goldilocks c.args.roots.now part 1 1 (take (2 ^ part) folded) divisors = rw c.size_of.ensures at c.in_ok-evaluate_below.ensures.values in
+    let divisors : List F = c.evaluate.new.cells in
+    let long : length divisors ≡ 2 ^ part = c.evaluate.auto.cells ∙ taken (goal.at.returns-clause-inverses c).After-size_of in
+    let evaluated : AreValuesBelow goldilocks c.args.roots.now part 1 1 (take (2 ^ part) folded) divisors = rw c.size_of.ensures at c.evaluate.ensures in
     inverses_made c.args.lg part c.requires.some c.requires.domain c.requires.part c.args.points.now c.requires.points c.args.step v folded divisors c.args.roots.now c.requires.size
     c.requires.vanishes c.requires.step c.requires.tree c.fold.ensures evaluated c.in_ok-numerator.numerator c.in_ok-inverses.inverses.items c.in_ok-numerator.ensures.inverse
     (λ t l.

@@ -8,4 +8,4 @@ put_restored-requires-clause-below c = λ k d l. omega (arith, c.requires.below 
 pub returns : goal.returns
 returns c =
     weights_of_units c.args.layout.lg c.args.indices.now c.write_units.new.cells c.put_restored.new.cells (c.put_restored.auto.cells ∙ c.write_units.auto.cells ∙ c.requires.size) c.write_units.ensures
-    c.in_ok-put_restored.ensures
+    c.in_ok-put_restored.ensures.ok
