@@ -11,3 +11,7 @@ pub mod Ranges
 pub mod ParityRows
 pub mod Wanted
 pub mod Refused
+pub mod Positions
+pub mod Marked
+pub mod Settled
+pub mod Corrected

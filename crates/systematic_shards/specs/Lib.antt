@@ -9,3 +9,4 @@ pub mod Refusals
 pub mod Filled
 pub mod Held
 pub mod Wanted
+pub mod Correcting

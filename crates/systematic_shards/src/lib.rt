@@ -17,6 +17,7 @@
 ghost use Rattle.std.specs.Prelude.{◌≡◌, alloc_error};
 ghost use Rattle.systematic_shards.specs.declared.Error.TheVariants.{Memory};
 
+mod correcting;
 mod decoding;
 mod encoding;
 mod filling;
@@ -30,6 +31,7 @@ mod rows;
 mod split;
 mod weights;
 
+pub use correcting::rebuild_corrected;
 pub use decoding::decode;
 pub use encoding::encode;
 pub use memory::WordMemory;

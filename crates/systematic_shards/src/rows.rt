@@ -79,7 +79,7 @@ fn is_element(word: u64, code: Code, index: u32) -> bool
 }
 
 /// Whether each word of the row is one of an element.
-fn has_elements<M: WordMemory>(row: &Row<'_, M>, code: Code) -> bool
+pub(crate) fn has_elements<M: WordMemory>(row: &Row<'_, M>, code: Code) -> bool
     ensures { IsTrue result ↔ ((k : ℕ) → k < code.split.width
         → IsElementIn code.split.min code.mask row.now.index (M.word row.now.cells.now k)) }
 {
