@@ -3,5 +3,5 @@ pub mod PrintedNumbers
 pub mod Lines
 pub mod Evaluations
 pub mod Recoveries
-pub mod Commands
 pub mod Answers
+pub mod Commands

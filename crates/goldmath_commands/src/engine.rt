@@ -1,11 +1,10 @@
 //! The commands of the program.
 
-ghost use Rattle.std.specs.Prelude.{◌≡◌, ◌<◌, ℕ, List, Some, length, IfOk, IfErr, IfSome, MatchResult, map, string_bytes};
+ghost use Rattle.std.specs.Prelude.{◌≡◌, ℕ, List, Some, IfOk, IfSome, MatchResult, map, string_bytes};
 ghost use Rattle.std.specs.List.{AllZip};
 ghost use Rattle.math_codec.specs.Faults.{Agrees, IsMemory, OnMemory};
 ghost use Rattle.math_base.specs.declared.fields.goldilocks.F.{F};
 ghost use Rattle.math_base.specs.Elements.{same};
-ghost use Rattle.goldmath_commands.specs.Answers.{IsUsage, IsOutOfMemory, IsUsageOrOutOfMemory, Meets, WhereOutOfMemory};
 ghost use Rattle.goldmath_commands.specs.Evaluations.{
   AreEvalWords,
   IsEncodedPolynomial,
@@ -13,15 +12,8 @@ ghost use Rattle.goldmath_commands.specs.Evaluations.{
   scan_polynomial,
   eval_line,
 };
-ghost use Rattle.goldmath_commands.specs.Commands.{AreNoRecoverWords, AreWrongWords};
-ghost use Rattle.goldmath_commands.specs.Recoveries.{
-  AreRecoverWords,
-  EncodesRecovered,
-  HasSize,
-  IsEncodedMatrix,
-  scan_rows,
-};
-ghost use Rattle.math_transforms.specs.Matrices.{MatrixOf};
+ghost use Rattle.goldmath_commands.specs.Commands.{AnswersEval, AnswersRecover};
+ghost use Rattle.goldmath_commands.specs.Commands.{AreNoRecoverWords, AreWrongWords, IsUsageExactly};
 ghost use Rattle.math_codec.specs.declared.codec.error.Error.TheVariants.{Memory};
 ghost use Rattle.goldmath_commands.specs.declared.engine.ToolError.TheVariants.{Refused};
 
@@ -103,20 +95,8 @@ fn evaluated(alloc: Global, point: u64, bytes: &[u8]) -> Result<Vec<u8>, codec::
 
 /// The answer to `recover`, where the words are those of that command, and else `Usage`.
 fn run_recover(alloc: Global, words: &[String], bytes: &[u8]) -> Result<Vec<u8>, ToolError>
-    ensures usage { IfErr result
-        (λ fault. IsUsage fault → AreNoRecoverWords (map string_bytes words.now)) }
-    ensures wrong { AreNoRecoverWords (map string_bytes words.now)
-        → MatchResult result (λ _. ⊥) IsUsageOrOutOfMemory }
-    ensures recover { (lg : ℕ) (rows : List ℕ)
-        → AreRecoverWords (map string_bytes words.now) lg rows
-        → IfOk result (λ out. (m : MatrixOf F) × IsEncodedMatrix bytes.now m
-        × EncodesRecovered lg rows m out.items) }
-    ensures encoded { (lg : ℕ) (rows : List ℕ) (m : MatrixOf F)
-        → AreRecoverWords (map string_bytes words.now) lg rows
-        → IsEncodedMatrix bytes.now m → HasSize lg (length rows) m
-        → MatchResult result (λ out. EncodesRecovered lg rows m out.items) IsOutOfMemory }
-    ensures exact { (lg : ℕ) (rows : List ℕ) → AreRecoverWords (map string_bytes words.now) lg rows
-        → Meets result (scan_rows lg (length rows) bytes.now) }
+    ensures words { IsUsageExactly (AreNoRecoverWords (map string_bytes words.now)) result }
+    ensures recover { AnswersRecover (map string_bytes words.now) bytes.now result }
 {
     match recovery_in(alloc, words)? {
         Some(recovery) => Ok(recovered(alloc, &recovery, bytes)?),
@@ -143,43 +123,9 @@ fn run_recover(alloc: Global, words: &[String], bytes: &[u8]) -> Result<Vec<u8>,
 /// words are good, and the bytes are no such encoding, it refuses with the first fault of the
 /// bytes.
 pub fn run(alloc: Global, words: &[String], bytes: &[u8]) -> Result<Vec<u8>, ToolError>
-    // The words.
-    ensures usage { IfErr result
-        (λ fault. IsUsage fault → AreWrongWords (map string_bytes words.now)) }
-    ensures wrong { AreWrongWords (map string_bytes words.now)
-        → MatchResult result (λ _. ⊥) IsUsageOrOutOfMemory }
-
-    // `eval`: an answer is the value of the polynomial that the bytes encode, and it is given
-    // wherever they encode one.
-    ensures eval { (point : ℕ) → AreEvalWords (map string_bytes words.now) point
-        → IfOk result (λ line. (p : List F) × IsEncodedPolynomial bytes.now p
-        × (line.items ≡ eval_line p point)) }
-    ensures eval_encoded { (point : ℕ) (p : List F)
-        → AreEvalWords (map string_bytes words.now) point
-        → IsEncodedPolynomial bytes.now p
-        → MatchResult result (λ line. line.items ≡ eval_line p point) IsOutOfMemory }
-
-    // `eval`: which fault of the bytes it is.
-    ensures eval_exact { (point : ℕ) → AreEvalWords (map string_bytes words.now) point
-        → Meets result (scan_polynomial bytes.now) }
-    ensures eval_memory { (point : ℕ) → AreEvalWords (map string_bytes words.now) point
-        → IfErr result (λ fault. WhereOutOfMemory fault (PolynomialGrows bytes.now)) }
-
-    // `recover`: an answer is the encoding of the only matrix that is recovered from the one that
-    // the bytes encode, and it is given wherever they encode one of the right size.
-    ensures recover { (lg : ℕ) (rows : List ℕ)
-        → AreRecoverWords (map string_bytes words.now) lg rows
-        → IfOk result (λ out. (m : MatrixOf F) × IsEncodedMatrix bytes.now m
-        × EncodesRecovered lg rows m out.items) }
-    ensures recover_encoded { (lg : ℕ) (rows : List ℕ) (m : MatrixOf F)
-        → AreRecoverWords (map string_bytes words.now) lg rows → IsEncodedMatrix bytes.now m
-        → HasSize lg (length rows) m
-        → MatchResult result (λ out. EncodesRecovered lg rows m out.items) IsOutOfMemory }
-
-    // `recover`: which fault of the bytes it is.
-    ensures recover_exact { (lg : ℕ) (rows : List ℕ)
-        → AreRecoverWords (map string_bytes words.now) lg rows
-        → Meets result (scan_rows lg (length rows) bytes.now) }
+    ensures words { IsUsageExactly (AreWrongWords (map string_bytes words.now)) result }
+    ensures eval { AnswersEval (map string_bytes words.now) bytes.now result }
+    ensures recover { AnswersRecover (map string_bytes words.now) bytes.now result }
 {
     match eval_point(words) {
         Some(point) => Ok(evaluated(alloc, point, bytes)?),

@@ -25,11 +25,15 @@ use std::alloc::Global;
 /// The greatest number of rows, of columns and of cells.
 const MOST_CELLS: usize = 1 << 24;
 
-/// The domain of 2^lg points, and the number of the point that each row of values is at.
+/// The domain of 2^lg points, and the number of the point that each row of values is at. No two
+/// rows are at one point.
 #[derive(Drop)]
 pub struct Recovery {
     pub lg: usize,
     pub rows: Vec<u64>,
+    ghost small: { lg ≤ 24 },
+    ghost below: { All (λ row. row < 2 ^ lg) rows.items },
+    ghost distinct: { AllPairs (λ i j. i ≢ j) rows.items },
 }
 
 /// LG, which is at most 24, where a word writes it.
@@ -115,7 +119,6 @@ pub fn recovery_in(alloc: Global, words: &[String]) -> Mem<Option<Recovery>>
 /// Refuses a matrix whose number of rows is not that of the words, or whose columns would take too
 /// many cells at 2^lg rows.
 fn check_size(recovery: &Recovery, matrix: &Matrix<F>) -> Result<(), codec::Error>
-    requires { recovery.now.lg ≤ 24 }
     ensures { Agrees (λ _. tt) result
         (scan_size recovery.now.lg (length recovery.now.rows.items)
         matrix.now.rows matrix.now.cols) }
@@ -132,13 +135,8 @@ fn check_size(recovery: &Recovery, matrix: &Matrix<F>) -> Result<(), codec::Erro
 /// A vector of 2^lg rows of zeros, in which each row of the matrix is put in the place that its
 /// word names.
 fn placed(alloc: Global, recovery: &Recovery, matrix: &Matrix<F>) -> Mem<EvaluationVector<F>>
-    requires small { recovery.now.lg ≤ 24 }
-    requires below { All (λ row. row < 2 ^ recovery.now.lg) recovery.now.rows.items }
-    requires distinct { AllPairs (λ i j. i ≢ j) recovery.now.rows.items }
-    requires rows { matrix.now.rows ≡ length recovery.now.rows.items }
-    requires cells { 2 ^ recovery.now.lg * matrix.now.cols ≤ most_cells }
-    ensures { IfOk result
-        (HoldsRows recovery.now.lg recovery.now.rows.items matrix.now
+    requires { HasSize recovery.now.lg (length recovery.now.rows.items) matrix.now }
+    ensures { IfOk result (HoldsRows recovery.now.lg recovery.now.rows.items matrix.now
         (length recovery.now.rows.items)) }
 {
     let mut values = EvaluationVector::empty(alloc, recovery.lg, matrix.cols())?;
@@ -155,9 +153,6 @@ fn recovered_exactly(
     recovery: &Recovery,
     bytes: &[u8],
 ) -> Result<Vec<u8>, codec::Error>
-    requires small { recovery.now.lg ≤ 24 }
-    requires below { All (λ row. row < 2 ^ recovery.now.lg) recovery.now.rows.items }
-    requires distinct { AllPairs (λ i j. i ≢ j) recovery.now.rows.items }
     ensures answer { IfOk result (λ out. (m : MatrixOf F) × IsEncodedMatrix bytes.now m
         × EncodesRecovered recovery.now.lg recovery.now.rows.items m out.items) }
     ensures exact { Agrees (λ _. tt) result
@@ -178,9 +173,6 @@ fn recovered_exactly(
 /// `Invalid` where the number of rows is not that of the words, and where 2^lg rows of these
 /// columns would be more than 2^24 cells.
 pub fn recovered(alloc: Global, recovery: &Recovery, bytes: &[u8]) -> Result<Vec<u8>, codec::Error>
-    requires small { recovery.now.lg ≤ 24 }
-    requires below { All (λ row. row < 2 ^ recovery.now.lg) recovery.now.rows.items }
-    requires distinct { AllPairs (λ i j. i ≢ j) recovery.now.rows.items }
     ensures answer { IfOk result (λ out. (m : MatrixOf F) × IsEncodedMatrix bytes.now m
         × EncodesRecovered recovery.now.lg recovery.now.rows.items m out.items) }
     ensures encoded { (m : MatrixOf F) → IsEncodedMatrix bytes.now m

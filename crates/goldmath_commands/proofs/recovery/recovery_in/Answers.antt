@@ -20,3 +20,13 @@ returns-clause-written c =
     let distinct = rw c.deref.ensures.value at (c.in_ok-are_distinct.ensures.0 c.if-not-branch.false) in
     recover_words string_bytes c.args.words.now c.command-item.result c.lg-item.result (omega arith) c.command-item.is c.lg-item.is
     command c.in-Some.lg c.in-Some-2.rows.items size.0 size.1 each distinct
+
+pub invariant_of-result : goal.invariant_of-result
+invariant_of-result c =
+    let words = c.args.words.now in
+    let all : take (length words - 2) (drop 2 words) ≡ drop 2 words = take_all _ _ (omega (arith, length-drop 2 words)) in
+    record {
+      small = c.in-Some.ensures.written.1;
+      below = rows_below c.in-Some.lg (map string_bytes (drop 2 words)) c.in-Some-2.rows.items (rw (c.in-Some-2.is, all) at c.in_ok-rows.ensures.written);
+      distinct = rw c.deref.ensures.value at (c.in_ok-are_distinct.ensures.0 c.if-not-branch.false);
+    }
