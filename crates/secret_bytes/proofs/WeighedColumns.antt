@@ -1,5 +1,6 @@
 -- The shares of all elements have the same indices, and so the same weights.
-use Rattle.std.proofs.Common.{◌≡◌, ◌∙◌, ℕ, ◌+◌, ◌<◌, inl, inr, List, [], ◌∷◌, ◌++◌, length, map, get_or, sym, subst, arith}
+use Rattle.std.proofs.Common.{◌≡◌, ◌∙◌, ℕ, ◌+◌, ◌<◌, inl, inr, List, [], ◌∷◌, ◌++◌, length, map, get_or, Result, Ok, Err, sym, subst, arith}
+use Rattle.std.specs.Prelude.{IfOk}
 use Rattle.std.proofs.lemmas.Bool.{cases_lt}
 use Rattle.std.proofs.lemmas.List.{get_or_append_left, get_or_push, length-map}
 use Rattle.math_base.specs.declared.fields.goldilocks.F.{F}
@@ -10,7 +11,9 @@ use Rattle.shared_secret.specs.Shares.{AreAtDistinctPoints, points}
 use Rattle.shared_secret.specs.Weights.{AreWeightsAtPoints, AreWeightsOfShares}
 use Rattle.secret_bytes.specs.declared.share.SecretShare.{SecretShare}
 use Rattle.secret_bytes.specs.Columns.{column, share_of}
-use Rattle.secret_bytes.specs.Passes.{AreReady}
+use Rattle.secret_bytes.specs.Passes.{AreReady, IsDecodedAt, IsPass}
+use Rattle.secret_bytes.specs.declared.combining.Pass.{Pass}
+use Rattle.secret_bytes.specs.declared.combining.Pass.TheVariants.{Fit, TooManyWrong, Wrong}
 use Rattle.secret_bytes.proofs.ElementPoints.{points-of_indices}
 
 column-length : (j : ℕ) (shares : List SecretShare) → length (column j shares) ≡ length shares
@@ -34,10 +37,18 @@ weights-ready t width j shares w ready apart h =
     }
 
 -- where the values are not those of one polynomial, what is corrected has wrong places
-pub some-wrong : (t j : ℕ) (shares : List SecretShare) (a : F) (wrong : List ℕ) → IsCorrectedSecret goldilocks t (column j shares) a wrong
+some-wrong : (t j : ℕ) (shares : List SecretShare) (a : F) (wrong : List ℕ) → IsCorrectedSecret goldilocks t (column j shares) a wrong
     → ((b : F) → ¬ (IsCorrectedSecret goldilocks t (column j shares) b [])) → 0 < length wrong
 some-wrong t j shares a [] h differ = absurd (differ a h)
 some-wrong t j shares a (i ∷ wrong) h differ = omega arith
+
+-- so what is decoded there ends the pass
+pub pass-decoded : {E : Type 0} (t width j : ℕ) (shares : List SecretShare) (count : ℕ) (result : Result Pass E) → j < width
+    → ((b : F) → ¬ (IsCorrectedSecret goldilocks t (column j shares) b [])) → IfOk result (IsDecodedAt t j shares) → IfOk result (λ pass. IsPass t width shares count pass)
+pass-decoded t width j shares count (Err e) l differ h = h
+pass-decoded t width j shares count (Ok Fit) l differ h = absurd h
+pass-decoded t width j shares count (Ok TooManyWrong) l differ h = (j, l, h)
+pass-decoded t width j shares count (Ok (Wrong places)) l differ h = (j, h.0, l, some-wrong t j shares h.0 places.items h.1 differ, h.1)
 
 -- what holds of each element holds with one more
 pub elements-next : (Holds : ℕ → F → Type 0) (n : ℕ) (all : List F) (a : F) → length all ≡ n → ((i : ℕ) → i < n → Holds i (get_or all i (residue 0))) → Holds n a

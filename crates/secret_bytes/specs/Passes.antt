@@ -38,6 +38,12 @@ IsPass t width shares count Fit = count ≡ width
 IsPass t width shares count (Wrong places) = (j : ℕ) × (a : F) × (j < width) × (0 < length places.items) × IsCorrectedSecret goldilocks t (column j shares) a places.items
 IsPass t width shares count TooManyWrong = (j : ℕ) × (j < width) × ((p : List F) → ¬ (AreSharesWithinRadius goldilocks t p (column j shares)))
 
+-- at element j the shares at these places are wrong; or so many that the element is not found
+abbrev pub IsDecodedAt : ℕ → ℕ → List SecretShare → Pass → Type 0
+IsDecodedAt t j shares Fit = ⊥
+IsDecodedAt t j shares (Wrong places) = (a : F) × IsCorrectedSecret goldilocks t (column j shares) a places.items
+IsDecodedAt t j shares TooManyWrong = (p : List F) → ¬ (AreSharesWithinRadius goldilocks t p (column j shares))
+
 -- why no elements are recovered
 abbrev pub IsDueRecovering : ℕ → ℕ → List SecretShare → CombineError → Type 0
 IsDueRecovering t width shares (error.Memory e) = Unit {0}

@@ -11,7 +11,7 @@ ghost use Rattle.math_base.specs.Elements.{goldilocks, product, residue, same, s
 ghost use Rattle.math_theory.specs.Sums.{weighted_sum};
 ghost use Rattle.secret_bytes.specs.Columns.{column};
 ghost use Rattle.secret_bytes.specs.Combined.{AreCombined, AreElementsOfShares, IsDueCombining, others};
-ghost use Rattle.secret_bytes.specs.Passes.{AreFirstElements, AreReady, IsDueRecovering, IsPass, indices_at};
+ghost use Rattle.secret_bytes.specs.Passes.{AreFirstElements, AreReady, IsDecodedAt, IsDueRecovering, IsPass, indices_at};
 
 use crate::error::CombineError;
 use crate::keyed::unkeyed;
@@ -205,16 +205,13 @@ fn shorter_sum(xs: &[F], ys: &[F]) -> F
     sum_of_products(&xs[..ys.len()], ys)
 }
 
-/// What is found at element j, at which the values of the shares are not those of one polynomial of
-/// t coefficients.
+/// Which shares are wrong at element j, or that too many are.
 fn wrong_at(alloc: Global, t: u32, xs: &[F], shares: &[SecretShare], j: usize) -> Mem<Pass>
     requires points { xs.now ≡ points goldilocks (column j shares.now) }
     requires apart { AreApart same xs.now }
     requires enough { t ≤ length shares.now }
     requires within { All (λ s. j < length s.values.items) shares.now }
-    requires differ { (a : F) → ¬ (IsCorrectedSecret goldilocks t (column j shares.now) a []) }
-    ensures { IfOk result (λ pass. (width count : ℕ) → j < width
-        → IsPass t width shares.now count pass) }
+    ensures { IfOk result (IsDecodedAt t j shares.now) }
 {
     let ys = values_of(alloc, shares, j)?;
     match decode(alloc, xs, &ys, t as usize)? {

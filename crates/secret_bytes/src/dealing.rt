@@ -6,8 +6,8 @@ ghost use Rattle.std.specs.Prelude.{IfOk, IfErr, OnOk};
 ghost use Rattle.math_base.specs.declared.fields.goldilocks.F.{F};
 ghost use Rattle.math_base.specs.Elements.{sample_of};
 ghost use Rattle.shared_secret.specs.Shares.{IsSampled};
-ghost use Rattle.secret_bytes.specs.Deals.{AreDealtBytes, AreSampled, IsDueSampling, sample_count};
-ghost use Rattle.secret_bytes.specs.Rows.{AreRows, IsGrown};
+ghost use Rattle.secret_bytes.specs.Deals.{AreDealtBytes, IsDueSampling, sample_count};
+ghost use Rattle.secret_bytes.specs.Rows.{AreDealtRows, AreRows, IsGrown};
 
 use crate::error::DealError;
 use crate::keyed::{drawn, keyed};
@@ -101,10 +101,8 @@ fn deal_all<G: Rng + CryptoRng>(
     rng: &mut G,
 ) -> Result<(), DealError>
     requires { 0 < t }
-    ensures dealt { (deal : F) (n : ℕ) → AreRows t deal n [] rows.old
-        → IfOk result (λ _. (polynomials : List (List F))
-        × AreSampled t (G.stream rng.old) (G.stream rng.new) elements.now polynomials
-        × AreRows t deal n polynomials rows.new) }
+    ensures dealt { OnOk result
+        (AreDealtRows t (G.stream rng.old) (G.stream rng.new) elements.now rows.old rows.new) }
     ensures due { IfErr result (λ error. IsDueSampling (length elements.now * (t - 1))
         (G.stream rng.old) (G.stream rng.new) error) }
 {

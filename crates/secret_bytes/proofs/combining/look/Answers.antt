@@ -8,7 +8,7 @@ use Rattle.shared_secret.specs.Weights.{AreWeightsAtPoints}
 use Rattle.secret_bytes.specs.declared.share.SecretShare.{SecretShare}
 use Rattle.secret_bytes.specs.Columns.{column}
 use Rattle.secret_bytes.proofs.RecoveredShares.{distinct-points}
-use Rattle.secret_bytes.proofs.WeighedColumns.{elements-next, points-ready, weights-ready}
+use Rattle.secret_bytes.proofs.WeighedColumns.{elements-next, pass-decoded, points-ready, weights-ready}
 use Rattle.secret_bytes.proofs.combining.look.Goals as goal
 
 pub weigh_points-requires-clause-enough : goal.weigh_points-requires-clause-enough
@@ -43,8 +43,9 @@ wrong_at-requires-clause-apart c =
     c.deref-in_default.ensures.value ∙ c.in_ok-points.ensures ∙ points-ready c.args.t c.args.width 0 shares c.requires.ready in
     subst (AreApart same) (sym at) (distinct-points c.args.t c.args.width 0 shares c.requires.ready).1
 
-pub wrong_at-requires-clause-differ : goal.wrong_at-requires-clause-differ
-wrong_at-requires-clause-differ c = rw c.in_default.is at c.in_ok-element.ensures.none
+pub returns-in_default-clause-pass : goal.returns-in_default-clause-pass
+returns-in_default-clause-pass c =
+    pass-decoded c.args.t c.args.width c.loop-j.j c.args.shares.now _ c.wrong_at.result c.loop-j-test.true (rw c.in_default.is at c.in_ok-element.ensures.none) c.wrong_at.ensures
 
 pub loop-j-preserved : goal.loop-j-preserved
 loop-j-preserved c =

@@ -5,11 +5,9 @@ use Rattle.math_base.specs.ElementLaws.{equality}
 use Rattle.math_base.specs.Elements.{residue, goldilocks}
 use Rattle.math_base.specs.Polynomials.{value_in_ring}
 use Rattle.math_decoding.specs.Decodings.{IsDecoded}
-use Rattle.shared_secret.specs.CorrectedShares.{IsCorrectedSecret}
 use Rattle.shared_secret.specs.Shares.{point, points, values}
 use Rattle.shared_secret.specs.declared.shares.Share.{Share}
 use Rattle.secret_bytes.specs.Columns.{column, share_of}
-use Rattle.secret_bytes.proofs.WeighedColumns.{some-wrong}
 use Rattle.secret_bytes.proofs.combining.wrong_at.Goals as goal
 
 pub decode-requires-clause-lengths : goal.decode-requires-clause-lengths
@@ -26,7 +24,7 @@ decode-requires-clause-count c =
     omega (arith, c.requires.enough, count)
 
 pub returns-in-Some : goal.returns-in-Some
-returns-in-Some c = λ width count l.
+returns-in-Some c =
     let j = c.args.j in
     let shares = c.args.shares.now in
     let p = c.in-Some.found.coefficients.items in
@@ -34,8 +32,7 @@ returns-in-Some c = λ width count l.
     let a : F = value_in_ring goldilocks p (residue 0) in
     let decoded : IsDecoded goldilocks (points goldilocks (column j shares)) (values (column j shares)) c.args.t p wrong =
     rw (c.in-Some.is, c.deref.ensures.value, c.in_ok-ys.ensures, c.requires.points) at c.in_ok-found.ensures.found in
-    let corrected : IsCorrectedSecret goldilocks c.args.t (column j shares) a wrong = record { polynomial = p; decoded = decoded; constant = equality.reflexive a } in
-    (j, a, l, some-wrong c.args.t j shares a wrong corrected c.requires.differ, corrected)
+    (a, record { polynomial = p; decoded = decoded; constant = equality.reflexive a })
 
 pub returns : goal.returns
-returns c = λ width count l. (c.args.j, l, rw (c.in-None.is, c.deref.ensures.value, c.in_ok-ys.ensures, c.requires.points) at c.in_ok-found.ensures.none)
+returns c = rw (c.in-None.is, c.deref.ensures.value, c.in_ok-ys.ensures, c.requires.points) at c.in_ok-found.ensures.none

@@ -76,10 +76,10 @@ returns-in_err-shares-clause-due g c =
     let after = g.G.Rng.stream c.deal_all.new.rng in
     let error = Memory c.in_err-shares.field-0.0 in
     let count : length all ≡ element_count (length c.args.bytes.now) = keyed-length c.in_ok-key.key c.args.bytes.now all c.in_ok-all.ensures in
-    let start : AreRows t c.in_ok-deal.deal c.args.n [] c.in_ok-rows.rows.items = c.in_ok-rows.ensures in
-    let dealt = c.in_ok-deal_all.ensures.dealt c.in_ok-deal.deal c.args.n (rw c.deref_mut.ensures.value start) in
-    let sampled : AreSampled t third after all dealt.0 = rw c.deref.ensures.value at dealt.1 in
-    let due : IsDueSampling (length all * (t - 1)) third after error = (length all * (t - 1), flat_map (drop 1) dealt.0, omega arith, sampled-samples t third after all dealt.0 sampled) in
+    let dealt = c.in_ok-deal_all.ensures.dealt in
+    let sampled : AreSampled t third after all dealt.polynomials = rw c.deref.ensures.value at dealt.sampled in
+    let due : IsDueSampling (length all * (t - 1)) third after error =
+    (length all * (t - 1), flat_map (drop 1) dealt.polynomials, omega arith, sampled-samples t third after all dealt.polynomials sampled) in
     passed c.from_residual-in_err-shares.result error (IsDueSampling (sample_count t (length c.args.bytes.now)) before after) c.from_residual-in_err-shares.ensures.1
     (due-after-two (element_count (length c.args.bytes.now) * (t - 1)) before (g.G.Rng.stream c.drawn.new.rng) third after c.in_ok-deal.deal c.in_ok-key.key error
     c.in_ok-deal.ensures.sampled c.in_ok-key.ensures.sampled (subst (λ (n : ℕ). IsDueSampling (n * (t - 1)) third after error) count due))
@@ -97,23 +97,25 @@ returns-clause-dealt g c =
     let now : Stream = g.G.Rng.stream c.drawn-2.new.rng in
     let after : Stream = g.G.Rng.stream c.deal_all.new.rng in
     let start : AreRows t deal n [] empty = c.in_ok-rows.ensures in
-    let dealt = c.in_ok-deal_all.ensures.dealt deal n (rw c.deref_mut.ensures.value start) in
-    let sampled : AreSampled t now after all dealt.0 = rw c.deref.ensures.value at dealt.1 in
-    let width : length dealt.0 ≡ length all = sampled-count t now after all dealt.0 sampled in
-    let count : length rows ≡ length empty = rows-count t deal dealt.0 (range_with_len 1 n) rows dealt.2 ∙ sym (rows-count t deal [] (range_with_len 1 n) empty start) in
+    let dealt = c.in_ok-deal_all.ensures.dealt in
+    let polynomials = dealt.polynomials in
+    let are : AreRows t deal n polynomials rows = dealt.rows deal n (rw c.deref_mut.ensures.value start) in
+    let sampled : AreSampled t now after all polynomials = rw c.deref.ensures.value at dealt.sampled in
+    let width : length polynomials ≡ length all = sampled-count t now after all polynomials sampled in
+    let count : length rows ≡ length empty = rows-count t deal polynomials (range_with_len 1 n) rows are ∙ sym (rows-count t deal [] (range_with_len 1 n) empty start) in
     let is : shares ≡ map (λ (r : Row). r.share) rows =
     c.in_ok-shares.ensures ∙ ap (map (λ (r : Row). r.share)) (written-all c.in_ok-rows.rows.len rows empty count (omega (arith, c.in_ok-rows.rows.ok))) in
     record {
       deal = deal;
       all = all;
-      polynomials = dealt.0;
+      polynomials = polynomials;
       second = g.G.Rng.stream c.drawn.new.rng;
       third = now;
       keyed = keyed.0;
       deal_sampled = c.in_ok-deal.ensures.sampled;
       key_sampled = subst (λ (k : F). sample_of (g.G.Rng.stream c.drawn.new.rng) ≡ (Some k, now)) (sym keyed.1) c.in_ok-key.ensures.sampled;
       sampled = sampled;
-      indices = rw is (rows-indices t deal dealt.0 (range_with_len 1 n) rows dealt.2);
-      alike = rw is (subst (λ (w : ℕ). All (IsOfDeal t deal w) (map (λ (r : Row). r.share) rows)) width (rows-alike t deal dealt.0 (range_with_len 1 n) rows dealt.2));
-      columns = λ j l. rw is (rows-dealt t deal n dealt.0 rows c.ranges.n.fits dealt.2 j l);
+      indices = rw is (rows-indices t deal polynomials (range_with_len 1 n) rows are);
+      alike = rw is (subst (λ (w : ℕ). All (IsOfDeal t deal w) (map (λ (r : Row). r.share) rows)) width (rows-alike t deal polynomials (range_with_len 1 n) rows are));
+      columns = λ j l. rw is (rows-dealt t deal n polynomials rows c.ranges.n.fits are j l);
     }

@@ -50,6 +50,4 @@ loop-element-preserved g c =
     }
 
 pub returns-clause-dealt : goal.returns-clause-dealt
-returns-clause-dealt g c = λ deal n h.
-    let v = c.loop-element.invariant in
-    (v.polynomials, rw (take_all c.loop-element.element-index c.args.elements.now c.loop-element-test.false) at v.sampled, v.rows deal n h)
+returns-clause-dealt g c = rw (take_all c.loop-element.element-index c.args.elements.now c.loop-element-test.false) at c.loop-element.invariant
