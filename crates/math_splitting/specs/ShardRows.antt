@@ -1,5 +1,5 @@
 -- Shards of data as words, a shard a row: how they are written column by column.
-use Rattle.std.specs.Prelude.{◌≡◌, ℕ, ◌+◌, ◌*◌, ◌<◌, List, length, map, take, drop, slice_index, slice_index_or}
+use Rattle.std.specs.Prelude.{◌≡◌, ℕ, ◌+◌, ◌*◌, ◌<◌, ◌^◌, List, length, map, take, drop, slice_index, slice_index_or}
 use Rattle.std.specs.List.{flat_map, range_with_len}
 use Rattle.math_base.specs.declared.fields.goldilocks.F.{F}
 use Rattle.math_base.specs.Elements.{number, residue}
@@ -7,6 +7,10 @@ use Rattle.math_transforms.specs.Matrices.{MatrixOf, column_of}
 use Rattle.math_splitting.specs.declared.shards.Shard.{Shard}
 use Rattle.math_splitting.specs.declared.shards.indices.Wanted.{Wanted}
 use Rattle.math_splitting.specs.declared.shards.indices.Wanted.TheVariants as wanted
+use Rattle.math_splitting.specs.declared.shards.layouts.Layout.{Layout}
+use Rattle.math_splitting.specs.declared.shards.layouts.Strip.{Strip}
+use Rattle.math_splitting.specs.declared.shards.sources.Source.{Source}
+use Rattle.math_splitting.specs.DataWords.{words_in}
 use Rattle.math_splitting.specs.Shards.{AreShardsAt, rows_for, value_at_index}
 use Rattle.math_splitting.specs.Strips.{place_of}
 
@@ -23,6 +27,11 @@ abbrev pub indices_in : Wanted → List ℕ
 indices_in (wanted.All total) = range_with_len 0 total
 indices_in (wanted.At indices) = indices.now
 
+-- there is a row of so many words for each shard that is asked for, and there are fewer than 2^64 words
+pub record IsRoomFor (width : ℕ) (wanted : Wanted) (cells : List ℕ) : Type 0 where
+  pub size : length cells ≡ length (indices_in wanted) * width
+  pub fits : length cells < 2 ^ 64
+
 -- the number in a cell of a shard: the value, at the power of the root that is its index, of the polynomial of the column
 abbrev pub number_at : List ℕ → ℕ → ℕ → ℕ → ℕ → ℕ
 number_at words min lg i k = number (value_at_index lg (column_of (residue 0) (rows_for min words) k) i)
@@ -30,6 +39,11 @@ number_at words min lg i k = number (value_at_index lg (column_of (residue 0) (r
 -- the first n columns of rows of words have the numbers of the cells of the shards of these indices
 abbrev pub HaveColumns : List ℕ → ℕ → ℕ → ℕ → List ℕ → ℕ → List ℕ → Type 0
 HaveColumns words min lg width indices n cells = (t k : ℕ) → t < length indices → k < n → slice_index cells (t * width + k) ≡ number_at words min lg (slice_index indices t) k
+
+-- the rows of words have the numbers of all cells of the shards that are asked for, of the data of a source
+pub record AreSplit {W : Type 0} (word : W → ℕ) (source : Source W) (layout : Layout) (wanted : Wanted) (cells : List ℕ) : Type 0 where
+  pub size : length cells ≡ length (indices_in wanted) * layout.width
+  pub columns : HaveColumns (words_in word source) layout.min layout.lg layout.width (indices_in wanted) layout.width cells
 
 -- the words are the numbers of the elements
 abbrev pub AreNumbers : List F → List ℕ → Type 0
@@ -43,6 +57,11 @@ pub record AreColumnsWritten (width from c rows : ℕ) (element : ℕ → ℕ �
 -- the element in this column of the row of a strip that is in the place of the index
 abbrev pub strip_element : ℕ → List ℕ → ℕ → List F → ℕ → ℕ → F
 strip_element lg indices c strip t k = slice_index_or strip (place_of lg (slice_index indices t) * c + k) (residue 0)
+
+-- of a strip of values the row of each shard that is asked for is written over the columns of the strip in the row of that shard
+pub record IsStripWritten (strip : Strip) (wanted : Wanted) (values : List F) (old new : List ℕ) : Type 0 where
+  pub size : length new ≡ length old
+  pub columns : AreColumnsWritten strip.layout.width strip.from strip.cols (length (indices_in wanted)) (strip_element strip.layout.lg (indices_in wanted) strip.cols values) old new
 
 -- the value, at the power of the root that is the index in this place, of the polynomial of this column of the matrix
 abbrev pub value_element : List ℕ → ℕ → MatrixOf F → ℕ → ℕ → F

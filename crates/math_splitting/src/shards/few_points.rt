@@ -10,8 +10,8 @@ ghost use Rattle.math_transforms.specs.DomainValues.{matrix_of};
 ghost use Rattle.math_transforms.specs.Matrices.{column_of};
 ghost use Rattle.math_values.specs.Values.{ArePowersOf};
 ghost use Rattle.math_splitting.specs.DataWords.{words_in};
-ghost use Rattle.math_splitting.specs.ShardRows.{AreColumnsWritten, HaveColumns, indices_in};
-ghost use Rattle.math_splitting.specs.ShardRows.{value_element};
+ghost use Rattle.math_splitting.specs.ShardRows.{AreColumnsWritten, AreSplit, IsRoomFor};
+ghost use Rattle.math_splitting.specs.ShardRows.{indices_in, value_element};
 ghost use Rattle.math_splitting.specs.Strips.{HasValuesAt, IsLayoutOf};
 
 use super::destinations::Room;
@@ -106,9 +106,7 @@ fn write_values_of<R: Room>(
 )
     requires rows { length rows.now ≡ strip.layout.min * strip.cols }
     requires room { length room.old ≡ 2 * strip.layout.min + strip.cols }
-    requires size { length (R.words cells.old)
-        ≡ length (indices_in wanted) * strip.layout.width }
-    requires fits { length (R.words cells.old) < 2 ^ 64 }
+    requires cells { IsRoomFor strip.layout.width wanted (R.words cells.old) }
     ensures columns { AreColumnsWritten strip.layout.width strip.from strip.cols
         (length (indices_in wanted.entry)) (value_element (indices_in wanted.entry)
         strip.layout.lg (matrix_of strip.layout.min strip.cols rows.now)) (R.words cells.old)
@@ -139,11 +137,8 @@ fn write_strips<W: Word, R: Room>(
 )
     requires layout { IsLayoutOf (words_in W.word source.now) layout }
     requires room { 3 * layout.min < length room.old }
-    requires size { length (R.words cells.old) ≡ length (indices_in wanted) * layout.width }
-    requires fits { length (R.words cells.old) < 2 ^ 64 }
-    ensures columns { HaveColumns (words_in W.word source.now) layout.min layout.lg layout.width
-        (indices_in wanted.entry) layout.width (R.words cells.new) }
-    ensures kept { length (R.words cells.new) ≡ length (R.words cells.old) }
+    requires cells { IsRoomFor layout.width wanted (R.words cells.old) }
+    ensures { AreSplit W.word source.now layout wanted.entry (R.words cells.new) }
 {
     let min = layout.min as usize;
     let most = (room.len() - 2 * min) / (min + 1);
@@ -176,11 +171,8 @@ pub(super) fn write_products<W: Word, R: Room>(
     cells: &mut [R],
 ) -> Mem<()>
     requires layout { IsLayoutOf (words_in W.word source.now) layout }
-    requires size { length (R.words cells.old) ≡ length (indices_in wanted) * layout.width }
-    requires fits { length (R.words cells.old) < 2 ^ 64 }
-    ensures columns { OnOk result (HaveColumns (words_in W.word source.now) layout.min layout.lg
-        layout.width (indices_in wanted.entry) layout.width (R.words cells.new)) }
-    ensures kept { OnOk result (length (R.words cells.new) ≡ length (R.words cells.old)) }
+    requires cells { IsRoomFor layout.width wanted (R.words cells.old) }
+    ensures ok { OnOk result (AreSplit W.word source.now layout wanted.entry (R.words cells.new)) }
     ensures err { OnErr result (cells.new ≡ cells.old) }
 {
     let most = STRIP_COLS.min(layout.width).max(1);

@@ -8,9 +8,8 @@
 ghost use Rattle.std.specs.Prelude.{◌≡◌, ◌+◌, ◌*◌, ◌<◌, ◌≤◌, ◌^◌, All, IfOk, OnErr, OnOk, length};
 ghost use Rattle.math_splitting.specs.DataWords.{words_in};
 ghost use Rattle.math_splitting.specs.Shards.{AreShardsAt, AreShardsOf, width_for};
-ghost use Rattle.math_splitting.specs.ShardRows.{AreColumnsWritten, AreCut, AreRowsOfShards};
-ghost use Rattle.math_splitting.specs.ShardRows.{AreRowsOfShardsAt, HaveColumns, indices_in};
-ghost use Rattle.math_splitting.specs.ShardRows.{strip_element};
+ghost use Rattle.math_splitting.specs.ShardRows.{AreCut, AreRowsOfShards, AreRowsOfShardsAt};
+ghost use Rattle.math_splitting.specs.ShardRows.{AreSplit, IsRoomFor, IsStripWritten, indices_in};
 ghost use Rattle.math_splitting.specs.Strips.{IsLayoutOf, IsTableOf};
 
 use super::Shard;
@@ -73,7 +72,7 @@ pub fn split_source<W: Word>(
     ensures { IfOk result
         (λ shards. AreShardsOf (words_in W.word source.now) min total shards.items) }
 {
-    make_shards(alloc, source, min, total, Wanted::All(total))
+    make_shards(alloc, source, layout_of(source, min, total), Wanted::All(total))
 }
 
 /// Gives the shards of these indices, in their order: those that `split_source` gives of all. An
@@ -104,7 +103,7 @@ pub fn split_source_at<W: Word>(
     ensures { IfOk result
         (λ shards. AreShardsAt (words_in W.word source.now) min total indices.now shards.items) }
 {
-    make_shards(alloc, source, min, total, Wanted::At(indices))
+    make_shards(alloc, source, layout_of(source, min, total), Wanted::At(indices))
 }
 
 /// Writes the shards of the data over the cells: shard i is row i of `total` rows, and each of its
@@ -156,7 +155,7 @@ pub fn split_source_rows<W: Word, R: Room>(
         (AreRowsOfShards (words_in W.word source.now) min total (R.words cells.new)) }
     ensures err { OnErr result (cells.new ≡ cells.old) }
 {
-    write_shards(alloc, source, min, total, Wanted::All(total), cells)
+    write_shards(alloc, source, layout_of(source, min, total), Wanted::All(total), cells)
 }
 
 /// Writes the shards of these indices over words, or over bytes, those that `split_source_rows`
@@ -192,31 +191,24 @@ pub fn split_source_rows_at<W: Word, R: Room>(
         (R.words cells.new)) }
     ensures err { OnErr result (cells.new ≡ cells.old) }
 {
-    write_shards(alloc, source, min, total, Wanted::At(indices), cells)
+    write_shards(alloc, source, layout_of(source, min, total), Wanted::At(indices), cells)
 }
 
-/// Writes the shards that are asked for over the rows of the cells, in the way that takes less
-/// work.
+/// Writes the shards that are asked for over the rows of the cells.
 fn write_shards<W: Word, R: Room>(
     alloc: Global,
     source: &Source<'_, W>,
-    min: u32,
-    total: u32,
+    layout: Layout,
     wanted: Wanted<'_>,
     cells: &mut [R],
 ) -> Mem<()>
-    requires some { 1 ≤ min }
-    requires within { min ≤ total }
-    requires few { length (words_in W.word source.now) < 2 ^ 61 }
-    requires below { All (λ i. i < total) (indices_in wanted) }
-    requires size { length (R.words cells.old)
-        ≡ length (indices_in wanted) * width_for min (words_in W.word source.now) }
-    requires fits { length (R.words cells.old) < 2 ^ 64 }
-    ensures ok { OnOk result (AreRowsOfShardsAt (words_in W.word source.now) min total
-        (indices_in wanted.entry) (R.words cells.new)) }
+    requires layout { IsLayoutOf (words_in W.word source.now) layout }
+    requires below { All (λ i. i < layout.total) (indices_in wanted) }
+    requires cells { IsRoomFor layout.width wanted (R.words cells.old) }
+    ensures ok { OnOk result (AreRowsOfShardsAt (words_in W.word source.now) layout.min
+        layout.total (indices_in wanted.entry) (R.words cells.new)) }
     ensures err { OnErr result (cells.new ≡ cells.old) }
 {
-    let layout = layout_of(source, min, total);
     write_all(alloc, source, layout, wanted, cells)?;
     Ok(())
 }
@@ -231,11 +223,8 @@ fn write_all<W: Word, R: Room>(
 ) -> Mem<()>
     requires layout { IsLayoutOf (words_in W.word source.now) layout }
     requires below { All (λ i. i < layout.total) (indices_in wanted) }
-    requires size { length (R.words cells.old) ≡ length (indices_in wanted) * layout.width }
-    requires fits { length (R.words cells.old) < 2 ^ 64 }
-    ensures columns { OnOk result (HaveColumns (words_in W.word source.now) layout.min layout.lg
-        layout.width (indices_in wanted.entry) layout.width (R.words cells.new)) }
-    ensures size { OnOk result (length (R.words cells.new) ≡ length (R.words cells.old)) }
+    requires cells { IsRoomFor layout.width wanted (R.words cells.old) }
+    ensures ok { OnOk result (AreSplit W.word source.now layout wanted.entry (R.words cells.new)) }
     ensures err { OnErr result (cells.new ≡ cells.old) }
 {
     if are_products_cheaper(layout, wanted_count(wanted)) {
@@ -263,11 +252,8 @@ fn write_rows<W: Word, R: Room>(
     requires below { All (λ i. i < layout.total) (indices_in wanted) }
     requires table { IsTableOf layout.lg table.now }
     requires room { 2 ^ layout.lg ≤ length room.old }
-    requires size { length (R.words cells.old) ≡ length (indices_in wanted) * layout.width }
-    requires fits { length (R.words cells.old) < 2 ^ 64 }
-    ensures columns { HaveColumns (words_in W.word source.now) layout.min layout.lg layout.width
-        (indices_in wanted.entry) layout.width (R.words cells.new) }
-    ensures size { length (R.words cells.new) ≡ length (R.words cells.old) }
+    requires cells { IsRoomFor layout.width wanted (R.words cells.old) }
+    ensures { AreSplit W.word source.now layout wanted.entry (R.words cells.new) }
 {
     let most = room.len() >> layout.lg;
     let mut from = 0;
@@ -286,14 +272,8 @@ fn write_rows<W: Word, R: Room>(
 fn write_columns<R: Room>(values: &[F], strip: Strip, wanted: Wanted<'_>, cells: &mut [R])
     requires below { All (λ i. i < strip.layout.total) (indices_in wanted) }
     requires values { length values.now ≡ 2 ^ strip.layout.lg * strip.cols }
-    requires size { length (R.words cells.old)
-        ≡ length (indices_in wanted) * strip.layout.width }
-    requires fits { length (R.words cells.old) < 2 ^ 64 }
-    ensures columns { AreColumnsWritten strip.layout.width strip.from strip.cols
-        (length (indices_in wanted.entry))
-        (strip_element strip.layout.lg (indices_in wanted.entry) strip.cols values.now)
-        (R.words cells.old) (R.words cells.new) }
-    ensures size { length (R.words cells.new) ≡ length (R.words cells.old) }
+    requires cells { IsRoomFor strip.layout.width wanted (R.words cells.old) }
+    ensures { IsStripWritten strip wanted.entry values.now (R.words cells.old) (R.words cells.new) }
 {
     for t in 0..wanted_count(wanted) {
         let row = row_of_index(values, strip, wanted_index(wanted, t));
@@ -305,21 +285,17 @@ fn write_columns<R: Room>(values: &[F], strip: Strip, wanted: Wanted<'_>, cells:
 fn make_shards<W: Word>(
     alloc: Global,
     source: &Source<'_, W>,
-    min: u32,
-    total: u32,
+    layout: Layout,
     wanted: Wanted<'_>,
 ) -> Mem<Vec<Shard>>
-    requires some { 1 ≤ min }
-    requires within { min ≤ total }
-    requires few { length (words_in W.word source.now) < 2 ^ 61 }
-    requires below { All (λ i. i < total) (indices_in wanted) }
-    ensures { IfOk result (λ shards. AreShardsAt (words_in W.word source.now) min total
-        (indices_in wanted.entry) shards.items) }
+    requires layout { IsLayoutOf (words_in W.word source.now) layout }
+    requires below { All (λ i. i < layout.total) (indices_in wanted) }
+    ensures { IfOk result (λ shards. AreShardsAt (words_in W.word source.now) layout.min
+        layout.total (indices_in wanted.entry) shards.items) }
 {
-    let layout = layout_of(source, min, total);
     let mut cells = strip_room(alloc, wanted_count(wanted), layout.width)?;
     write_all::<W, F>(alloc, source, layout, wanted, &mut cells)?;
-    let shards = cut_rows(alloc, &cells, layout.width, min, total, wanted)?;
+    let shards = cut_rows(alloc, &cells, layout, wanted)?;
     Ok(shards)
 }
 
@@ -327,23 +303,22 @@ fn make_shards<W: Word>(
 fn cut_rows(
     alloc: Global,
     cells: &[F],
-    width: usize,
-    min: u32,
-    total: u32,
+    layout: Layout,
     wanted: Wanted<'_>,
 ) -> Mem<Vec<Shard>>
-    requires { length cells.now ≡ length (indices_in wanted) * width }
-    ensures { IfOk result (λ shards. AreCut min total width (indices_in wanted.entry) cells.now
-        (length (indices_in wanted.entry)) shards.items) }
+    requires { length cells.now ≡ length (indices_in wanted) * layout.width }
+    ensures { IfOk result (λ shards. AreCut layout.min layout.total layout.width
+        (indices_in wanted.entry) cells.now (length (indices_in wanted.entry)) shards.items) }
 {
+    let width = layout.width;
     let mut shards = Vec::with_capacity(alloc, wanted_count(wanted))?;
     for t in 0..wanted_count(wanted) {
         let at = t * width;
         let row = copy_of(alloc, &cells[at..at + width])?;
         shards.push(Shard {
             index: wanted_index(wanted, t),
-            min,
-            total,
+            min: layout.min,
+            total: layout.total,
             cells: row,
         })?;
     }

@@ -20,3 +20,9 @@ loop-from-preserved g c =
           (g.R.Room.words c.write_values_of.new.cells) (product_values words layout.min layout.lg from cols indices strip c.write_strip.ensures) c.write_values_of.ensures.columns
           c.loop-from.invariant.columns;
     }
+
+pub returns : goal.returns
+returns g c = record {
+  size = c.loop-from.invariant.size ∙ c.requires.cells.size;
+  columns = λ t k a b. c.loop-from.invariant.columns t k a (omega (arith, b));
+}

@@ -35,7 +35,7 @@ loop-t-preserved g c =
     (subst (λ h. HasValuesAt lg index (matrix_of h (length c.loop-t.out) rows) out) tall (c.write_values_at.ensures lg index powers))) in
     let is : (k : ℕ) → k < strip.cols → get_or out k nought ≡ element t k = λ k l. has.values k l in
     let below : t < length indices = omega (arith, c.wanted_count-t-end.ensures) in
-    let inside : t * width + width ≤ length old = omega (arith, row-within t (length indices) width below, c.requires.size, c.loop-t.invariant.size) in
+    let inside : t * width + width ≤ length old = omega (arith, row-within t (length indices) width below, c.requires.cells.size, c.loop-t.invariant.size) in
     rw c.write.ensures.written record {
       size = size-kept width from strip.cols t out element first old has.count strip.inside inside is ∙ c.loop-t.invariant.size;
       columns = columns-more width from strip.cols t out element first old has.count strip.inside inside is c.loop-t.invariant.columns c.loop-t.invariant.left;

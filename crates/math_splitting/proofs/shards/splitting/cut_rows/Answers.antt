@@ -11,20 +11,20 @@ pub loop-t-preserved : goal.loop-t-preserved
 loop-t-preserved c =
     let indices = indices_in c.args.wanted in
     let cells = c.args.cells.now in
-    let width = c.args.width in
+    let width = c.args.layout.width in
     let t = c.loop-t.t in
     let at = t * width in
-    let s : Shard = record { index = c.wanted_index.result; min = c.args.min; total = c.args.total; cells = c.in_ok-row.row } in
+    let s : Shard = record { index = c.wanted_index.result; min = c.args.layout.min; total = c.args.layout.total; cells = c.in_ok-row.row } in
     let e : at + width - at ≡ width = omega arith in
-    let here : IsCutAt c.args.min c.args.total width indices cells t s = record {
+    let here : IsCutAt c.args.layout.min c.args.layout.total width indices cells t s = record {
       index = c.wanted_index.ensures;
       least = refl;
       most = refl;
       row = c.in_ok-row.ensures ∙ ap (λ n. take n (drop at cells)) e;
     } in
-    rw c.in_ok-push.ensures.items (cut-more c.args.min c.args.total width indices cells t c.loop-t.shards.items s c.loop-t.invariant here)
+    rw c.in_ok-push.ensures.items (cut-more c.args.layout.min c.args.layout.total width indices cells t c.loop-t.shards.items s c.loop-t.invariant here)
 
 pub returns : goal.returns
 returns c =
     let all : c.loop-t.t ≡ length (indices_in c.args.wanted) = omega (arith, c.wanted_count-t-end.ensures) in
-    subst (λ n. AreCut c.args.min c.args.total c.args.width (indices_in c.args.wanted) c.args.cells.now n c.loop-t.shards.items) all c.loop-t.invariant
+    subst (λ n. AreCut c.args.layout.min c.args.layout.total c.args.layout.width (indices_in c.args.wanted) c.args.cells.now n c.loop-t.shards.items) all c.loop-t.invariant

@@ -3,4 +3,4 @@ use Rattle.math_splitting.proofs.shards.splitting.cut_rows.Given as goal
 
 -- the shards of the first rows
 abbrev pub invariant-loop-t : goal.invariant-loop-t
-invariant-loop-t l = AreCut l.min l.total l.width (indices_in l.wanted) l.cells l.t l.shards.items
+invariant-loop-t l = AreCut l.layout.min l.layout.total l.layout.width (indices_in l.wanted) l.cells l.t l.shards.items

@@ -6,7 +6,15 @@ use Rattle.math_splitting.proofs.CutShards.{all_below}
 use Rattle.math_splitting.proofs.shards.splitting.split_source_rows.Goals as goal
 
 pub write_shards-requires-clause-below : goal.write_shards-requires-clause-below
-write_shards-requires-clause-below g c = all_below c.args.total
+write_shards-requires-clause-below g c = rw c.layout_of.ensures.total (all_below c.args.total)
 
-pub write_shards-requires-clause-size : goal.write_shards-requires-clause-size
-write_shards-requires-clause-size g c = c.requires.size ∙ ap (λ n. n * width_for c.args.min (words_in g.W.Word.word c.args.source.now)) (sym (length-range_with_len 0 c.args.total))
+pub write_shards-requires-clause-cells : goal.write_shards-requires-clause-cells
+write_shards-requires-clause-cells g c =
+    let made = c.layout_of.ensures in
+    record {
+      size = rw (made.layout.width, made.min) (c.requires.size ∙ ap (λ n. n * width_for c.args.min (words_in g.W.Word.word c.args.source.now)) (sym (length-range_with_len 0 c.args.total)));
+      fits = c.requires.fits;
+    }
+
+pub returns-clause-ok : goal.returns-clause-ok
+returns-clause-ok g c = rw (c.layout_of.ensures.min, c.layout_of.ensures.total) at c.write_shards.ensures.ok

@@ -26,7 +26,7 @@ loop-t-preserved g c =
     let is : (k : ℕ) → k < cols → get_or items k nought ≡ element t k = λ k l.
     ap (λ xs. get_or xs k nought) c.row_of_index-row.ensures.row ∙ ap (λ j. get_or (take cols (drop (place_of lg j * cols) values)) k nought) c.wanted_index.ensures
     ∙ strip_row lg indices cols t cols values refl k l in
-    let inside : t * width + width ≤ length old = omega (arith, row-within t (length indices) width below, c.requires.size, c.loop-t.invariant.size) in
+    let inside : t * width + width ≤ length old = omega (arith, row-within t (length indices) width below, c.requires.cells.size, c.loop-t.invariant.size) in
     rw c.write.ensures.written record {
       size = size-kept width from cols t items element first old long strip.inside inside is ∙ c.loop-t.invariant.size;
       columns = columns-more width from cols t items element first old long strip.inside inside is c.loop-t.invariant.columns c.loop-t.invariant.left;

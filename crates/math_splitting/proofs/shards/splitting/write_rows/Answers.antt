@@ -19,3 +19,9 @@ loop-from-preserved g c =
           (g.R.Room.words c.write_columns.new.cells) (strip_values words layout.min layout.lg from cols indices strip c.write_values.ensures (λ t d l. omega (arith, c.requires.below t d l, layout.points))) c.write_columns.ensures.columns
           c.loop-from.invariant.columns;
     }
+
+pub returns : goal.returns
+returns g c = record {
+  size = c.loop-from.invariant.size ∙ c.requires.cells.size;
+  columns = λ t k a b. c.loop-from.invariant.columns t k a (omega (arith, b));
+}
