@@ -11,3 +11,4 @@ pub mod WordShards
 pub mod AlikeShards
 pub mod ShardBytes
 pub mod FilledRows
+pub mod SystematicRows

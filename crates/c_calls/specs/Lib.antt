@@ -7,3 +7,4 @@ pub mod WordShards
 pub mod WordDecodings
 pub mod WordCorrections
 pub mod ShardBytes
+pub mod SystematicRows

@@ -3,6 +3,8 @@ use Rattle.std.specs.Prelude.{ℕ, List, codes, Result, Ok, Err, ◌==◌, if◌
 use Rattle.math_codec.specs.Faults as faults
 use Rattle.math_shards.specs.declared.shards.Error as shards
 use Rattle.math_shards.specs.declared.shards.Error.TheVariants as errors
+use Rattle.systematic_shards.specs.declared.Error as systematic
+use Rattle.systematic_shards.specs.declared.Error.TheVariants as refusals
 use Rattle.c_calls.specs.declared.status.Status.{Status}
 use Rattle.c_calls.specs.declared.status.Status.TheVariants.{Done, OutOfMemory, OutOfRange, WrongSize, TooFew, Mismatch, WrongIndex, Conflict, Inconsistent, EndOfBuffer, InvalidVarint, InvalidLength, ExtraData, Repeated}
 
@@ -31,7 +33,7 @@ done = 0
 abbrev pub out_of_memory : ℕ
 out_of_memory = 1
 
--- a word is P or more, or a byte that says whether a row is filled is neither 0 nor 1
+-- a word is no element, or a byte that says whether a row is filled is neither 0 nor 1
 abbrev pub out_of_range : ℕ
 out_of_range = 2
 
@@ -50,6 +52,10 @@ mismatch = 5
 -- an index is not below the total, or of weights not above the one before it
 abbrev pub wrong_index : ℕ
 wrong_index = 6
+
+-- two shards have one index, and differ
+abbrev pub conflict : ℕ
+conflict = 7
 
 -- there is no answer that fits: no data that have each of the shards, or no polynomial near the values
 abbrev pub inconsistent : ℕ
@@ -82,8 +88,19 @@ status_of_shards (errors.Memory e) = out_of_memory
 status_of_shards errors.TooFew = too_few
 status_of_shards errors.Mismatch = mismatch
 status_of_shards errors.Index = wrong_index
-status_of_shards errors.Conflict = 7
+status_of_shards errors.Conflict = conflict
 status_of_shards errors.Inconsistent = inconsistent
+
+-- the status of rows of systematic shards that are refused, by what is wrong with them
+abbrev pub status_of_rows : systematic.Error → ℕ
+status_of_rows (refusals.Memory e) = out_of_memory
+status_of_rows refusals.TooFew = too_few
+status_of_rows refusals.Mismatch = mismatch
+status_of_rows refusals.Sizes = wrong_size
+status_of_rows refusals.Index = wrong_index
+status_of_rows refusals.Word = out_of_range
+status_of_rows refusals.Conflict = conflict
+status_of_rows refusals.Inconsistent = inconsistent
 
 -- the text of a status
 abbrev pub text_of : ℕ → List ℕ

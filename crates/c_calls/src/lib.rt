@@ -1,5 +1,5 @@
 //! What the library for C does, over words and bytes in the caller's memory: polynomials over the
-//! Goldilocks field, and shards.
+//! Goldilocks field, shards, and systematic shards.
 //!
 //! The exports of `commonware_math_c` call it. They are a static library, of which the kit keeps
 //! nothing that was proved; what stands here is proved once for all archives.
@@ -13,5 +13,6 @@ pub mod polynomials;
 pub mod rows;
 pub mod shards;
 pub mod status;
+pub mod systematic;
 pub mod values;
 pub mod weights;

@@ -2,7 +2,7 @@
 
 ghost use Rattle.std.specs.Prelude.{◌≡◌, ◌≢◌, ◌↔◌, ◌⊎◌, ◌≤◌, ◌-◌, ◌++◌, Result, length, replicate};
 ghost use Rattle.math_codec.specs.Faults.{Fault, IsMemory, Reports};
-ghost use Rattle.c_calls.specs.Statuses.{code_of, done, end_of_buffer, extra_data, out_of_memory, out_of_range, status_of_read, status_of_shards, text_of};
+ghost use Rattle.c_calls.specs.Statuses.{code_of, done, end_of_buffer, extra_data, out_of_memory, out_of_range, status_of_read, status_of_rows, status_of_shards, text_of};
 
 use commonware_math::codec::Error;
 use commonware_math::shards;
@@ -14,7 +14,7 @@ pub enum Status {
     Done = 0,
     /// Memory ran out.
     OutOfMemory = 1,
-    /// A word is P or more, or a byte that says whether a row is filled is neither 0 nor 1.
+    /// A word is no element, or a byte that says whether a row is filled is neither 0 nor 1.
     OutOfRange = 2,
     /// A number of words, rows or columns is none that the call takes, or there is no room for the
     /// answer.
@@ -26,7 +26,7 @@ pub enum Status {
     Mismatch = 5,
     /// An index is not below the total, or, for weights, not above the one before it.
     WrongIndex = 6,
-    /// Two shards have one index and unequal cells.
+    /// Two shards have one index, and differ.
     Conflict = 7,
     /// Nothing fits: no data have all of the shards, or no polynomial is near the values.
     Inconsistent = 8,
@@ -81,6 +81,22 @@ pub fn of_shards(error: &shards::Error) -> Status
         shards::Error::Index => Status::WrongIndex,
         shards::Error::Conflict => Status::Conflict,
         shards::Error::Inconsistent => Status::Inconsistent,
+    }
+}
+
+/// The status of rows of systematic shards that are refused.
+pub fn of_rows(error: &systematic_shards::Error) -> Status
+    ensures { code_of result ≡ status_of_rows error.now }
+{
+    match error {
+        systematic_shards::Error::Memory(_) => Status::OutOfMemory,
+        systematic_shards::Error::TooFew => Status::TooFew,
+        systematic_shards::Error::Mismatch => Status::Mismatch,
+        systematic_shards::Error::Sizes => Status::WrongSize,
+        systematic_shards::Error::Index => Status::WrongIndex,
+        systematic_shards::Error::Word => Status::OutOfRange,
+        systematic_shards::Error::Conflict => Status::Conflict,
+        systematic_shards::Error::Inconsistent => Status::Inconsistent,
     }
 }
 
