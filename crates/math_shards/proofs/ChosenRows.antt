@@ -10,7 +10,7 @@ use Rattle.std.proofs.lemmas.List.{flat_map_more, get_or-map, get_or-set_other, 
 use Rattle.std.proofs.lemmas.List.Concat.{get_or-flat_map}
 use Rattle.std.proofs.lemmas.List.Elements.{All-contains, All-head, All-map, All-push, All-tail, All-take, All-weaker, Contains-append_left, Contains-push}
 use Rattle.std.proofs.lemmas.List.Folds.{Any-from_list_any, list_any-append, list_any_at}
-use Rattle.std.proofs.lemmas.List.Sums.{sum_by-cons}
+use Rattle.std.proofs.lemmas.List.Sums.{sum_by-cons, sum_by-le-sum_by}
 use Rattle.math_base.specs.declared.fields.goldilocks.F.{F}
 use Rattle.math_restoring.specs.Restored.{AreDistinct}
 use Rattle.math_shards.specs.Fitting.{distinct_among}
@@ -148,9 +148,7 @@ module _ {R : Type 0} (index : R → ℕ) (cells : R → List F) (width : ℕ) w
 
 -- items that pass a test are no more than those that pass another, where each that passes the one passes the other
 pub count-kept : {X : Type 0} (p q : X → Bool) (xs : List X) → ((x : X) → p x ≡ true → q x ≡ true) → count_by p xs ≤ count_by q xs
-count-kept p q [] h = omega arith
-count-kept p q (x ∷ xs) h =
-    omega (arith, sum_by-cons (λ y. weight (p y)) x xs, sum_by-cons (λ y. weight (q y)) x xs, weight_kept (p x) (q x) (h x), count-kept p q xs h)
+count-kept p q xs h = sum_by-le-sum_by (λ x. weight (p x)) (λ x. weight (q x)) xs (λ x. weight_kept (p x) (q x) (h x))
 
 -- where all of some numbers are among others, no more of them are distinct
 pub distinct-kept : (n : ℕ) (numbers others : List ℕ) → All (Contains others) numbers → distinct_among n numbers ≤ distinct_among n others

@@ -1,20 +1,21 @@
 -- Rows that fit data, and the shards that they are.
-use Rattle.std.proofs.Common.{◌≡◌, ◌∙◌, ℕ, ◌*◌, ◌/◌, ◌<◌, ◌≤◌, ◌==◌, ◌||◌, List, [], ◌∷◌, Bool, cond, length, map, get_or, refl, sym, ap, ap₂, subst, arith}
-use Rattle.std.specs.List.{All, AllZip, count_by, filter, list_any, range_with_len}
+use Rattle.std.proofs.Common.{◌≡◌, ◌∙◌, ℕ, ◌*◌, ◌/◌, ◌<◌, ◌≤◌, ◌==◌, ◌||◌, List, [], ◌∷◌, Bool, length, map, get_or, refl, sym, ap, ap₂, subst, arith}
+use Rattle.std.specs.List.{All, AllZip, count_by, list_any, range_with_len}
 use Rattle.std.proofs.Math.ListN.{get_or-map}
 use Rattle.std.proofs.Math.Nat.{mul-div_cancel_left}
 use Rattle.std.proofs.lemmas.List.{get_or_default, length-map}
+use Rattle.std.proofs.lemmas.List.Elements.{filter_agree}
 use Rattle.std.proofs.lemmas.List.Sums.{length-filter}
 use Rattle.math_base.specs.declared.fields.goldilocks.F.{F}
 use Rattle.math_base.specs.Elements.{number, same}
 use Rattle.math_transforms.specs.DomainValues.{matrix_of}
-use Rattle.math_transforms.specs.Matrices.{IsOfSize, MatrixOf, column_of}
+use Rattle.math_transforms.specs.Matrices.{MatrixOf, column_of}
 use Rattle.math_shards.specs.declared.shards.Error.{Error}
 use Rattle.math_shards.specs.declared.shards.Error.TheVariants.{Memory, TooFew, Mismatch, Index, Conflict, Inconsistent}
 use Rattle.math_splitting.specs.declared.shards.Shard.{Shard}
 use Rattle.math_splitting.specs.declared.shards.layouts.Layout.{Layout}
 use Rattle.math_transforms.proofs.PresentIndices.{lg-only}
-use Rattle.math_shards.specs.Fitting.{AreDataOf, AreRowsOf, DoRowsFit, HasValuesOf, distinct_among}
+use Rattle.math_shards.specs.Fitting.{AreCoefficientsOf, AreDataOf, AreRowsOf, DoRowsFit, HasValuesOf, distinct_among}
 use Rattle.math_shards.specs.Joining.{HaveUnequalCells, IsDueOfRows, IsSound}
 use Rattle.math_splitting.specs.Shards.{IsShardOf, JoinTo, distinct_indices, has_index, rows_for, value_at_index, width_for}
 use Rattle.math_shards.proofs.ChosenRows.{distinct-most}
@@ -45,14 +46,9 @@ among_map : {X : Type 0} (f : X → ℕ) (xs : List X) (i : ℕ) → list_any (�
 among_map f [] i = refl
 among_map f (x ∷ xs) i = ap (λ b. (f x == i) || b) (among_map f xs i)
 
--- tests that agree pass the same items
-filter_alike : {X : Type 0} (p q : X → Bool) (xs : List X) → ((x : X) → p x ≡ q x) → filter p xs ≡ filter q xs
-filter_alike p q [] h = refl
-filter_alike p q (x ∷ xs) h = ap₂ (λ b ys. cond b (x ∷ ys) ys) (h x) (filter_alike p q xs h)
-
--- and count as many
+-- tests that agree count as many
 count_alike : {X : Type 0} (p q : X → Bool) (xs : List X) → ((x : X) → p x ≡ q x) → count_by p xs ≡ count_by q xs
-count_alike p q xs h = sym (length-filter p xs) ∙ ap length (filter_alike p q xs h) ∙ length-filter q xs
+count_alike p q xs h = sym (length-filter p xs) ∙ ap length (filter_agree p q h xs) ∙ length-filter q xs
 
 -- the distinct indices of shards
 pub distinct_of_shards : (n : ℕ) (shards : List Shard) → distinct_among n (map (λ (s : Shard). s.index) shards) ≡ distinct_indices n shards
@@ -195,9 +191,8 @@ fit_of_join words first shards sound there j =
     }
 
 -- The elements of data that rows fit.
-module _ {R : Type 0} (index : R → ℕ) (cells : R → List F) (words : List ℕ) (layout : Layout) (elements : List F) (rows : List R) (size : length elements ≡ layout.min * layout.width)
-    (held : AreRowsOf index cells layout rows) (fit : DoRowsFit index cells words layout.min layout.total rows)
-    (only : (m : MatrixOf F) → IsOfSize m layout.min layout.width → All (λ row. HasValuesOf layout.lg m (index row) (cells row)) rows → elements ≡ m.cells) where
+module _ {R : Type 0} (index : R → ℕ) (cells : R → List F) (words : List ℕ) (layout : Layout) (elements : List F) (rows : List R)
+    (of : AreCoefficientsOf index cells layout rows elements) (held : AreRowsOf index cells layout rows) (fit : DoRowsFit index cells words layout.min layout.total rows) where
   -- the rows are as wide as those that the data fill
   width_of_fit : layout.width ≡ width_for layout.min words
   width_of_fit = go rows refl
@@ -211,29 +206,29 @@ module _ {R : Type 0} (index : R → ℕ) (cells : R → List F) (words : List �
   data_of_fit = record {
     each_word = fit.each_word;
     few = fit.few;
-    packed = only (rows_for layout.min words) (refl, sym width_of_fit, rows_are_whole layout.min words layout.some ∙ ap (λ w. layout.min * w) (sym width_of_fit)) (fit.values layout.lg (next_of layout));
+    packed = of.only (rows_for layout.min words) (refl, sym width_of_fit, rows_are_whole layout.min words layout.some ∙ ap (λ w. layout.min * w) (sym width_of_fit)) (fit.values layout.lg (next_of layout));
   }
 
   -- and the rows have the values of their columns
   pub values_of_fit : All (λ row. HasValuesOf layout.lg (matrix_of layout.min layout.width elements) (index row) (cells row)) rows
   values_of_fit =
-      subst (λ (m : MatrixOf F). All (λ (row : R). HasValuesOf layout.lg m (index row) (cells row)) rows) (sym (rows_of_data words layout.min layout.width elements layout.some size data_of_fit))
+      subst (λ (m : MatrixOf F). All (λ (row : R). HasValuesOf layout.lg m (index row) (cells row)) rows) (sym (rows_of_data words layout.min layout.width elements layout.some of.size data_of_fit))
       (fit.values layout.lg (next_of layout))
 
 -- rows that have the values of the columns of the elements of data fit the data
 pub rows_fit : {R : Type 0} (index : R → ℕ) (cells : R → List F) (words : List ℕ) (layout : Layout) (elements : List F) (rows : List R) → AreRowsOf index cells layout rows
-    → length elements ≡ layout.min * layout.width → AreDataOf words layout.min elements → layout.min ≤ distinct_among layout.total (map index rows)
+    → AreCoefficientsOf index cells layout rows elements → AreDataOf words layout.min elements
     → All (λ row. HasValuesOf layout.lg (matrix_of layout.min layout.width elements) (index row) (cells row)) rows → DoRowsFit index cells words layout.min layout.total rows
-rows_fit {R} index cells words layout elements rows held size h enough values = record {
+rows_fit {R} index cells words layout elements rows held of h values = record {
   some = layout.some;
   within = layout.within;
   short = layout.short;
   each_word = h.each_word;
   few = h.few;
-  enough = enough;
+  enough = of.enough;
   below = held.below;
-  count = λ i r l. held.count i r l ∙ width_of_data words layout.min layout.width elements layout.some size h;
+  count = λ i r l. held.count i r l ∙ width_of_data words layout.min layout.width elements layout.some of.size h;
   values = λ lg next.
       subst (λ n. All (λ (row : R). HasValuesOf n (rows_for layout.min words) (index row) (cells row)) rows) (lg-only layout.total layout.lg lg (omega (arith, layout.some, layout.within)) (next_of layout) next)
-      (values_of_data index cells words layout.min layout.width layout.lg elements rows layout.some size h values);
+      (values_of_data index cells words layout.min layout.width layout.lg elements rows layout.some of.size h values);
 }

@@ -28,21 +28,17 @@ module _ {X : Type 0} (p : X → Bool) (xs : List X) where
   kept-passes n x l is t =
       let front = filter p (take n xs) in
       let back = filter p (drop (n + 1) xs) in
-      let here : p (get_or xs n x) ≡ true = ap p (sym is) ∙ t in
-      let more : filter p (take (n + 1) xs) ≡ front ++ get_or xs n x ∷ [] = filter_more p xs n x l ∙ ap (λ b. front ++ cond b (get_or xs n x ∷ []) []) here in
-      let count : kept_of (n + 1) ≡ kept_of n + 1 = ap length more ∙ length-append front (get_or xs n x ∷ []) in
-      let whole : filter p xs ≡ front ++ get_or xs n x ∷ back =
-      ap (filter p) (sym (take-append-drop (n + 1) xs)) ∙ filter-append p (take (n + 1) xs) (drop (n + 1) xs) ∙ ap (λ ys. ys ++ back) more ∙ append_assoc front (get_or xs n x ∷ []) back in (
-        count,
-        omega (arith, ap length whole, length-append front (get_or xs n x ∷ back)),
-        is ∙ sym (ap (λ ys. get_or ys (kept_of n) x) whole ∙ get_or-append_seam front (get_or xs n x) back x),
+      let more : filter p (take (n + 1) xs) ≡ front ++ x ∷ [] = filter-passes n x l is t in
+      let whole : filter p xs ≡ front ++ x ∷ back =
+      ap (filter p) (sym (take-append-drop (n + 1) xs)) ∙ filter-append p (take (n + 1) xs) (drop (n + 1) xs) ∙ ap (λ ys. ys ++ back) more ∙ append_assoc front (x ∷ []) back in (
+        ap length more ∙ length-append front (x ∷ []),
+        omega (arith, ap length whole, length-append front (x ∷ back)),
+        sym (ap (λ ys. get_or ys (kept_of n) x) whole ∙ get_or-append_seam front x back x),
       )
 
   -- where it does not, no more are kept
   pub kept-fails : (n : ℕ) (x : X) → n < length xs → x ≡ get_or xs n x → p x ≡ false → kept_of (n + 1) ≡ kept_of n
-  kept-fails n x l is f =
-      let here : p (get_or xs n x) ≡ false = ap p (sym is) ∙ f in
-      ap length (filter_more p xs n x l ∙ ap (λ b. filter p (take n xs) ++ cond b (get_or xs n x ∷ []) []) here ∙ append-nil (filter p (take n xs)))
+  kept-fails n x l is f = ap length (filter-fails n x l is f)
 
   pub kept-all : (n : ℕ) → length xs ≤ n → kept_of n ≡ length (filter p xs)
   kept-all n l = ap (λ ys. length (filter p ys)) (take_all n xs l)

@@ -10,7 +10,7 @@ use Rattle.math_ntt.proofs.MatrixPlaces.{cells_are_written_alone, columns_are_fu
 use Rattle.math_transforms.specs.DomainValues.{matrix_of}
 use Rattle.math_transforms.specs.Matrices.{column_of, row_of}
 use Rattle.math_transforms.proofs.MatrixRows.{cell-of_column}
-use Rattle.math_shards.specs.Weights.{coefficient_of}
+use Rattle.math_shards.specs.Weights.{IsColumnPut, coefficient_of, weighed_at}
 use Rattle.math_splitting.proofs.SameCells.{nought}
 
 -- the column of these cells
@@ -20,11 +20,6 @@ column_in count width cells k = column_of nought (matrix_of count width cells) k
 -- it has an item for each row
 column-count : (count width k : ℕ) (cells room : List F) → room ≡ column_in count width cells k → length room ≡ count
 column-count count width k cells room is = ap length is ∙ columns_are_full (matrix_of count width cells) k nought
-
--- the first r cells of a column have these values, and the cells of the other columns are as they were
-pub record IsColumnPut (rows width column : ℕ) (value : ℕ → F) (start : List F) (r : ℕ) (cells : List F) : Type 0 where
-  pub done : (i : ℕ) → i < r → get_or cells (i * width + column) nought ≡ value i
-  pub others : (i k : ℕ) → i < rows → k < width → ¬ (k ≡ column) → get_or cells (i * width + k) nought ≡ get_or start (i * width + k) nought
 
 -- one cell more of the column
 pub column-more : (rows width column r : ℕ) (value : ℕ → F) (start cells : List F) (v : F) → length cells ≡ rows * width → r < rows → column < width → v ≡ value r
@@ -66,25 +61,24 @@ column-kept weights count width column start cells size other l h =
 -- one column more
 pub columns-more : (weights : List F) (count width column : ℕ) (start old new room : List F) → length start ≡ count * width → length old ≡ count * width
     → room ≡ column_in count width old column → column < width
-    → ((r : ℕ) → r < length room → get_or new (r * width + column) nought ≡ weighted_sum nought sum product room (row_of (matrix_of (length room) (length room) weights) r))
-    → ((r k : ℕ) → r < length room → k < width → ¬ (k ≡ column) → get_or new (r * width + k) nought ≡ get_or old (r * width + k) nought)
-    → ArePutBefore weights count width start column old → ArePutBefore weights count width start (column + 1) new
-columns-more weights count width column start old new room size other is l put kept h =
+    → IsColumnPut (length room) width column (weighed_at weights room) old (length room) new → ArePutBefore weights count width start column old
+    → ArePutBefore weights count width start (column + 1) new
+columns-more weights count width column start old new room size other is l put h =
     let long : length room ≡ count = column-count count width column old room is in
     let from_start : room ≡ column_in count width start column = is ∙ column-kept weights count width column start old size other l h in
     record {
       done = λ r k a b.
           let inside : r < length room = omega (arith, a, long) in
           elim (cases_lt k column) as (λ _. get_or new (r * width + k) nought ≡ coefficient_of weights (matrix_of count width start) r k) [
-            | inl before ↦ kept r k inside (omega (arith, before, l)) (λ same. omega (arith, same, before)) ∙ h.done r k a before
+            | inl before ↦ put.others r k inside (omega (arith, before, l)) (λ same. omega (arith, same, before)) ∙ h.done r k a before
             | inr after ↦
                 let same : k ≡ column = omega (arith, after, b) in
-                ap (λ j. get_or new (r * width + j) nought) same ∙ put r inside ∙ ap (λ n. weighted_sum nought sum product room (row_of (matrix_of n n weights) r)) long
+                ap (λ j. get_or new (r * width + j) nought) same ∙ put.done r inside ∙ ap (λ n. weighted_sum nought sum product room (row_of (matrix_of n n weights) r)) long
                 ∙ ap (λ xs. weighted_sum nought sum product xs (row_of (matrix_of count count weights) r)) from_start
                 ∙ ap (λ j. coefficient_of weights (matrix_of count width start) r j) (sym same)
           ];
       others = λ r k a b m.
-          kept r k (omega (arith, a, long)) m (λ same. omega (arith, same, b)) ∙ h.others r k a (omega (arith, b)) m;
+          put.others r k (omega (arith, a, long)) m (λ same. omega (arith, same, b)) ∙ h.others r k a (omega (arith, b)) m;
     }
 
 -- where as many cells are written over others, no other is left

@@ -6,7 +6,7 @@ use Rattle.std.specs.Int.{div_ceil}
 use Rattle.std.specs.List.{All}
 use Rattle.std.proofs.Math.Nat.{pow-le-pow_right}
 use Rattle.std.proofs.lemmas.Bool.{cases_lt}
-use Rattle.std.proofs.lemmas.List.{drop-take, get_or-take, length-drop, length-map, length-take, length-take-le, take_all}
+use Rattle.std.proofs.lemmas.List.{drop-take, get_or-take, length-drop, length-map, length-take, length-take-le, take-take, take_all}
 use Rattle.std.proofs.lemmas.List.Elements.{All-drop, All-take}
 use Rattle.math_numbers.specs.Goldilocks.{P}
 use Rattle.math_numbers.specs.Bits.{IsBit, bits, joined, number, piece_count, pieces, pieces-suc, pieces-zero}
@@ -33,16 +33,6 @@ joined_pieces_first k (suc m) bs h l =
     ∙ ap₂ (λ s t. s ++ t) first (joined_pieces_first k m (drop k bs) (All-drop IsBit k bs h) (omega (arith, l, e, length-drop k bs)))
     ∙ sym (take-add k (k * m) bs) ∙ ap (λ n. take n bs) e
 
--- the first j of the first r items
-take_of_more : (j r : ℕ) (xs : List ℕ) → j ≤ r → take j (take r xs) ≡ take j xs
-take_of_more zero r xs l = refl
-take_of_more (suc j) zero xs l = absurd (omega arith)
-take_of_more (suc j) (suc r) [] l = refl
-take_of_more (suc j) (suc r) (x ∷ xs) l = ap (λ t. x ∷ t) (take_of_more j r xs (omega arith))
-
-take_of_fewer : (j r : ℕ) (xs : List ℕ) → r ≤ j → take j (take r xs) ≡ take r xs
-take_of_fewer j r xs l = take_all j (take r xs) (omega (arith, l, length-take r xs))
-
 -- element p, where m bits are left in all: the number of its bits among these is its own, where it is below 2^63 and has no more bits than are left
 element_within : (ns : List ℕ) (m p : ℕ) → 63 * p < m → get_or ns p 0 < 2 ^ 63 → (m < 63 * p + 63 → get_or ns p 0 < 2 ^ (m - 63 * p))
     → number (take 63 (drop (63 * p) (take m (joined 63 ns)))) ≡ get_or ns p 0
@@ -55,10 +45,10 @@ element_within ns m p some below last =
     ap (λ l. number (take 63 l)) left
     ∙ elim (cases_lt r 63) [
       | inl few ↦
-          ap number (take_of_fewer 63 r (drop (63 * p) bs) (omega (arith, few))) ∙ from_word 63 r p ns (omega (arith, few)) ∙ number-take-bits r 63 n below
+          ap number (take_all 63 (take r (drop (63 * p) bs)) (omega (arith, few, length-take r (drop (63 * p) bs)))) ∙ from_word 63 r p ns (omega (arith, few)) ∙ number-take-bits r 63 n below
           ∙ mod-eq_of_lt (last (omega (arith, few, e)))
       | inr full ↦
-          ap number (take_of_more 63 r (drop (63 * p) bs) (omega (arith, full))) ∙ from_word 63 63 p ns (omega arith) ∙ number-take-bits 63 63 n below ∙ mod-eq_of_lt below
+          ap number (take-take 63 r (drop (63 * p) bs) (omega (arith, full))) ∙ from_word 63 63 p ns (omega arith) ∙ number-take-bits 63 63 n below ∙ mod-eq_of_lt below
     ]
 
 -- the first of some pieces are as many pieces

@@ -139,18 +139,17 @@ filled_within n min width size some wide e =
     omega (arith, enough, all, e)
 
 -- where the first word says how many words follow, the first elements are what it and these pack to, and the others are zero, the elements are those of data
-pub data_of_repacked : (elements : List F) (n min width : ℕ) → 1 ≤ min → length elements ≡ min * width → n < 2 ^ 64 → n ≡ get_or (words_of elements) 0 0
-    → div_ceil (n + 1 + div_ceil (n + 1) 63) min ≡ width → AreRepacked elements n (n + 1 + div_ceil (n + 1) 63)
-    → All (λ x. same x nought) (drop (n + 1 + div_ceil (n + 1) 63) elements) → (words : List ℕ) × (length words ≡ n) × AreDataOf words min elements
-data_of_repacked elements n min width some size few first wide equal zeros =
-    let filled : ℕ = n + 1 + div_ceil (n + 1) 63 in
+pub data_of_repacked : (elements : List F) (n filled min width : ℕ) → 1 ≤ min → length elements ≡ min * width → n < 2 ^ 64 → n ≡ get_or (words_of elements) 0 0
+    → filled ≡ n + 1 + div_ceil (n + 1) 63 → div_ceil filled min ≡ width → AreRepacked elements n filled → All (λ x. same x nought) (drop filled elements)
+    → (words : List ℕ) × (length words ≡ n) × AreDataOf words min elements
+data_of_repacked elements n filled min width some size few first full wide equal zeros =
     let within : filled ≤ length elements = filled_within filled min width (length elements) some wide size in
-    let enough : n + 1 ≤ length (words_of elements) = enough_words elements n within in
+    let enough : n + 1 ≤ length (words_of elements) = enough_words elements n (omega (arith, within, full)) in
     let words : List ℕ = take n (drop 1 (words_of elements)) in
     let long : length words ≡ n = length-take-le n (drop 1 (words_of elements)) (omega (arith, enough, length-drop 1 (words_of elements))) in
     let packed : elements_for words ≡ elements_of (first_words n elements) = ap elements_of (counted_front (words_of elements) n first enough) in
-    let count : length (elements_of (first_words n elements)) ≡ filled = sym (ap length packed) ∙ count_elements words ∙ ap (λ m. m + 1 + div_ceil (m + 1) 63) long in
-    let due : width ≡ width_for min words = sym wide ∙ ap (λ m. div_ceil (m + 1 + div_ceil (m + 1) 63) min) (sym long) ∙ width_of_words min words some in (
+    let count : length (elements_of (first_words n elements)) ≡ filled = sym (ap length packed) ∙ count_elements words ∙ ap (λ m. m + 1 + div_ceil (m + 1) 63) long ∙ sym full in
+    let due : width ≡ width_for min words = sym wide ∙ ap (λ m. div_ceil m min) full ∙ ap (λ m. div_ceil (m + 1 + div_ceil (m + 1) 63) min) (sym long) ∙ width_of_words min words some in (
       words,
       long,
       record {
@@ -179,30 +178,29 @@ below_of_repacked elements n filled count within again =
       omega (arith, again (filled - 1) (omega (arith, count)), packed_below ws (filled - 1) (n % 63 + 1) few left),
     )
 
--- elements of data say in the first word how many words follow; the first elements are what it and these pack to, and the others are zero
-pub record AreMarked (elements : List F) (words : List ℕ) (min width : ℕ) : Type 0 where
-  pub first : get_or (words_of elements) 0 0 ≡ length words
-  pub room : length words < length elements
-  pub wide : div_ceil (length words + 1 + div_ceil (length words + 1) 63) min ≡ width
-  pub again : AreRepacked elements (length words) (length words + 1 + div_ceil (length words + 1) 63)
-  pub zeros : All (λ x. same x nought) (drop (length words + 1 + div_ceil (length words + 1) 63) elements)
+-- the first word of the elements of data says how many words follow; the first elements are what it and these pack to, and the others are zero
+pub record AreMarked (elements : List F) (n filled min width : ℕ) : Type 0 where
+  pub room : n < length elements
+  pub wide : div_ceil filled min ≡ width
+  pub again : AreRepacked elements n filled
+  pub zeros : All (λ x. same x nought) (drop filled elements)
 
-pub marked_of_data : (elements : List F) (words : List ℕ) (min width : ℕ) → 1 ≤ min → length elements ≡ min * width → AreDataOf words min elements → AreMarked elements words min width
-marked_of_data elements words min width some size h =
-    let n : ℕ = length words in
-    let filled : ℕ = n + 1 + div_ceil (n + 1) 63 in
+pub marked_of_data : (elements : List F) (words : List ℕ) (n filled min width : ℕ) → 1 ≤ min → length elements ≡ min * width → n ≡ get_or (words_of elements) 0 0
+    → filled ≡ n + 1 + div_ceil (n + 1) 63 → AreDataOf words min elements → AreMarked elements n filled min width
+marked_of_data elements words n filled min width some size first full h =
     let packed : List F = elements_for words in
-    let count : length packed ≡ filled = count_elements words in
     let stand = data_stand (min * width_for min words) words h.each_word h.few in
     let split : words_of elements ≡ counted words ++ stand.0 = ap words_of h.packed ∙ stand.1 in
+    let is : n ≡ length words = first ∙ ap (λ (ws : List ℕ). get_or ws 0 0) split in
+    let all : filled ≡ length words + 1 + div_ceil (length words + 1) 63 = full ∙ ap (λ m. m + 1 + div_ceil (m + 1) 63) is in
+    let count : length packed ≡ filled = count_elements words ∙ sym all in
     let zeros : List F = replicate (min * width_for min words - length packed) nought in
     let enough : filled ≤ length elements = omega (arith, count, ap length h.packed, length-append packed zeros) in
     let firsts : first_words n elements ≡ counted words =
-    ap (take (n + 1)) split ∙ ap (λ m. take m (counted words ++ stand.0)) (let e : n + 1 ≡ length (counted words) = omega arith in e) ∙ take-append_seam (counted words) stand.0 in
+    ap (take (n + 1)) split ∙ ap (λ m. take m (counted words ++ stand.0)) (let e : n + 1 ≡ length (counted words) = omega (arith, is) in e) ∙ take-append_seam (counted words) stand.0 in
     record {
-      first = ap (λ (ws : List ℕ). get_or ws 0 0) split;
-      room = omega (arith, enough);
-      wide = width_of_words min words some ∙ sym (width_of_data words min width elements some size h);
+      room = omega (arith, enough, full);
+      wide = ap (λ m. div_ceil m min) all ∙ width_of_words min words some ∙ sym (width_of_data words min width elements some size h);
       again = λ k l.
           ap (λ (xs : List F). number (get_or xs k nought)) h.packed ∙ ap number (get_or_append_left packed zeros nought k (omega (arith, l, count)))
           ∙ sym (ap (λ (ws : List ℕ). number (get_or (elements_of ws) k nought)) firsts);

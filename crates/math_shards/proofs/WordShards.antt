@@ -92,35 +92,33 @@ module _ {R : Type 0} (some : Vec R) (min total cols : ℕ) (small : cols < 2 ^ 
     small = omega (arith, length-map (take cols row) residue, length-take cols row, small);
   }
 
+  abbrev pub shard_of : ℕ → List ℕ → Shard
+  shard_of i cells = record { index = i; min = min; total = total; cells = vec_of cells }
+
   -- the shards of rows of words, one for each index
   abbrev pub word_shards : List ℕ → List ℕ → List Shard
   word_shards [] cells = []
-  word_shards (i ∷ indices) cells = record { index = i; min = min; total = total; cells = vec_of cells } ∷ word_shards indices (drop cols cells)
+  word_shards (i ∷ indices) cells = shard_of i cells ∷ word_shards indices (drop cols cells)
 
   keys_of : (indices cells : List ℕ) → map (λ (s : Shard). s.index) (word_shards indices cells) ≡ indices
   keys_of [] cells = refl
   keys_of (i ∷ indices) cells = ap (λ xs. i ∷ xs) (keys_of indices (drop cols cells))
-
-  pub least_of : (indices cells : List ℕ) → All (λ (s : Shard). s.min ≡ min) (word_shards indices cells)
-  least_of [] cells = λ i d l. absurd (omega (arith, l))
-  least_of (i ∷ indices) cells = All-cons (λ (s : Shard). s.min ≡ min) _ (word_shards indices (drop cols cells)) refl (least_of indices (drop cols cells))
-
-  pub most_of : (indices cells : List ℕ) → All (λ (s : Shard). s.total ≡ total) (word_shards indices cells)
-  most_of [] cells = λ i d l. absurd (omega (arith, l))
-  most_of (i ∷ indices) cells = All-cons (λ (s : Shard). s.total ≡ total) _ (word_shards indices (drop cols cells)) refl (most_of indices (drop cols cells))
 
   -- the cells of each are the elements of its row
   pub items_of : (indices cells : List ℕ) → map (λ (s : Shard). s.cells.items) (word_shards indices cells) ≡ map elements (pieces (length indices) cols cells)
   items_of [] cells = refl
   items_of (i ∷ indices) cells = ap (λ xs. elements (take cols cells) ∷ xs) (items_of indices (drop cols cells))
 
-  count_of : (indices cells : List ℕ) → length cells ≡ length indices * cols → All (λ (s : Shard). length s.cells.items ≡ cols) (word_shards indices cells)
-  count_of [] cells e = λ i d l. absurd (omega (arith, l))
-  count_of (i ∷ indices) cells e =
+  -- each has these numbers, and as many cells as a row has words
+  abbrev IsOfRow : Shard → Type 0
+  IsOfRow s = (s.min ≡ min) × (s.total ≡ total) × (length s.cells.items ≡ cols)
+
+  pub each_of : (indices cells : List ℕ) → length cells ≡ length indices * cols → All IsOfRow (word_shards indices cells)
+  each_of [] cells e = λ i d l. absurd (omega (arith, l))
+  each_of (i ∷ indices) cells e =
       let more : suc (length indices) * cols ≡ cols + length indices * cols = omega arith in
       let long : length (elements (take cols cells)) ≡ cols = length-map (take cols cells) residue ∙ length-take-le cols cells (omega (arith, e, more)) in
-      All-cons (λ (s : Shard). length s.cells.items ≡ cols) _ (word_shards indices (drop cols cells)) long
-      (count_of indices (drop cols cells) (omega (arith, e, more, length-drop cols cells)))
+      All-cons IsOfRow _ (word_shards indices (drop cols cells)) (refl, refl, long) (each_of indices (drop cols cells) (omega (arith, e, more, length-drop cols cells)))
 
   rows_of : (indices cells : List ℕ) → length cells ≡ length indices * cols → AreElements cells → flat_map word_row (word_shards indices cells) ≡ cells
   rows_of [] [] e below = refl
@@ -138,9 +136,9 @@ module _ {R : Type 0} (some : Vec R) (min total cols : ℕ) (small : cols < 2 ^ 
       let many : length shards ≡ length indices = sym (length-map shards (λ (s : Shard). s.index)) ∙ ap length (keys_of indices cells) in
       record {
         keys = keys_of indices cells;
-        least = least_of indices cells;
-        most = most_of indices cells;
-        count = λ k d l. e ∙ ap (λ n. n * cols) (sym many) ∙ ap (λ w. length shards * w) (sym (count_of indices cells e k d l));
+        least = λ k d l. (each_of indices cells e k d l).0;
+        most = λ k d l. (each_of indices cells e k d l).1;
+        count = λ k d l. e ∙ ap (λ n. n * cols) (sym many) ∙ ap (λ w. length shards * w) (sym (each_of indices cells e k d l).2);
         rows = rows_of indices cells e below;
       }
 
@@ -186,15 +184,8 @@ module _ {R : Type 0} (some : Vec R) (min total cols : ℕ) (small : cols < 2 ^ 
   module _ (first : Shard) (least : first.min ≡ min) (most : first.total ≡ total) (wide : length first.cells.items ≡ cols) (some_min : 1 ≤ min) (within : min ≤ total) where
     matches_of : (indices cells : List ℕ) → length cells ≡ length indices * cols → All (Matches first) (word_shards some min total cols small indices cells)
     matches_of indices cells e k d l =
-        let shards : List Shard = word_shards some min total cols small indices cells in
-        let has_min : (get_or shards k d).min ≡ min = least_of some min total cols small indices cells k d l in
-        let has_total : (get_or shards k d).total ≡ total = most_of some min total cols small indices cells k d l in record {
-          least = has_min ∙ sym least;
-          most = has_total ∙ sym most;
-          count = count_of some min total cols small indices cells e k d l ∙ sym wide;
-          some = omega (arith, has_min, some_min);
-          within = omega (arith, has_min, has_total, within);
-        }
+        let of = each_of some min total cols small indices cells e k d l in
+        record { least = of.0 ∙ sym least; most = of.1 ∙ sym most; count = of.2 ∙ sym wide; some = omega (arith, of.0, some_min); within = omega (arith, of.0, of.1, within) }
 
     -- the first index that is out of range
     first_past : (indices cells : List ℕ) → length cells ≡ length indices * cols → ¬ (All (λ n. n < total) indices)
@@ -202,7 +193,7 @@ module _ {R : Type 0} (some : Vec R) (min total cols : ℕ) (small : cols < 2 ^ 
     first_past [] cells e none = absurd (none (λ k d l. absurd (omega (arith, l))))
     first_past (i ∷ indices) cells e none =
         let rest : List Shard = word_shards some min total cols small indices (drop cols cells) in
-        let head : Shard = record { index = i; min = min; total = total; cells = vec_of some min total cols small cells } in
+        let head : Shard = shard_of some min total cols small i cells in
         let fits : Matches first head = record { least = sym least; most = sym most; count = wide_first (length indices) cells e ∙ sym wide; some = some_min; within = within } in
         let more : suc (length indices) * cols ≡ cols + length indices * cols = omega arith in
         elim (cases_lt i total) as (λ _. HasUnsound first (λ s. Matches first s × (s.total ≤ s.index)) (head ∷ rest)) [
@@ -225,7 +216,7 @@ module _ {R : Type 0} (some : Vec R) (min total cols : ℕ) (small : cols < 2 ^ 
         let many : length shards ≡ length indices = sym (length-map shards key_of) ∙ ap length (keys_of some min total cols small indices cells) in
         let index : (get_or shards k d).index ≡ get_or indices k d.index = sym (get_or-map key_of shards k d) ∙ ap (λ xs. get_or xs k d.index) (keys_of some min total cols small indices cells) in (
           matches_of indices cells e k d l,
-          omega (arith, index, below k d.index (omega (arith, l, many)), most_of some min total cols small indices cells k d l),
+          omega (arith, index, below k d.index (omega (arith, l, many)), (each_of some min total cols small indices cells e k d l).1),
         )
 
   -- numbers that no shards have
@@ -237,7 +228,7 @@ module _ {R : Type 0} (some : Vec R) (min total cols : ℕ) (small : cols < 2 ^ 
     are_word_shards some min total cols small (i ∷ indices) cells e below,
     record {
       before = [];
-      found = record { index = i; min = min; total = total; cells = vec_of some min total cols small cells };
+      found = shard_of some min total cols small i cells;
       after = word_shards some min total cols small indices (drop cols cells);
       parts = refl;
       sound = λ k d l. absurd (omega (arith, l));
@@ -252,8 +243,7 @@ module _ {R : Type 0} (some : Vec R) (min total cols : ℕ) (small : cols < 2 ^ 
   refused_index (i ∷ indices) cells e below some_min within none = (
     word_shards some min total cols small (i ∷ indices) cells,
     are_word_shards some min total cols small (i ∷ indices) cells e below,
-    first_past (record { index = i; min = min; total = total; cells = vec_of some min total cols small cells }) refl refl (wide_first (length indices) cells e) some_min within (i ∷ indices)
-        cells e none,
+    first_past (shard_of some min total cols small i cells) refl refl (wide_first (length indices) cells e) some_min within (i ∷ indices) cells e none,
   )
 
   module _ (row_index : R → ℕ) (row_words : R → List ℕ) (indices cells : List ℕ) (rows : List R) (count : length cells ≡ length indices * cols) (below : AreElements cells) (there : 0 < length indices)
@@ -272,7 +262,7 @@ module _ {R : Type 0} (some : Vec R) (min total cols : ℕ) (small : cols < 2 ^ 
     join_of_words data_words fit = (
       shards_of,
       are_word_shards some min total cols small indices cells count below,
-      join_of_fit data_words min total shards_of (least_of some min total cols small indices cells) (most_of some min total cols small indices cells)
+      join_of_fit data_words min total shards_of (λ k d l. (each_of some min total cols small indices cells count k d l).0) (λ k d l. (each_of some min total cols small indices cells count k d l).1)
           (fit_alike row_index (λ row. elements (row_words row)) rows key_of items_in shards_of same_keys same_items data_words min total fit),
     )
 
@@ -283,7 +273,7 @@ module _ {R : Type 0} (some : Vec R) (min total cols : ℕ) (small : cols < 2 ^ 
   refused_rows row_index row_words [] cells rows count below there keys words some_min within inside e due = absurd (omega (arith, there))
   refused_rows row_index row_words (i ∷ indices) cells rows count below there keys words some_min within inside e (inl memory) = inl memory
   refused_rows row_index row_words (i ∷ indices) cells rows count below there keys words some_min within inside e (inr due) =
-      let head : Shard = record { index = i; min = min; total = total; cells = vec_of some min total cols small cells } in
+      let head : Shard = shard_of some min total cols small i cells in
       let shards : List Shard = word_shards some min total cols small (i ∷ indices) cells in
       inr (
         shards,

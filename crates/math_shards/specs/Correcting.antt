@@ -3,11 +3,12 @@ use Rattle.std.specs.Prelude.{◌≡◌, ℕ, ◌+◌, ◌<◌, ◌≤◌, ◌^�
 use Rattle.std.specs.Int.{IsNextPowerOfTwo}
 use Rattle.std.specs.List.{All, AllZip, Contains, filter, list_all}
 use Rattle.std.specs.List.Sorted.{IsStrictlyIncreasing}
+use Rattle.math_theory.specs.Coefficients.{coefficient}
 use Rattle.math_base.specs.declared.fields.goldilocks.F.{F}
-use Rattle.math_base.specs.Elements.{number, root_of, same, goldilocks}
+use Rattle.math_base.specs.Elements.{number, residue, root_of, same, goldilocks}
 use Rattle.math_ntt.specs.CorrectedRows.{IsCorrected}
 use Rattle.math_ntt.specs.Evaluations.{EvaluationsOf}
-use Rattle.math_transforms.specs.Matrices.{MatrixOf, row_of}
+use Rattle.math_transforms.specs.Matrices.{IsOfSize, MatrixOf, column_of, row_of}
 use Rattle.math_splitting.specs.declared.shards.Shard.{Shard}
 use Rattle.math_shards.specs.declared.shards.Error.{Error}
 use Rattle.math_shards.specs.Joining.{HoldsShards, IsDueFor, IsSound, RefusesWhereDue}
@@ -53,6 +54,11 @@ pub record CorrectTo (words : List ℕ) (shards : List Shard) : Type 0 where
   pub enough : length wrong + length wrong + min ≤ settled_indices total shards
   pub right : All (λ s. ¬ (Contains wrong s.index) → IsShardOf words min total s) (settled shards)
 
+-- there are shards, and all are sound beside the first one
+pub record AreSound (first : Shard) (shards : List Shard) : Type 0 where
+  pub some : 0 < length shards
+  pub sound : All (IsSound first) shards
+
 -- the shards are the first one and others, all sound, and the rows of e are filled with those of settled indices
 pub record AreSettledRows (lg : ℕ) (first : Shard) (shards : List Shard) (e : EvaluationsOf F) : Type 0 where
   pub short : first.total < 2 ^ 32
@@ -68,6 +74,13 @@ pub record AreCorrectedRows (first : Shard) (shards : List Shard) (q : MatrixOf 
   pub filled : AreSettledRows lg first shards rows
   pub wrong : List ℕ
   pub corrected : IsCorrected goldilocks (root_of lg) rows first.min q wrong
+
+-- the columns of the matrix, so many, are polynomials of at most `min` coefficients, of which none is left out
+pub record HaveFewCoefficients (min width : ℕ) (m : MatrixOf F) : Type 0 where
+  pub some : 1 ≤ min
+  pub rows : min ≤ m.rows
+  pub size : IsOfSize m m.rows width
+  pub short : (k i : ℕ) → k < m.cols → min ≤ i → same (coefficient (residue 0) (column_of (residue 0) m k) i) (residue 0)
 
 -- by rising number, the positions of the shards of which P does not hold
 pub record ArePositionsWithout (P : Shard → Type 0) (shards : List Shard) (positions : List ℕ) : Type 0 where

@@ -4,7 +4,8 @@ use Rattle.std.specs.Int.{IsNextPowerOfTwo}
 use Rattle.std.specs.List.{list_any, range_with_len}
 use Rattle.math_base.specs.declared.fields.goldilocks.F.{F}
 use Rattle.math_base.specs.Elements.{residue, same}
-use Rattle.math_transforms.specs.Matrices.{MatrixOf, column_of}
+use Rattle.math_transforms.specs.DomainValues.{matrix_of}
+use Rattle.math_transforms.specs.Matrices.{IsOfSize, MatrixOf, column_of}
 use Rattle.math_splitting.specs.declared.shards.layouts.Layout.{Layout}
 use Rattle.math_splitting.specs.Shards.{elements_for, rows_for, value_at_index, width_for, with_zeros}
 
@@ -38,3 +39,11 @@ pub record DoRowsFit {R : Type 0} (index : R → ℕ) (cells : R → List F) (wo
 pub record AreRowsOf {R : Type 0} (index : R → ℕ) (cells : R → List F) (layout : Layout) (rows : List R) : Type 0 where
   pub below : All (λ row. index row < layout.total) rows
   pub count : All (λ row. length (cells row) ≡ layout.width) rows
+
+-- rows of the layout, of which `min` have distinct indices, give these coefficients, `min` for each column: where there are no further rows, the cells of each are
+-- their values; and where the cells of all rows are the values of polynomials of no more coefficients, they are those of these polynomials
+pub record AreCoefficientsOf {R : Type 0} (index : R → ℕ) (cells : R → List F) (layout : Layout) (rows : List R) (elements : List F) : Type 0 where
+  pub size : length elements ≡ layout.min * layout.width
+  pub enough : layout.min ≤ distinct_among layout.total (map index rows)
+  pub values : length rows ≡ layout.min → All (λ row. HasValuesOf layout.lg (matrix_of layout.min layout.width elements) (index row) (cells row)) rows
+  pub only : (m : MatrixOf F) → IsOfSize m layout.min layout.width → All (λ row. HasValuesOf layout.lg m (index row) (cells row)) rows → elements ≡ m.cells

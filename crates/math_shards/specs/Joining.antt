@@ -1,6 +1,7 @@
 -- What is wrong with shards that give no data back.
 use Rattle.std.specs.Prelude.{◌≡◌, ℕ, ◌<◌, ◌≤◌, ◌^◌, ◌⊎◌, false, List, [], ◌∷◌, ◌++◌, length, map, slice_index, slice_index_or, All, Any, Result, Err, MatchResult, ⊤}
-use Rattle.std.specs.List.{AllZip}
+use Rattle.std.specs.List.{AllZip, Contains}
+use Rattle.std.specs.List.Sorted.{IsStrictlyIncreasing}
 use Rattle.math_base.specs.Elements.{residue, same}
 use Rattle.math_base.specs.declared.fields.goldilocks.F.{F}
 use Rattle.math_ntt.specs.Evaluations.{EvaluationsOf}
@@ -49,6 +50,12 @@ pub record ArePlacesByIndex {R : Type 0} (index : R → ℕ) (cells : R → List
   pub there : (k p : ℕ) (d : R) → k < n → p < length indices → slice_index indices p ≡ index (slice_index_or rows k d) → slice_index places p < length rows
   pub equal : (k p : ℕ) (d : R) → k < n → p < length indices → slice_index indices p ≡ index (slice_index_or rows k d)
       → AllZip same (cells (slice_index_or rows (slice_index places p) d)) (cells (slice_index_or rows k d))
+
+-- the indices rise, and those of the rows are among them; each row has so many cells
+pub record AreIndexed {R : Type 0} (index : R → ℕ) (cells : R → List F) (width : ℕ) (indices : List ℕ) (rows : List R) : Type 0 where
+  pub rising : IsStrictlyIncreasing indices
+  pub there : All (λ row. Contains indices (index row)) rows
+  pub count : All (λ row. length (cells row) ≡ width) rows
 
 -- what is wrong with rows that fit no data: unequal cells of one index, else too few distinct indices, else that there are no data
 abbrev pub IsDueOfRows : {R : Type 0} → (R → ℕ) → (R → List F) → ℕ → ℕ → List R → Error → Type 0

@@ -7,6 +7,7 @@ use Rattle.math_base.specs.Elements.{residue, same, sum, product}
 use Rattle.math_transforms.specs.DomainValues.{matrix_of}
 use Rattle.math_transforms.specs.Matrices.{MatrixOf, column_of, row_of}
 use Rattle.math_restoring.specs.Restored.{AreDistinct}
+use Rattle.math_splitting.specs.declared.shards.layouts.Layout.{Layout}
 use Rattle.math_splitting.specs.Shards.{value_at_index}
 
 -- of some rows, all of them if they are as many, these are the indices, of which none stands twice, and the cells one row after the other
@@ -18,6 +19,12 @@ pub record AreChosen {R : Type 0} (index : R → ℕ) (cells : R → List F) (ro
   pub keys : indices ≡ map index picked
   pub distinct : AreDistinct indices
   pub held : found ≡ flat_map cells picked
+
+-- as many indices as give the data back, none of which stands twice, and each is below the number of shards
+pub record AreIndicesOf (layout : Layout) (indices : List ℕ) : Type 0 where
+  pub many : length indices ≡ layout.min
+  pub below : All (λ i. i < layout.total) indices
+  pub distinct : AreDistinct indices
 
 -- in the first rows of n cells stands one in the place of the row, and in all rows zero in every other place
 pub record AreUnitRows (n rows : ℕ) (cells : List F) : Type 0 where
@@ -34,6 +41,15 @@ pub record AreWeightsOf (lg : ℕ) (indices : List ℕ) (weights : List F) : Typ
   pub one_at : (i : ℕ) → i < length indices → same (value_at_index lg (column_of (residue 0) (square indices weights) i) (slice_index_or indices i 0)) (residue 1)
   pub zero_at : (i t : ℕ) → i < length indices → t < length indices → i ≢ t
       → same (value_at_index lg (column_of (residue 0) (square indices weights) i) (slice_index_or indices t 0)) (residue 0)
+
+-- the sum of the items, each times its weight in row r, of as many rows as there are items
+abbrev pub weighed_at : List F → List F → ℕ → F
+weighed_at weights items r = weighted_sum (residue 0) sum product items (row_of (matrix_of (length items) (length items) weights) r)
+
+-- the first n cells of a column of rows have these values, and the cells of the other columns are as they were
+pub record IsColumnPut (rows width column : ℕ) (value : ℕ → F) (old : List F) (n : ℕ) (new : List F) : Type 0 where
+  pub done : (i : ℕ) → i < n → slice_index_or new (i * width + column) (residue 0) ≡ value i
+  pub others : (i k : ℕ) → i < rows → k < width → ¬ (k ≡ column) → slice_index_or new (i * width + k) (residue 0) ≡ slice_index_or old (i * width + k) (residue 0)
 
 -- coefficient r of column k: the sum of the cells of the column, each times its weight in row r
 abbrev pub coefficient_of : List F → MatrixOf F → ℕ → ℕ → F

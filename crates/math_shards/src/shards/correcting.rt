@@ -8,11 +8,9 @@
 
 ghost use Rattle.std.specs.Prelude.{◌≡◌, ◌*◌, ◌<◌, ◌≤◌, ◌^◌, ℕ, List, All, length, take};
 ghost use Rattle.std.specs.Prelude.{IfOk, IfErr, IfNone, IfSome, IsSome, MatchResult, false, replicate};
-ghost use Rattle.math_theory.specs.Coefficients.{coefficient};
-ghost use Rattle.math_base.specs.Elements.{residue, same};
-ghost use Rattle.math_transforms.specs.Matrices.{IsOfSize, column_of};
+ghost use Rattle.math_transforms.specs.Matrices.{IsOfSize};
 ghost use Rattle.math_shards.specs.Correcting.{AreCorrected, AreCorrectedRows, ArePositionsWithout};
-ghost use Rattle.math_shards.specs.Correcting.{AreSettledRows, CorrectTo};
+ghost use Rattle.math_shards.specs.Correcting.{AreSettledRows, AreSound, CorrectTo, HaveFewCoefficients};
 ghost use Rattle.math_shards.specs.Correcting.{IsDueCorrecting, RefusesCorrecting, is_settled, settled_indices};
 ghost use Rattle.math_shards.specs.Correcting.{IsRowOf};
 ghost use Rattle.math_shards.specs.Joining.{ArePolynomialsOf, IsDueBeside};
@@ -126,8 +124,7 @@ fn corrected_rows(
     shards: &[Shard],
     first: &Shard,
 ) -> Result<(PackedData, Vec<usize>), Error>
-    requires some { 0 < length shards.now }
-    requires sound { All (IsSound first.now) shards.now }
+    requires { AreSound first.now shards.now }
     ensures ok { IfOk result (λ j. (words : List ℕ) × HoldsWords words j.0
         × AreCorrected words j.1.items shards.now) }
     ensures err { IfErr result (IsDueBeside ⊥ (settled_indices first.now.total shards.now)
@@ -153,11 +150,9 @@ fn corrected_polynomials(
     shards: &[Shard],
     first: &Shard,
 ) -> Mem<Option<PolynomialVector<F>>>
-    requires some { 0 < length shards.now }
-    requires sound { All (IsSound first.now) shards.now }
+    requires shards { AreSound first.now shards.now }
     requires enough { first.now.min ≤ settled_indices first.now.total shards.now }
-    ensures some { IfOk result
-        (λ answer. IfSome answer (λ q. AreCorrectedRows first.now shards.now q)) }
+    ensures some { IfOk result (λ answer. IfSome answer (AreCorrectedRows first.now shards.now)) }
     ensures none { IfOk result
         (λ answer. IfNone answer ((words : List ℕ) → ¬ (CorrectTo words shards.now))) }
 {
@@ -188,11 +183,7 @@ fn data_of(
     min: u32,
     width: usize,
 ) -> Mem<Option<PackedData>>
-    requires some { 1 ≤ min }
-    requires rows { min ≤ polynomials.now.rows }
-    requires size { IsOfSize polynomials.now polynomials.now.rows width }
-    requires short { (k i : ℕ) → k < polynomials.now.cols → min ≤ i
-        → same (coefficient (residue 0) (column_of (residue 0) polynomials.now k) i) (residue 0) }
+    requires { HaveFewCoefficients min width polynomials.now }
     ensures some { IfOk result (λ answer. IfSome answer (λ found. (words : List ℕ)
         × HoldsWords words found × ArePolynomialsOf words min polynomials.now)) }
     ensures none { (words : List ℕ) → All (λ word. word < 2 ^ 64) words → length words < 2 ^ 64
@@ -240,15 +231,13 @@ fn no_rows(alloc: Global, layout: Layout) -> Mem<EvaluationVector<F>>
     if size_of(layout.lg).checked_mul(layout.width).is_none() {
         return Err(AllocError);
     }
-    let values = EvaluationVector::empty(alloc, layout.lg as usize, layout.width)?;
-    Ok(values)
+    EvaluationVector::empty(alloc, layout.lg as usize, layout.width)
 }
 
 /// The vector of values in which the row of each settled index is filled with the cells of its
 /// shards.
 fn settled_rows(alloc: Global, shards: &[Shard], first: &Shard) -> Mem<EvaluationVector<F>>
-    requires some { 0 < length shards.now }
-    requires sound { All (IsSound first.now) shards.now }
+    requires { AreSound first.now shards.now }
     ensures { IfOk result (λ e. (lg : ℕ) × AreSettledRows lg first.now shards.now e) }
 {
     let layout = Layout::new(first.min, first.total, first.cells.len());

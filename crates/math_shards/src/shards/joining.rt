@@ -2,14 +2,13 @@
 
 ghost use Rattle.std.specs.Prelude.{◌≡◌, ◌↔◌, ◌+◌, ◌*◌, ◌<◌, ◌⊎◌, ℕ, List, All, length};
 ghost use Rattle.std.specs.Prelude.{IsTrue, IsFalse, IfOk, IfErr, IfSome, IfNone, MatchResult};
-ghost use Rattle.std.specs.Prelude.{Contains};
 ghost use Rattle.std.specs.List.{AllZip};
-ghost use Rattle.std.specs.List.Sorted.{IsStrictlyIncreasing};
 ghost use Rattle.math_base.specs.Elements.{same};
 ghost use Rattle.math_shards.specs.Fitting.{AreRowsOf, DoRowsFit};
 ghost use Rattle.math_shards.specs.PackedWords.{HoldsWords};
 ghost use Rattle.math_splitting.specs.Shards.{JoinTo};
-ghost use Rattle.math_shards.specs.Joining.{ArePlacesByIndex, HaveUnequalCells, IsDue, IsDueOfRows};
+ghost use Rattle.math_shards.specs.Joining.{AreIndexed, ArePlacesByIndex, HaveUnequalCells, IsDue};
+ghost use Rattle.math_shards.specs.Joining.{IsDueOfRows};
 ghost use Rattle.math_shards.specs.Joining.{IsMemory, IsSound, IsUnsound, Matches, RefusesExactly};
 ghost use Rattle.math_shards.specs.declared.shards.Error.TheVariants.{TooFew, Mismatch, Index};
 ghost use Rattle.math_shards.specs.declared.shards.Error.TheVariants.{Conflict, Inconsistent};
@@ -188,9 +187,7 @@ fn put_place<R: Row>(
     places: &mut [usize],
 ) -> Mem<bool>
     requires row { i < length rows.now }
-    requires rising { IsStrictlyIncreasing indices.now }
-    requires there { All (λ row. Contains indices.now (R.index row)) rows.now }
-    requires count { All (λ row. length (R.cells row) ≡ width) rows.now }
+    requires indexed { AreIndexed R.index R.cells width indices.now rows.now }
     requires places { ArePlacesByIndex R.index R.cells indices.now rows.now i places.old }
     ensures equal { IfOk result (λ answer. IsTrue answer
         → ArePlacesByIndex R.index R.cells indices.now rows.now (i + 1) places.new) }
@@ -216,9 +213,7 @@ fn put_places<R: Row>(
     indices: &[u32],
     places: &mut [usize],
 ) -> Mem<bool>
-    requires rising { IsStrictlyIncreasing indices.now }
-    requires there { All (λ row. Contains indices.now (R.index row)) rows.now }
-    requires count { All (λ row. length (R.cells row) ≡ width) rows.now }
+    requires indexed { AreIndexed R.index R.cells width indices.now rows.now }
     requires size { length places.old ≡ length indices.now }
     ensures equal { IfOk result (λ answer. IsTrue answer → ArePlacesByIndex R.index R.cells
         indices.now rows.now (length rows.now) places.new) }

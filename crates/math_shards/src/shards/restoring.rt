@@ -6,13 +6,11 @@
 //! products. By transforms (`math_restoring`) it takes some products for each row and level of the
 //! domain, which is faster where k is large.
 
-ghost use Rattle.std.specs.Prelude.{◌≡◌, ◌*◌, ◌<◌, ◌≤◌, All, length, map};
+ghost use Rattle.std.specs.Prelude.{◌≡◌, ◌*◌, ◌<◌, length, map};
 ghost use Rattle.std.specs.Prelude.{IfOk, IfSome, IfNone, OnOk};
-ghost use Rattle.math_base.specs.declared.fields.goldilocks.F.{F};
-ghost use Rattle.math_transforms.specs.DomainValues.{matrix_of};
-ghost use Rattle.math_transforms.specs.Matrices.{IsOfSize, MatrixOf};
-ghost use Rattle.math_restoring.specs.Restored.{AreDistinct, HaveCellsAsValues};
-ghost use Rattle.math_shards.specs.Fitting.{AreRowsOf, HasValuesOf, distinct_among};
+ghost use Rattle.math_restoring.specs.Restored.{HaveCellsAsValues};
+ghost use Rattle.math_shards.specs.Fitting.{AreCoefficientsOf, AreRowsOf, distinct_among};
+ghost use Rattle.math_shards.specs.Weights.{AreIndicesOf};
 
 use super::rows::Row;
 use super::weighing::{chosen, put_weighed};
@@ -37,9 +35,7 @@ fn are_weights_cheaper(layout: Layout) -> bool {
 /// Writes the coefficients of all columns over their cells: row t of the cells has the values at
 /// the power of the root that is index t.
 fn put_coefficients(alloc: Global, indices: &[u32], cells: &mut [F], layout: Layout) -> Mem<()>
-    requires many { length indices.now ≡ layout.min }
-    requires below { All (λ i. i < layout.total) indices.now }
-    requires distinct { AreDistinct indices.now }
+    requires indices { AreIndicesOf layout indices.now }
     requires size { length cells.old ≡ length indices.now * layout.width }
     ensures { OnOk result
         (HaveCellsAsValues layout.lg indices.now layout.width cells.old cells.new) }
@@ -63,19 +59,10 @@ fn put_coefficients(alloc: Global, indices: &[u32], cells: &mut [F], layout: Lay
 /// the first `min` rows of distinct indices as their values; `None` where there are fewer.
 pub(super) fn coefficients<R: Row>(alloc: Global, rows: &[R], layout: Layout) -> Mem<Option<Vec<F>>>
     requires { AreRowsOf R.index R.cells layout rows.now }
-    ensures size { IfOk result
-        (λ answer. IfSome answer (λ v. length v.items ≡ layout.min * layout.width)) }
-    ensures enough { IfOk result (λ answer. IfSome answer
-        (λ _. layout.min ≤ distinct_among layout.total (map R.index rows.now))) }
+    ensures some { IfOk result (λ answer. IfSome answer
+        (λ v. AreCoefficientsOf R.index R.cells layout rows.now v.items)) }
     ensures few { IfOk result (λ answer. IfNone answer
         (distinct_among layout.total (map R.index rows.now) < layout.min)) }
-    ensures values { IfOk result (λ answer. IfSome answer (λ v. length rows.now ≡ layout.min
-        → All (λ row. HasValuesOf layout.lg (matrix_of layout.min layout.width v.items)
-        (R.index row) (R.cells row)) rows.now)) }
-    ensures only { IfOk result (λ answer. IfSome answer (λ v. (m : MatrixOf F)
-        → IsOfSize m layout.min layout.width
-        → All (λ row. HasValuesOf layout.lg m (R.index row) (R.cells row)) rows.now
-        → v.items ≡ m.cells)) }
 {
     let (indices, mut cells) = chosen(alloc, rows, layout)?;
     if indices.len() < layout.min as usize {

@@ -10,15 +10,12 @@
 //! other, they are the coefficients. Each coefficient then takes k products and one reduction, and
 //! the coefficients of a column are written over its cells.
 
-ghost use Rattle.std.specs.Prelude.{◌≡◌, ◌+◌, ◌*◌, ◌<◌, ◌≤◌, ℕ, All, Contains, length};
-ghost use Rattle.std.specs.Prelude.{IfOk, OnOk, slice_index_or};
-ghost use Rattle.math_theory.specs.Sums.{weighted_sum};
-ghost use Rattle.math_base.specs.Elements.{residue, sum, product};
-ghost use Rattle.math_transforms.specs.DomainValues.{matrix_of};
-ghost use Rattle.math_transforms.specs.Matrices.{row_of};
-ghost use Rattle.math_restoring.specs.Restored.{AreDistinct, HaveCellsAsValues};
+ghost use Rattle.std.specs.Prelude.{◌≡◌, ◌*◌, ◌<◌, ◌≤◌, All, Contains, length};
+ghost use Rattle.std.specs.Prelude.{IfOk, OnOk};
+ghost use Rattle.math_restoring.specs.Restored.{HaveCellsAsValues};
 ghost use Rattle.math_shards.specs.Fitting.{AreRowsOf};
-ghost use Rattle.math_shards.specs.Weights.{AreChosen, AreCoefficients, AreUnitRows, AreWeightsOf};
+ghost use Rattle.math_shards.specs.Weights.{AreChosen, AreCoefficients, AreIndicesOf, AreUnitRows};
+ghost use Rattle.math_shards.specs.Weights.{AreWeightsOf, IsColumnPut, weighed_at};
 
 use super::rows::Row;
 use math_base::algebra::Mem;
@@ -73,9 +70,7 @@ fn write_units(cells: &mut [F], n: usize)
 /// Writes the weights of rows with these indices, as many as give the data back, over as many rows
 /// of as many cells: row r has the weights by which cells of the rows give coefficient r.
 fn write_weights(alloc: Global, indices: &[u32], layout: Layout, cells: &mut [F]) -> Mem<()>
-    requires many { length indices.now ≡ layout.min }
-    requires below { All (λ i. i < layout.total) indices.now }
-    requires distinct { AreDistinct indices.now }
+    requires indices { AreIndicesOf layout indices.now }
     requires size { length cells.old ≡ length indices.now * length indices.now }
     ensures { OnOk result (AreWeightsOf layout.lg indices.now cells.new) }
 {
@@ -91,13 +86,8 @@ fn put_column(cells: &mut [F], width: usize, k: usize, column: &[F], weights: &[
     requires size { length cells.old ≡ length column.now * width }
     requires within { k < width }
     requires weights { length weights.now ≡ length column.now * length column.now }
-    ensures column { (r : ℕ) → r < length column.now
-        → slice_index_or cells.new (r * width + k) (residue 0)
-        ≡ weighted_sum (residue 0) sum product column.now
-        (row_of (matrix_of (length column.now) (length column.now) weights.now) r) }
-    ensures others { (r j : ℕ) → r < length column.now → j < width → ¬ (j ≡ k)
-        → slice_index_or cells.new (r * width + j) (residue 0)
-        ≡ slice_index_or cells.old (r * width + j) (residue 0) }
+    ensures { IsColumnPut (length column.now) width k (weighed_at weights.now column.now) cells.old
+        (length column.now) cells.new }
 {
     let n = column.len();
     for r in 0..n {
@@ -129,9 +119,7 @@ pub(super) fn put_weighed(
     cells: &mut [F],
     layout: Layout,
 ) -> Mem<()>
-    requires many { length indices.now ≡ layout.min }
-    requires below { All (λ i. i < layout.total) indices.now }
-    requires distinct { AreDistinct indices.now }
+    requires indices { AreIndicesOf layout indices.now }
     requires size { length cells.old ≡ length indices.now * layout.width }
     ensures { OnOk result
         (HaveCellsAsValues layout.lg indices.now layout.width cells.old cells.new) }

@@ -57,22 +57,16 @@ returns-clause-ok c =
           c.in_ok-evaluate.ensures.values found.1.elements.each_word found.1.elements.few c.in_ok-left_out.left_out.items c.in_ok-left_out.ensures,
     )
 
-pub data_of-requires-clause-rows : goal.data_of-requires-clause-rows
-data_of-requires-clause-rows c =
+pub data_of-requires : goal.data_of-requires
+data_of-requires c =
     let first = c.args.first.now in
     let shards = c.args.shards.now in
-    let k = rw c.in-Some.is at c.in_ok-polynomials.ensures.some in
-    omega (arith, least_is_within k.lg first shards k.rows k.filled, (rows_are_domain k.lg first shards k.rows k.filled c.in-Some.polynomials k.wrong k.corrected).1)
-
-pub data_of-requires-clause-size : goal.data_of-requires-clause-size
-data_of-requires-clause-size c =
-    let first = c.args.first.now in
     let q = c.in-Some.polynomials in
     let k = rw c.in-Some.is at c.in_ok-polynomials.ensures.some in
     let wide : length first.cells.items ≡ c.len.result = omega (arith, c.len.ensures, first.cells.ok.0) in
-    subst (λ w. IsOfSize q q.rows w) wide (size_of_corrected k.lg first c.args.shards.now k.rows k.filled q k.wrong k.corrected)
-
-pub data_of-requires-clause-short : goal.data_of-requires-clause-short
-data_of-requires-clause-short c j i inside past =
-    let k = rw c.in-Some.is at c.in_ok-polynomials.ensures.some in
-    k.corrected.zero_from j i (omega (arith, inside, k.corrected.size.1)) past
+    record {
+      some = least_is_positive k.lg first shards k.rows k.filled;
+      rows = omega (arith, least_is_within k.lg first shards k.rows k.filled, (rows_are_domain k.lg first shards k.rows k.filled q k.wrong k.corrected).1);
+      size = subst (λ w. IsOfSize q q.rows w) wide (size_of_corrected k.lg first shards k.rows k.filled q k.wrong k.corrected);
+      short = λ j i inside past. k.corrected.zero_from j i (omega (arith, inside, k.corrected.size.1)) past;
+    }

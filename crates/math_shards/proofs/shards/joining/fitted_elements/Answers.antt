@@ -9,30 +9,34 @@ use Rattle.math_shards.proofs.ChosenRows.{distinct-most}
 use Rattle.math_shards.proofs.JoinedRows.{data_of_fit, rows_fit, values_of_fit}
 use Rattle.math_shards.proofs.shards.joining.fitted_elements.Goals as goal
 
+pub data_count-requires-clause-size : goal.data_count-requires-clause-size
+data_count-requires-clause-size g c = rw c.deref.ensures.value (rw c.in-Some.is at c.in_ok-elements.ensures.some).size
+
+pub have_values-requires-clause-size : goal.have_values-requires-clause-size
+have_values-requires-clause-size g c = rw c.deref-2.ensures.value (rw c.in-Some.is at c.in_ok-elements.ensures.some).size
+
 pub returns-then-rows-layout-2-clause-some : goal.returns-then-rows-layout-2-clause-some
 returns-then-rows-layout-2-clause-some g c =
     let layout = c.args.layout in
-    let elements = c.in-Some.elements.items in
+    let of = rw c.in-Some.is at c.in_ok-elements.ensures.some in
     let found = rw c.in-Some-data_count.is at c.data_count.ensures.some in
-    let are : AreDataOf found.0 layout.min elements = subst (λ (xs : List F). AreDataOf found.0 layout.min xs) c.deref.ensures.value found.2 in (
+    let are : AreDataOf found.0 layout.min c.in-Some.elements.items = subst (λ (xs : List F). AreDataOf found.0 layout.min xs) c.deref.ensures.value found.2 in (
       found.0,
       record { count = sym found.1; min = layout.min; elements = are },
-      rows_fit g.R.Row.index g.R.Row.cells found.0 layout elements c.args.rows.now c.requires (rw c.in-Some.is at c.in_ok-elements.ensures.size) are
-          (rw c.in-Some.is at c.in_ok-elements.ensures.enough) (rw c.in-Some.is at c.in_ok-elements.ensures.values c.if-rows-layout-2.true),
+      rows_fit g.R.Row.index g.R.Row.cells found.0 layout c.in-Some.elements.items c.args.rows.now c.requires of are (of.values c.if-rows-layout-2.true),
     )
 
 pub returns-clause-some : goal.returns-clause-some
 returns-clause-some g c =
     let layout = c.args.layout in
-    let elements = c.in-Some.elements.items in
+    let of = rw c.in-Some.is at c.in_ok-elements.ensures.some in
     let found = rw c.in-Some-data_count.is at c.data_count.ensures.some in
-    let are : AreDataOf found.0 layout.min elements = subst (λ (xs : List F). AreDataOf found.0 layout.min xs) c.deref.ensures.value found.2 in
+    let are : AreDataOf found.0 layout.min c.in-Some.elements.items = subst (λ (xs : List F). AreDataOf found.0 layout.min xs) c.deref.ensures.value found.2 in
     let values = subst (λ (xs : List F). All (λ (row : g.row.R.Denot). HasValuesOf layout.lg (matrix_of layout.min layout.width xs) (g.R.Row.index row) (g.R.Row.cells row)) c.args.rows.now)
     c.deref-2.ensures.value (c.in_ok-have_values.ensures.0 c.if-not-branch.false) in (
       found.0,
       record { count = sym found.1; min = layout.min; elements = are },
-      rows_fit g.R.Row.index g.R.Row.cells found.0 layout elements c.args.rows.now c.requires (rw c.in-Some.is at c.in_ok-elements.ensures.size) are
-          (rw c.in-Some.is at c.in_ok-elements.ensures.enough) values,
+      rows_fit g.R.Row.index g.R.Row.cells found.0 layout c.in-Some.elements.items c.args.rows.now c.requires of are values,
     )
 
 pub returns-then-rows-layout-clause-none : goal.returns-then-rows-layout-clause-none
@@ -44,18 +48,12 @@ returns-in_default-clause-none g c = λ words fit. let few = rw c.in_default.is 
 
 pub returns-in_default-data_count-clause-none : goal.returns-in_default-data_count-clause-none
 returns-in_default-data_count-clause-none g c = λ words fit.
-    let elements : List F = c.in-Some.elements.items in
+    let of = rw c.in-Some.is at c.in_ok-elements.ensures.some in
     let none = rw c.in_default-data_count.is at c.data_count.ensures.none in
-    none words (subst (λ (xs : List F). AreDataOf words c.args.layout.min xs) (sym c.deref.ensures.value)
-    (data_of_fit g.R.Row.index g.R.Row.cells words c.args.layout elements c.args.rows.now (rw c.in-Some.is at c.in_ok-elements.ensures.size) c.requires fit
-    (rw c.in-Some.is at c.in_ok-elements.ensures.only)))
+    none words (rw c.deref.ensures.value (data_of_fit g.R.Row.index g.R.Row.cells words c.args.layout c.in-Some.elements.items c.args.rows.now of c.requires fit))
 
 pub returns-then-not-branch-clause-none : goal.returns-then-not-branch-clause-none
 returns-then-not-branch-clause-none g c = λ words fit.
-    let layout = c.args.layout in
-    let elements : List F = c.in-Some.elements.items in
-    let values = values_of_fit g.R.Row.index g.R.Row.cells words layout elements c.args.rows.now (rw c.in-Some.is at c.in_ok-elements.ensures.size) c.requires fit
-    (rw c.in-Some.is at c.in_ok-elements.ensures.only) in
-    false≢true (sym c.if-not-branch.true ∙ c.in_ok-have_values.ensures.1
-    (subst (λ (xs : List F). All (λ (row : g.row.R.Denot). HasValuesOf layout.lg (matrix_of layout.min layout.width xs) (g.R.Row.index row) (g.R.Row.cells row)) c.args.rows.now)
-    (sym c.deref-2.ensures.value) values))
+    let of = rw c.in-Some.is at c.in_ok-elements.ensures.some in
+    let values = values_of_fit g.R.Row.index g.R.Row.cells words c.args.layout c.in-Some.elements.items c.args.rows.now of c.requires fit in
+    false≢true (sym c.if-not-branch.true ∙ c.in_ok-have_values.ensures.1 (rw c.deref-2.ensures.value values))

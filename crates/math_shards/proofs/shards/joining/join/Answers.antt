@@ -1,42 +1,25 @@
+use Rattle.math_shards.specs.declared.shards.Error.{Error}
 use Rattle.math_shards.specs.declared.shards.Error.TheVariants.{TooFew, Mismatch, Index, Conflict, Inconsistent}
-use Rattle.math_shards.specs.Joining.{HaveConflict}
+use Rattle.math_shards.specs.Joining.{HaveConflict, IsMemory}
 use Rattle.math_splitting.specs.Shards.{JoinTo, distinct_indices}
 use Rattle.math_shards.proofs.DueErrors.{answers, joined_beside, joined_of_some, refuses}
 use Rattle.math_shards.proofs.OnlyData.{only_data}
 use Rattle.math_shards.proofs.shards.joining.join.Goals as goal
 
-pub returns-clause-found : goal.returns-clause-found
-returns-clause-found c =
+pub returns : goal.returns
+returns c =
     let shards = c.args.shards.now in
-    answers HaveConflict distinct_indices JoinTo joined_of_some joined_beside (λ v. v.items) (λ v. JoinTo v.items shards) shards (λ v h. h) (λ words others. only_data words others shards)
-    c.joined_words.result c.joined_words.ensures.ok c.joined_words.ensures.err
-
-pub returns-clause-too_few : goal.returns-clause-too_few
-returns-clause-too_few c =
-    let shards = c.args.shards.now in
-    refuses HaveConflict distinct_indices JoinTo joined_of_some joined_beside (λ v. v.items) (λ v. JoinTo v.items shards) shards (λ v h. h) TooFew (λ h. h) c.joined_words.result
-    c.joined_words.ensures.ok c.joined_words.ensures.err
-
-pub returns-clause-mismatch : goal.returns-clause-mismatch
-returns-clause-mismatch c =
-    let shards = c.args.shards.now in
-    refuses HaveConflict distinct_indices JoinTo joined_of_some joined_beside (λ v. v.items) (λ v. JoinTo v.items shards) shards (λ v h. h) Mismatch (λ h. h) c.joined_words.result
-    c.joined_words.ensures.ok c.joined_words.ensures.err
-
-pub returns-clause-index : goal.returns-clause-index
-returns-clause-index c =
-    let shards = c.args.shards.now in
-    refuses HaveConflict distinct_indices JoinTo joined_of_some joined_beside (λ v. v.items) (λ v. JoinTo v.items shards) shards (λ v h. h) Index (λ h. h) c.joined_words.result
-    c.joined_words.ensures.ok c.joined_words.ensures.err
-
-pub returns-clause-conflict : goal.returns-clause-conflict
-returns-clause-conflict c =
-    let shards = c.args.shards.now in
-    refuses HaveConflict distinct_indices JoinTo joined_of_some joined_beside (λ v. v.items) (λ v. JoinTo v.items shards) shards (λ v h. h) Conflict (λ h. h) c.joined_words.result
-    c.joined_words.ensures.ok c.joined_words.ensures.err
-
-pub returns-clause-inconsistent : goal.returns-clause-inconsistent
-returns-clause-inconsistent c =
-    let shards = c.args.shards.now in
-    refuses HaveConflict distinct_indices JoinTo joined_of_some joined_beside (λ v. v.items) (λ v. JoinTo v.items shards) shards (λ v h. h) Inconsistent (λ h. h) c.joined_words.result
-    c.joined_words.ensures.ok c.joined_words.ensures.err
+    let ok = c.joined_words.ensures.ok in
+    let err = c.joined_words.ensures.err in
+    let refused = λ (e : Error) (other : ¬ (IsMemory e)).
+    refuses HaveConflict distinct_indices JoinTo joined_of_some joined_beside (λ v. v.items) (λ v. JoinTo v.items shards) shards (λ v h. h) e other c.joined_words.result ok err in
+    record {
+      ok = ok;
+      found = answers HaveConflict distinct_indices JoinTo joined_of_some joined_beside (λ v. v.items) (λ v. JoinTo v.items shards) shards (λ v h. h)
+          (λ words others. only_data words others shards) c.joined_words.result ok err;
+      too_few = refused TooFew (λ h. h);
+      mismatch = refused Mismatch (λ h. h);
+      index = refused Index (λ h. h);
+      conflict = refused Conflict (λ h. h);
+      inconsistent = refused Inconsistent (λ h. h);
+    }

@@ -8,11 +8,11 @@ pub place_of-at-requires-clause-there : goal.place_of-at-requires-clause-there
 place_of-at-requires-clause-there g c =
     let row = c.index-rows-i.result in
     let key : g.R.Row.index (get_or c.args.rows.now c.args.i row) ≡ c.index.result = ap g.R.Row.index (sym c.index-rows-i.is) ∙ sym c.index.ensures in
-    subst (Contains c.args.indices.now) key (c.requires.there c.args.i row c.requires.row)
+    subst (Contains c.args.indices.now) key (c.requires.indexed.there c.args.i row c.requires.row)
 
 pub returns-then-place-rows-clause-equal : goal.returns-then-place-rows-clause-equal
 returns-then-place-rows-clause-equal g c = λ _.
-    places-new g.R.Row.index g.R.Row.cells c.args.indices.now c.args.rows.now c.requires.rising c.args.i c.index-rows-i.result c.args.places.now c.requires.places c.requires.row
+    places-new g.R.Row.index g.R.Row.cells c.args.indices.now c.args.rows.now c.requires.indexed.rising c.args.i c.index-rows-i.result c.args.places.now c.requires.places c.requires.row
     c.index-rows-i.is c.place_of-at.result c.place_of-at.ensures.inside (c.place_of-at.ensures.index ∙ c.index.ensures) c.if-place-rows.true
 
 pub returns-clause-equal : goal.returns-clause-equal
@@ -21,7 +21,7 @@ returns-clause-equal g c = λ e.
     let i = c.args.i in
     let row = c.index-rows-i-2.result in
     let again : c.index-rows-i.result ≡ row = c.index-rows-i.is ∙ get_or_default rows i c.index-rows-i.result row c.requires.row ∙ sym c.index-rows-i-2.is in
-    places-known g.R.Row.index g.R.Row.cells c.args.indices.now rows c.requires.rising i row c.args.places.now c.requires.places c.requires.row c.index-rows-i-2.is
+    places-known g.R.Row.index g.R.Row.cells c.args.indices.now rows c.requires.indexed.rising i row c.args.places.now c.requires.places c.requires.row c.index-rows-i-2.is
     c.place_of-at.result c.place_of-at.ensures.inside (c.place_of-at.ensures.index ∙ c.index.ensures ∙ ap g.R.Row.index again)
     c.index-rows-place.result c.if-place-rows.false c.index-rows-place.is (c.in_ok-answer.ensures.0 e)
 
@@ -31,6 +31,6 @@ returns-clause-unequal g c = λ e.
     let i = c.args.i in
     let row = c.index-rows-i-2.result in
     let again : c.index-rows-i.result ≡ row = c.index-rows-i.is ∙ get_or_default rows i c.index-rows-i.result row c.requires.row ∙ sym c.index-rows-i-2.is in
-    unequal_at g.R.Row.index g.R.Row.cells c.args.indices.now rows c.requires.rising i row c.args.places.now c.requires.places c.requires.row c.index-rows-i-2.is
+    unequal_at g.R.Row.index g.R.Row.cells c.args.indices.now rows c.requires.indexed.rising i row c.args.places.now c.requires.places c.requires.row c.index-rows-i-2.is
     c.place_of-at.result c.place_of-at.ensures.inside (c.place_of-at.ensures.index ∙ c.index.ensures ∙ ap g.R.Row.index again)
     c.index-rows-place.result c.if-place-rows.false c.index-rows-place.is (λ h. false≢true (sym e ∙ c.in_ok-answer.ensures.1 h))

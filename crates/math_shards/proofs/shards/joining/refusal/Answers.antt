@@ -6,10 +6,14 @@ use Rattle.math_shards.proofs.DistinctIndices.{are_among, count_distinct}
 use Rattle.math_shards.proofs.RefusedRows.{none_unequal}
 use Rattle.math_shards.proofs.shards.joining.refusal.Goals as goal
 
-pub put_places-requires-clause-there : goal.put_places-requires-clause-there
-put_places-requires-clause-there g c =
-    are_among g.R.Row.index c.deref.result.now c.args.rows.now
-    (λ i there. subst (λ (xs : List ℕ). Contains xs i) (sym c.deref.ensures.value) ((c.in_ok-indices.ensures.exactly i).1 there))
+pub put_places-requires-clause-indexed : goal.put_places-requires-clause-indexed
+put_places-requires-clause-indexed g c =
+    let indices = c.in_ok-indices.ensures in
+    rw c.deref.ensures.value record {
+      rising = indices.rising;
+      there = are_among g.R.Row.index c.in_ok-indices.indices.items c.args.rows.now (λ i there. (indices.exactly i).1 there);
+      count = c.requires.count;
+    }
 
 pub returns-then-len-min : goal.returns-then-len-min
 returns-then-len-min g c = λ total below none.

@@ -2,4 +2,4 @@ use Rattle.std.proofs.Common.{arith}
 use Rattle.math_shards.proofs.shards.restoring.put_coefficients.Goals as goal
 
 pub put_restored-requires-clause-below : goal.put_restored-requires-clause-below
-put_restored-requires-clause-below c = λ k d l. omega (arith, c.requires.below k d l, c.args.layout.points)
+put_restored-requires-clause-below c = λ k d l. omega (arith, c.requires.indices.below k d l, c.args.layout.points)

@@ -27,7 +27,7 @@ loop-k-preserved c =
     let gathered : c.gather.new.column ≡ column_in count c.args.width c.loop-k.cells c.loop-k.k =
     c.gather.ensures ∙ ap (λ n. column_in n c.args.width c.loop-k.cells c.loop-k.k) c.loop-k.auto.column in
     columns-more c.args.weights.now count c.args.width c.loop-k.k c.args.cells.now c.loop-k.cells c.put_column.new.cells c.gather.new.column c.requires.size
-    (c.loop-k.auto.cells ∙ c.requires.size) gathered c.loop-k-test.true c.put_column.ensures.column c.put_column.ensures.others c.loop-k.invariant
+    (c.loop-k.auto.cells ∙ c.requires.size) gathered c.loop-k-test.true c.put_column.ensures c.loop-k.invariant
 
 pub returns : goal.returns
 returns c = record {
