@@ -54,12 +54,12 @@ extern "C" {
 enum cwm_status {
   CWM_DONE = 0,            /* the call did what it says */
   CWM_OUT_OF_MEMORY = 1,   /* malloc gave none */
-  CWM_OUT_OF_RANGE = 2,    /* a word is P or more, or a byte that says whether a row is filled is neither 0 nor 1 */
+  CWM_OUT_OF_RANGE = 2,    /* a word is no element, or a byte that says whether a row is filled is neither 0 nor 1 */
   CWM_WRONG_SIZE = 3,      /* a number of words, rows or columns is none that the call takes, or there is no room */
   CWM_TOO_FEW = 4,         /* there are fewer than `min` distinct indices of shards, or fewer filled rows than coefficients */
   CWM_MISMATCH = 5,        /* not 1 <= min <= total */
   CWM_WRONG_INDEX = 6,     /* an index is not below the total, or, for weights, not above the one before it */
-  CWM_CONFLICT = 7,        /* two shards have one index and unequal words */
+  CWM_CONFLICT = 7,        /* two shards have one index, and differ */
   CWM_INCONSISTENT = 8,    /* nothing fits: no data have all of the shards, or no polynomials are near the values */
   CWM_END_OF_BUFFER = 9,   /* the bytes end within a polynomial */
   CWM_INVALID_VARINT = 10, /* the bytes begin with no length */
@@ -255,6 +255,72 @@ CWM_MUST_USE uint32_t cwm_join_bytes(const uint32_t *indices, size_t k, uint32_t
 CWM_MUST_USE uint32_t cwm_join_bytes_corrected(const uint32_t *indices, size_t k, uint32_t min, uint32_t total,
                                                const uint8_t *shards, size_t n, uint8_t *data, size_t m, size_t *written,
                                                size_t *left_out, size_t room, size_t *many);
+
+/* Systematic shards: the data as they are, and parity rows. Of the two kinds of shards take these for bytes that are mostly
+ * read whole: if no data row is lost, the data are there and nothing has to be computed. Take cwm_split_bytes if the shards
+ * have to be those that the Rust crate makes.
+ *
+ * `size` bytes of data, any number, fill `min` data rows: row i begins at byte i times the size of a row, and zeros stand
+ * behind the last byte. Parity rows make them `total` rows, and any `min` rows give all others back. Data rows have the indices
+ * from 0 to min - 1, and parity rows those from min to total - 1. All rows have the same number of bytes, about size / min and
+ * a multiple of 8: each 8 are a word, the lowest byte first. Rows that are handed in or written lie one behind the other.
+ *
+ * A word of the data can be no element. So the upper 32 bits of each are xored with a mask before it is taken as one: with
+ * the least that leaves the upper 32 bits of no word all ones. It is nearly always 0. In the rows the data stand as they are.
+ *
+ * Column by column the elements of the rows are values of one polynomial of at most `min` coefficients: row i has that at point
+ * i of the domain of N points, where N is `total` rounded up to a power of two.
+ *
+ * A data row is a piece of the data as it is: it hides nothing. Keep size, min, total, the mask and the index beside each row.
+ *
+ * Writes how many bytes a row has into *row, and how many bytes of the data are in row `index` into *data. In the last data
+ * rows these can be fewer than a row has, or none, and in a parity row they are none.
+ * 1 <= min <= total, else CWM_MISMATCH. All data rows have fewer than 2^31 words, and all rows fewer than 2^60, else
+ * CWM_WRONG_SIZE. index is below total, else CWM_WRONG_INDEX. Takes no memory. */
+CWM_MUST_USE uint32_t cwm_systematic_sizes(size_t size, uint32_t min, uint32_t total, uint32_t index, size_t *row,
+                                           size_t *data);
+
+/* Writes the parity rows of the `size` bytes of data, by rising index, over the m bytes of `parity`, and the mask into *mask.
+ * If min is total, there are none, and m is 0.
+ * 1 <= min <= total, else CWM_MISMATCH. cwm_systematic_sizes takes the sizes, and m is total - min times the size of a row,
+ * else CWM_WRONG_SIZE. Takes memory for 3 times min words for each parity row, for 12 times N words and 64, and, if the mask is
+ * not 0, for a byte for each word of the data rows. */
+CWM_MUST_USE uint32_t cwm_systematic_encode(const uint8_t *data, size_t size, uint32_t min, uint32_t total, uint8_t *parity,
+                                            size_t m, uint32_t *mask);
+
+/* Writes the rows of w wanted indices, data rows or parity rows, in their order over the m bytes of `out`. k rows are in
+ * hand: row i of the n bytes of `rows` is the row of index indices[i]. The order does not matter, and a row that is there
+ * twice counts once. A wanted row that is in hand is copied. If w is 0, the rows are only checked.
+ * 1 <= min <= total, else CWM_MISMATCH. cwm_systematic_sizes takes the sizes, n is k times the size of a row, and m is w times
+ * that, else CWM_WRONG_SIZE. Then, in this order: no row at all: CWM_TOO_FEW; an index of `total` or more, of a row or one
+ * that is wanted: CWM_WRONG_INDEX; a word that is no element, so one of a parity row that is P or more, or one of a data row
+ * whose upper 32 bits are all ones under the mask: CWM_OUT_OF_RANGE; unequal rows of one index: CWM_CONFLICT; fewer than `min`
+ * distinct indices: CWM_TOO_FEW; rows that are not those of any data: CWM_INCONSISTENT. So the call finds damage to one row
+ * if there are more than `min` distinct indices; if there are just `min`, it may not. Nothing is signed: keep a hash of the
+ * data to compare.
+ * Takes memory for 16 words for each of the k rows and for 64, and for each index in hand past the first `min` and each row
+ * that is wanted and not in hand for 3 times min words; if there is such an index or row, also for 12 times N words. If there
+ * are fewer than `min` distinct indices, it takes memory for the k rows alone, however large `total` is. Else memory grows with
+ * `total`: limit it before you rebuild rows from someone you do not trust. */
+CWM_MUST_USE uint32_t cwm_systematic_rebuild(const uint32_t *indices, size_t k, const uint8_t *rows, size_t n, size_t size,
+                                             uint32_t min, uint32_t total, uint32_t mask, const uint32_t *wanted, size_t w,
+                                             uint8_t *out, size_t m);
+
+/* Writes the `size` bytes of data that k rows give back. The rows are handed in as for cwm_systematic_rebuild, and data rows in
+ * hand are copied.
+ * 1 <= min <= total, else CWM_MISMATCH. cwm_systematic_sizes takes the sizes, and n is k times the size of a row, else
+ * CWM_WRONG_SIZE. Then as cwm_systematic_rebuild; and if a byte of the data rows past the end of the data is not zero:
+ * CWM_INCONSISTENT. Takes memory as cwm_systematic_rebuild does for all data rows: limit `total`. */
+CWM_MUST_USE uint32_t cwm_systematic_decode(const uint32_t *indices, size_t k, const uint8_t *rows, size_t n, uint32_t min,
+                                            uint32_t total, uint32_t mask, uint8_t *data, size_t size);
+
+/* Writes 1 into *belong if the k rows are rows of the same data, and else 0: unequal rows of one index are not. Rows of just
+ * `min` distinct indices always are, if none of one index differ. The rows are handed in as for cwm_systematic_rebuild.
+ * Statuses as for cwm_systematic_decode, in the same order; but there is no CWM_CONFLICT and no CWM_INCONSISTENT, since the
+ * answer is then 0. Bytes past the end of the data are not looked at. Takes memory as cwm_systematic_rebuild does where no row
+ * is wanted: limit `total`. */
+CWM_MUST_USE uint32_t cwm_systematic_verify(const uint32_t *indices, size_t k, const uint8_t *rows, size_t n, size_t size,
+                                            uint32_t min, uint32_t total, uint32_t mask, uint32_t *belong);
 
 #ifdef __cplusplus
 }

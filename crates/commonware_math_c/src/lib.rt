@@ -25,6 +25,8 @@ ghost use Rattle.c_calls.specs.ShardBytes.{AreBlockRefused, AreBlockRefusedCorre
 ghost use Rattle.commonware_math_c.specs.Version.{version};
 ghost use Rattle.c_calls.specs.WordEncodings.{IsCoefficientCount, IsEncodedBy, StandInFront, polynomial_spelling, scan_polynomial};
 
+pub mod systematic;
+
 use c_calls::corrections::correct_words;
 use c_calls::decodings::{are_decoding_sizes, decode_words};
 use c_calls::elements::{are_elements, elements_below};

@@ -1,0 +1,199 @@
+//! Systematic shards of bytes: the data as they are, and parity rows.
+
+ghost use Rattle.std.specs.Prelude.{◌≡◌, ◌≢◌, ◌↔◌, ◌<◌, ◌≤◌, ◌-◌, ◌*◌, ◌⊎◌, [], length};
+ghost use Rattle.systematic_shards.specs.declared.split.Split.{Split};
+ghost use Rattle.c_calls.specs.Statuses.{done, inconsistent, mismatch, out_of_memory, wrong_index, wrong_size};
+ghost use Rattle.c_calls.specs.SystematicRows.{AreDecoded, AreEncoded, AreRebuilt, GivenRows, HaveRoom, HaveRowsFor, IsDecodeDueTo, IsDueTo, IsSplitOf, IsStatusWhere, IsVerified, TellsOfRows, bytes_in_row, width_of};
+ghost use Rattle.c_calls.specs.WordShards.{IsSplit};
+
+use c_calls::shards::is_split;
+use c_calls::status::Status;
+use c_calls::{status, systematic};
+use std::alloc::Global;
+
+/// Writes how many bytes a row has, and how many of row `index` are bytes of the block.
+#[unsafe(no_mangle)]
+pub extern "C" fn cwm_systematic_sizes(
+    size: usize,
+    min: u32,
+    total: u32,
+    index: u32,
+    row: &mut usize,
+    part: &mut usize,
+) -> u32
+    ensures row { result ≡ done → row.new ≡ 8 * width_of size min }
+    ensures part { result ≡ done → part.new ≡ bytes_in_row size (width_of size min) index }
+    ensures kept { result ≢ done → (row.new ≡ row.old) × (part.new ≡ part.old) }
+    ensures size { result ≡ wrong_size
+        ↔ IsSplit min total × ¬ (HaveRoom min total (width_of size min)) }
+    ensures index { result ≡ wrong_index
+        ↔ IsSplit min total × HaveRoom min total (width_of size min) × (total ≤ index) }
+    ensures mismatch { result ≡ mismatch ↔ ¬ (IsSplit min total) }
+    ensures statuses { (result ≡ done) ⊎ (result ≡ wrong_size) ⊎ (result ≡ mismatch)
+        ⊎ (result ≡ wrong_index) }
+{
+    if !is_split(min, total) {
+        return Status::Mismatch.code();
+    }
+    let Some(split) = systematic::split_for(size, min, total) else {
+        return Status::WrongSize.code();
+    };
+    if index >= total {
+        return Status::WrongIndex.code();
+    }
+    *row = split.row_bytes();
+    *part = split.data_bytes(index);
+    Status::Done.code()
+}
+
+/// Writes the parity rows of the block, row after row, and its mask.
+#[unsafe(no_mangle)]
+pub extern "C" fn cwm_systematic_encode(
+    alloc: Global,
+    block: &[u8],
+    min: u32,
+    total: u32,
+    parity: &mut [u8],
+    mask: &mut u32,
+) -> u32
+    ensures encoded { result ≡ done → (split : Split) × IsSplitOf (length block.now) min total split
+        × AreEncoded split block.now mask.new parity.new }
+    ensures kept { result ≢ done → (parity.new ≡ parity.old) × (mask.new ≡ mask.old) }
+    ensures size { result ≡ wrong_size ↔ IsSplit min total
+        × ¬ (HaveRowsFor (length block.now) min total (total - min) (length parity.old)) }
+    ensures mismatch { result ≡ mismatch ↔ ¬ (IsSplit min total) }
+    ensures statuses { (result ≡ done) ⊎ (result ≡ out_of_memory) ⊎ (result ≡ wrong_size)
+        ⊎ (result ≡ mismatch) }
+{
+    if !is_split(min, total) {
+        return Status::Mismatch.code();
+    }
+    let count = (total - min) as usize;
+    if !systematic::have_rows(block.len(), min, total, count, parity.len()) {
+        return Status::WrongSize.code();
+    }
+    match systematic::write_parity(alloc, block, min, total, parity) {
+        Ok(found) => {
+            *mask = found;
+            Status::Done.code()
+        }
+        Err(_) => Status::OutOfMemory.code(),
+    }
+}
+
+/// Writes the rows of the wanted indices, row after row: row t of the rows in hand is that of index
+/// number t.
+#[unsafe(no_mangle)]
+pub extern "C" fn cwm_systematic_rebuild(
+    alloc: Global,
+    indices: &[u32],
+    rows: &[u8],
+    size: usize,
+    min: u32,
+    total: u32,
+    mask: u32,
+    wanted: &[u32],
+    out: &mut [u8],
+) -> u32
+    ensures rebuilt { result ≡ done
+        → (it : GivenRows size min total mask indices.now rows.now)
+        × AreRebuilt it.code it.rows wanted.now out.new }
+    ensures kept { result ≢ done → out.new ≡ out.old }
+    ensures size { result ≡ wrong_size ↔ IsSplit min total
+        × ¬ (HaveRowsFor size min total (length indices.now) (length rows.now)
+        × HaveRowsFor size min total (length wanted.now) (length out.old)) }
+    ensures mismatch { result ≡ mismatch ↔ ¬ (IsSplit min total) }
+    ensures refused { TellsOfRows result
+        → (it : GivenRows size min total mask indices.now rows.now)
+        × IsStatusWhere (IsDueTo it.code wanted.now it.rows) result }
+    ensures statuses { result ≤ inconsistent }
+{
+    if !is_split(min, total) {
+        return Status::Mismatch.code();
+    }
+    let Some(held) = systematic::rows_in_hand(size, min, total, mask, indices, rows) else {
+        return Status::WrongSize.code();
+    };
+    if !systematic::have_rows(size, min, total, wanted.len(), out.len()) {
+        return Status::WrongSize.code();
+    }
+    match systematic::write_rows(alloc, &held, wanted, out) {
+        Ok(()) => Status::Done.code(),
+        Err(error) => status::of_rows(&error).code(),
+    }
+}
+
+/// Writes the block that the rows give back.
+#[unsafe(no_mangle)]
+pub extern "C" fn cwm_systematic_decode(
+    alloc: Global,
+    indices: &[u32],
+    rows: &[u8],
+    min: u32,
+    total: u32,
+    mask: u32,
+    block: &mut [u8],
+) -> u32
+    ensures decoded { result ≡ done
+        → (it : GivenRows (length block.old) min total mask indices.now rows.now)
+        × AreDecoded it.code it.rows block.new }
+    ensures kept { result ≢ done → block.new ≡ block.old }
+    ensures size { result ≡ wrong_size ↔ IsSplit min total
+        × ¬ (HaveRowsFor (length block.old) min total (length indices.now) (length rows.now)) }
+    ensures mismatch { result ≡ mismatch ↔ ¬ (IsSplit min total) }
+    ensures refused { TellsOfRows result
+        → (it : GivenRows (length block.old) min total mask indices.now rows.now)
+        × IsStatusWhere (IsDecodeDueTo it.code it.rows) result }
+    ensures statuses { result ≤ inconsistent }
+{
+    if !is_split(min, total) {
+        return Status::Mismatch.code();
+    }
+    let size = block.len();
+    let Some(held) = systematic::rows_in_hand(size, min, total, mask, indices, rows) else {
+        return Status::WrongSize.code();
+    };
+    match systematic::write_block(alloc, &held, block) {
+        Ok(()) => Status::Done.code(),
+        Err(error) => status::of_rows(&error).code(),
+    }
+}
+
+/// Writes 1 if the rows belong to one codeword, and else 0.
+#[unsafe(no_mangle)]
+pub extern "C" fn cwm_systematic_verify(
+    alloc: Global,
+    indices: &[u32],
+    rows: &[u8],
+    size: usize,
+    min: u32,
+    total: u32,
+    mask: u32,
+    belong: &mut u32,
+) -> u32
+    ensures verified { result ≡ done
+        → (it : GivenRows size min total mask indices.now rows.now)
+        × IsVerified it.code it.rows belong.new }
+    ensures kept { result ≢ done → belong.new ≡ belong.old }
+    ensures size { result ≡ wrong_size ↔ IsSplit min total
+        × ¬ (HaveRowsFor size min total (length indices.now) (length rows.now)) }
+    ensures mismatch { result ≡ mismatch ↔ ¬ (IsSplit min total) }
+    ensures refused { TellsOfRows result
+        → (it : GivenRows size min total mask indices.now rows.now)
+        × IsStatusWhere (IsDueTo it.code [] it.rows) result }
+    ensures statuses { result ≤ wrong_index }
+{
+    if !is_split(min, total) {
+        return Status::Mismatch.code();
+    }
+    let Some(held) = systematic::rows_in_hand(size, min, total, mask, indices, rows) else {
+        return Status::WrongSize.code();
+    };
+    match systematic::belong(alloc, &held) {
+        Ok(answer) => {
+            *belong = answer;
+            Status::Done.code()
+        }
+        Err(error) => status::of_rows(&error).code(),
+    }
+}
