@@ -22,6 +22,11 @@ int main(void) {
   if (cwm_join_corrected(indices, 1, total, total, words, 3, back, 6, &written, wrong, 2, &many) != CWM_TOO_FEW) return 4;
   if (cwm_join(same, 2, 2, total, words, 6, back, 6, &written) != CWM_TOO_FEW) return 5;
   if (cwm_join_corrected(same, 2, 2, total, words, 6, back, 6, &written, wrong, 2, &many) != CWM_TOO_FEW) return 6;
+  static const uint8_t data_rows[16];
+  uint32_t belong = 7;
+  if (cwm_systematic_rebuild(indices, 2, data_rows, 16, 24, 3, total, 0, indices, 2, data, 16) != CWM_TOO_FEW) return 11;
+  if (cwm_systematic_verify(same, 2, data_rows, 16, 16, 2, total, 0, &belong) != CWM_TOO_FEW) return 12;
+  if (cwm_systematic_decode(indices, 2, data_rows, 16, 2, total, 0, data, 16) != CWM_DONE) return 13;
 
   /* between the points 1 and -1 the value at 5 is three times the one, less twice the other */
   if (cwm_weights_at_roots(total, opposite, 2, 5, weights, 2) != CWM_DONE) return 7;

@@ -53,5 +53,19 @@ int main() {
                                 wrong.data(), wrong.size(), &many) == CWM_DONE);
   WANT(cwm_join_bytes_corrected(indices.data(), indices.size(), 2, 3, bytes.data(), bytes.size(), block.data(), block.size(), &written,
                                 places.data(), places.size(), &many) == CWM_TOO_FEW);
+
+  // systematic shards of no bytes have rows of no bytes
+  std::vector<uint8_t> none, rows_in_hand;
+  uint32_t mask = 7, belong = 7;
+  WANT(cwm_systematic_sizes(none.size(), 2, 3, 0, &size, &many) == CWM_DONE && size == 0 && many == 0);
+  WANT(cwm_systematic_encode(none.data(), none.size(), 2, 3, bytes.data(), bytes.size(), &mask) == CWM_DONE && mask == 0);
+  WANT(cwm_systematic_rebuild(all.data(), all.size(), rows_in_hand.data(), rows_in_hand.size(), none.size(), 2, 3, mask, indices.data(),
+                              indices.size(), bytes.data(), bytes.size()) == CWM_DONE);
+  WANT(cwm_systematic_rebuild(indices.data(), indices.size(), rows_in_hand.data(), rows_in_hand.size(), none.size(), 2, 3, mask, all.data(),
+                              all.size(), bytes.data(), bytes.size()) == CWM_TOO_FEW);
+  WANT(cwm_systematic_decode(all.data(), all.size(), rows_in_hand.data(), rows_in_hand.size(), 2, 3, mask, none.data(), none.size()) ==
+       CWM_DONE);
+  WANT(cwm_systematic_verify(all.data(), all.size(), rows_in_hand.data(), rows_in_hand.size(), none.size(), 2, 3, mask, &belong) ==
+       CWM_DONE && belong == 1);
   return 0;
 }

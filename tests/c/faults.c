@@ -9,13 +9,15 @@
     if ((call) != (status) || memcmp(&now, &before, sizeof now) != 0) return __LINE__ % 255 + 1; \
   } while (0)
 
-enum { HIGH = 4, SHARD = 2, BYTES = 24 };
+enum { HIGH = 4, SHARD = 2, BYTES = 24, ROW = 8 };
 
 /* All that calls may write. */
 struct given {
   uint64_t value, cells[HIGH], weights[2], coefficients[2], words[4], shards[3 * SHARD];
   uint8_t bytes[32], block[48], byte_shards[3 * BYTES];
   size_t written, wrong[3], size, many;
+  uint8_t parity[2 * ROW], out[2 * ROW], data[12];
+  uint32_t mask, belong;
 };
 
 static struct given now, before;
@@ -165,5 +167,60 @@ int main(void) {
   if (cwm_shard_sizes(0, 1, 2, &size) != CWM_DONE || size != SHARD || cwm_split(low, 0, 1, 2, of_no_word, 2 * SHARD) != CWM_DONE) return 3;
   for (size_t i = 0; i < sizeof of_no_byte; i++) of_no_byte[i] = (uint8_t)(of_no_word[i / 8] >> 8 * (7 - i % 8));
   REFUSES(CWM_INCONSISTENT, cwm_join_bytes(all, 2, 1, 2, of_no_byte, sizeof of_no_byte, now.block, 0, &now.written));
+
+  /* systematic shards: of four rows any two give the others back; the fifth is another row of index 0 */
+  static const uint8_t data[12] = "0123456789\n";
+  const uint32_t in_order[5] = {0, 1, 2, 3, 0}, high_index[5] = {0, 1, 2, 4, 0}, copies[2] = {2, 2}, lost[2] = {3, 1}, none_wanted[2] = {1, 4};
+  uint8_t row[5 * ROW] = {0}, no_element[5 * ROW];
+  uint32_t mask = 7;
+  if (cwm_systematic_sizes(12, 2, 4, 1, &size, &now.size) != CWM_DONE || size != ROW || now.size != 4) return 4;
+  now.size = before.size;
+  memcpy(row, data, 12);
+  if (cwm_systematic_encode(data, 12, 2, 4, row + 2 * ROW, 2 * ROW, &mask) != CWM_DONE || mask != 0) return 5;
+  memcpy(row + 4 * ROW, row, ROW);
+  row[4 * ROW] ^= 1;
+  memcpy(no_element, row, sizeof row);
+  memset(no_element + 2 * ROW, 255, ROW);
+  REFUSES(CWM_MISMATCH, cwm_systematic_sizes((size_t)-1, 4, 3, 9, &now.size, &now.many));
+  REFUSES(CWM_MISMATCH, cwm_systematic_sizes((size_t)-1, 0, 3, 9, &now.size, &now.many));
+  REFUSES(CWM_WRONG_SIZE, cwm_systematic_sizes((size_t)-1, 2, 3, 9, &now.size, &now.many));
+  REFUSES(CWM_WRONG_INDEX, cwm_systematic_sizes(12, 2, 4, 4, &now.size, &now.many));
+  REFUSES(CWM_MISMATCH, cwm_systematic_encode(data, 12, 0, 4, now.parity, 5, &now.mask));
+  REFUSES(CWM_MISMATCH, cwm_systematic_encode(data, 12, 5, 4, now.parity, 5, &now.mask));
+  REFUSES(CWM_WRONG_SIZE, cwm_systematic_encode(data, 12, 2, 4, now.parity, 2 * ROW - 1, &now.mask));
+
+  REFUSES(CWM_MISMATCH, cwm_systematic_rebuild(high_index, 4, no_element, 31, 12, 5, 4, 0, none_wanted, 2, now.out, 15));
+  REFUSES(CWM_WRONG_SIZE, cwm_systematic_rebuild(high_index, 4, no_element, 31, 12, 2, 4, 0, none_wanted, 2, now.out, 16));
+  REFUSES(CWM_WRONG_SIZE, cwm_systematic_rebuild(high_index, 4, no_element, 32, 12, 2, 4, 0, none_wanted, 2, now.out, 15));
+  REFUSES(CWM_WRONG_SIZE, cwm_systematic_rebuild(high_index, 0, no_element, 0, 12, 2, 4, 0, none_wanted, 2, now.out, 15));
+  REFUSES(CWM_TOO_FEW, cwm_systematic_rebuild(high_index, 0, no_element, 0, 12, 2, 4, 0, none_wanted, 2, now.out, 16));
+  REFUSES(CWM_WRONG_INDEX, cwm_systematic_rebuild(high_index, 4, no_element, 32, 12, 2, 4, 0, lost, 2, now.out, 16));
+  REFUSES(CWM_WRONG_INDEX, cwm_systematic_rebuild(in_order, 4, no_element, 32, 12, 2, 4, 0, none_wanted, 2, now.out, 16));
+  REFUSES(CWM_OUT_OF_RANGE, cwm_systematic_rebuild(in_order, 5, no_element, 40, 12, 2, 4, 0, lost, 2, now.out, 16));
+  REFUSES(CWM_CONFLICT, cwm_systematic_rebuild(in_order, 5, row, 40, 12, 2, 4, 0, lost, 2, now.out, 16));
+  REFUSES(CWM_CONFLICT, cwm_systematic_rebuild(copies, 2, row + 2 * ROW, 16, 12, 2, 4, 0, lost, 2, now.out, 16));
+  REFUSES(CWM_TOO_FEW, cwm_systematic_rebuild(copies, 1, row + 2 * ROW, 8, 12, 2, 4, 0, lost, 2, now.out, 16));
+  row[0] ^= 2;
+  REFUSES(CWM_INCONSISTENT, cwm_systematic_rebuild(in_order, 4, row, 32, 12, 2, 4, 0, lost, 2, now.out, 16));
+  REFUSES(CWM_INCONSISTENT, cwm_systematic_rebuild(in_order, 4, row, 32, 12, 2, 4, 0, lost, 0, now.out, 0));
+  row[0] ^= 2;
+
+  REFUSES(CWM_MISMATCH, cwm_systematic_decode(high_index, 4, no_element, 31, 5, 4, 0, now.data, 12));
+  REFUSES(CWM_WRONG_SIZE, cwm_systematic_decode(high_index, 4, no_element, 31, 2, 4, 0, now.data, 12));
+  REFUSES(CWM_TOO_FEW, cwm_systematic_decode(high_index, 0, no_element, 0, 2, 4, 0, now.data, 12));
+  REFUSES(CWM_WRONG_INDEX, cwm_systematic_decode(high_index, 4, no_element, 32, 2, 4, 0, now.data, 12));
+  REFUSES(CWM_OUT_OF_RANGE, cwm_systematic_decode(in_order, 5, no_element, 40, 2, 4, 0, now.data, 12));
+  REFUSES(CWM_CONFLICT, cwm_systematic_decode(in_order, 5, row, 40, 2, 4, 0, now.data, 12));
+  REFUSES(CWM_TOO_FEW, cwm_systematic_decode(copies, 1, row + 2 * ROW, 8, 2, 4, 0, now.data, 12));
+  REFUSES(CWM_INCONSISTENT, cwm_systematic_decode(in_order, 4, row, 32, 2, 4, 0, now.data, 10));
+
+  REFUSES(CWM_MISMATCH, cwm_systematic_verify(high_index, 4, no_element, 31, 12, 0, 4, 0, &now.belong));
+  REFUSES(CWM_WRONG_SIZE, cwm_systematic_verify(high_index, 4, no_element, 31, 12, 2, 4, 0, &now.belong));
+  REFUSES(CWM_TOO_FEW, cwm_systematic_verify(high_index, 0, no_element, 0, 12, 2, 4, 0, &now.belong));
+  REFUSES(CWM_WRONG_INDEX, cwm_systematic_verify(high_index, 4, no_element, 32, 12, 2, 4, 0, &now.belong));
+  REFUSES(CWM_OUT_OF_RANGE, cwm_systematic_verify(in_order, 5, no_element, 40, 12, 2, 4, 0, &now.belong));
+  REFUSES(CWM_TOO_FEW, cwm_systematic_verify(copies, 1, row + 2 * ROW, 8, 12, 2, 4, 0, &now.belong));
+  /* rows that differ are an answer */
+  if (cwm_systematic_verify(copies, 2, row + 2 * ROW, 16, 12, 2, 4, 0, &now.belong) != CWM_DONE || now.belong != 0) return 6;
   return 0;
 }

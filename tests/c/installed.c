@@ -104,5 +104,24 @@ int main(void) {
   /* the shards of no word, of which one is wrong, are those of no bytes */
   for (int i = 0; i < 48; i++) byte_shards[i] = (uint8_t)(shards[i / 8] >> 8 * (7 - i % 8));
   WANT(cwm_join_bytes_corrected(all, 3, 1, 3, byte_shards, 48, bytes_back, 16, &written, left_out, 3, &many) == CWM_INCONSISTENT);
+
+  /* systematic shards: the data are the first two of three rows, and the first is lost */
+  uint8_t row[24] = {0}, lost_row[8], data_back[10];
+  size_t row_size = 0, part = 0;
+  uint32_t mask = 7, belong = 7;
+  const uint32_t first[1] = {0};
+  WANT(cwm_systematic_sizes(10, 2, 3, 1, &row_size, &part) == CWM_DONE && row_size == 8 && part == 2);
+  memcpy(row, bytes, 10);
+  WANT(cwm_systematic_encode(bytes, 10, 2, 3, row + 16, 8, &mask) == CWM_DONE && mask == 0);
+  WANT(cwm_systematic_rebuild(last_two, 2, row + 8, 16, 10, 2, 3, mask, first, 1, lost_row, 8) == CWM_DONE);
+  WANT(memcmp(lost_row, bytes, 8) == 0);
+  WANT(cwm_systematic_rebuild(last_two, 2, row + 8, 16, 10, 2, 3, mask, first, 1, lost_row, 7) == CWM_WRONG_SIZE);
+  WANT(cwm_systematic_decode(last_two, 2, row + 8, 16, 2, 3, mask, data_back, 10) == CWM_DONE);
+  WANT(memcmp(data_back, bytes, 10) == 0);
+  WANT(cwm_systematic_decode(last_two, 1, row + 8, 8, 2, 3, mask, data_back, 10) == CWM_TOO_FEW);
+  WANT(cwm_systematic_verify(all, 3, row, 24, 10, 2, 3, mask, &belong) == CWM_DONE && belong == 1);
+  row[3] ^= 1;
+  WANT(cwm_systematic_verify(all, 3, row, 24, 10, 2, 3, mask, &belong) == CWM_DONE && belong == 0);
+  WANT(cwm_systematic_rebuild(all, 3, row, 24, 10, 2, 3, mask, first, 1, lost_row, 8) == CWM_INCONSISTENT);
   return 0;
 }

@@ -47,7 +47,7 @@ void *__wrap_realloc(void *at, size_t size) {
 static struct {
   const char *name;
   double most, taken;
-} calls[32];
+} calls[64];
 static int failed;
 
 /* What was taken since the last count by a call with this answer, beside so many words. */
@@ -183,6 +183,32 @@ static void shards(uint32_t min, uint32_t total) {
   __real_free(bytes), __real_free(back), __real_free(cells);
 }
 
+/* Systematic shards of BLOCK bytes, of which `min` of `total` give all others back, under no mask and, of not too many, under one.
+ * Every row past the first `min` in hand and every lost one takes `min` words, and a list that grows takes three times its words; N is
+ * as above. */
+static void systematic(uint32_t min, uint32_t total) {
+  uint8_t *bytes = block(ROOM), *out = block(ROOM);
+  uint32_t mask, belong;
+  size_t size, part, n = 1;
+  while (n < total) n *= 2;
+  if (cwm_systematic_sizes(BLOCK, min, total, 0, &size, &part) != CWM_DONE || size * (total + 100) > ROOM) exit(2);
+  memset(bytes, 0, size * min);
+  for (size_t i = 0; i < BLOCK; i++) bytes[i] = 7 * i % 251;
+  for (int masked = 0; masked < (total > 200 ? 1 : 2); masked++) {
+    size_t lost = total - min < min ? total - min : min, k = total - lost, flags = masked ? size / 8 * min / 8 + 1 : 0;
+    size_t made = 12 * n + 64, rebuilt = 16 * k + 3 * min * (lost + k - min) + made;
+    if (masked) memset(bytes, 255, 8);
+    peak = 0;
+    count("cwm_systematic_encode", cwm_systematic_encode(bytes, BLOCK, min, total, bytes + min * size, (total - min) * size, &mask), 1, 3 * min * (total - min) + made + flags);
+    /* all that can be are lost, and wanted; then none is, and there are more than are needed */
+    count("cwm_systematic_rebuild", cwm_systematic_rebuild(indices + lost, k, bytes + lost * size, k * size, BLOCK, min, total, mask, indices, lost, out, lost * size), 1, rebuilt);
+    count("cwm_systematic_decode", cwm_systematic_decode(indices + lost, k, bytes + lost * size, k * size, min, total, mask, out, BLOCK), 1, rebuilt);
+    count("cwm_systematic_decode, none lost", cwm_systematic_decode(indices, min, bytes, min * size, min, total, mask, out, BLOCK), 1, 16 * min + 64);
+    count("cwm_systematic_verify", cwm_systematic_verify(indices, total, bytes, total * size, BLOCK, min, total, mask, &belong), 1, 16 * total + 3 * min * (total - min) + made);
+  }
+  __real_free(bytes), __real_free(out);
+}
+
 /* Shards of 40 MB, of which 10 of 16 give them back: beside them a fifth of the data may be taken, and 1.2 times the data where they
  * are joined. */
 static void large(void) {
@@ -201,6 +227,7 @@ static void large(void) {
  * indices, in one copy or in many. */
 static void claims(void) {
   const uint32_t total = 4294967295u;
+  uint32_t belong;
   size_t many, k = 100;
   for (uint32_t x = 0; x < 2; x++)
     for (size_t n = 64; n <= ROWS; n *= 4)
@@ -222,6 +249,10 @@ static void claims(void) {
              cwm_join_corrected(indices, k, k, t, a, 3 * k, b, CELLS, &written, wrong, k, &many), 1, (2 * 3 + 12) * k);
   }
   for (size_t i = 0; i < k; i++) indices[i] = i;
+  /* rows of one word each, of too few indices; and all data rows, of which none has to be rebuilt */
+  count_of("cwm_systematic_verify, too few of 2^32 - 1", CWM_TOO_FEW,
+           cwm_systematic_verify(indices, k, (uint8_t *)a, 8 * k, 8 * (k + 1), k + 1, total, 0, &belong), 1, 16 * k + 64);
+  count("cwm_systematic_decode, of 2^32 - 1", cwm_systematic_decode(indices, k, (uint8_t *)a, 8 * k, k, total, 0, (uint8_t *)b, 8 * k), 1, 16 * k + 64);
 }
 
 int main(void) {
@@ -232,7 +263,10 @@ int main(void) {
   domains();
   points();
   claims();
-  for (size_t i = 0; i < sizeof splits / sizeof *splits; i++) shards(splits[i][0], splits[i][1]);
+  for (size_t i = 0; i < sizeof splits / sizeof *splits; i++) {
+    shards(splits[i][0], splits[i][1]);
+    if (splits[i][1] <= 1000) systematic(splits[i][0], splits[i][1]);
+  }
   large();
   for (int i = 0; calls[i].name != NULL; i++) {
     printf("%-42s %5.2f of %5.2f%s\n", calls[i].name, calls[i].taken, calls[i].most, calls[i].taken > calls[i].most ? ", FAILED" : "");

@@ -78,5 +78,25 @@ int main(void) {
   WANT(cwm_join_bytes_corrected(indices, 3, 2, 3, NULL, 0, NULL, 0, &written, wrong, 3, &many) == CWM_INCONSISTENT);
   WANT(cwm_join_bytes_corrected(indices, 3, 2, 3, bytes, 3 * size, NULL, 0, &written, NULL, 0, &many) == CWM_WRONG_SIZE);
   WANT(cwm_join_bytes_corrected(NULL, 0, 2, 3, NULL, 0, NULL, 0, &written, NULL, 0, &many) == CWM_TOO_FEW);
+
+  /* systematic shards: no data, no parity rows, no rows and none that are wanted */
+  size_t row = 7, part = 7;
+  uint32_t mask = 7, belong = 7;
+  WANT(cwm_systematic_sizes(0, 2, 3, 1, &row, &part) == CWM_DONE && row == 0 && part == 0);
+  WANT(cwm_systematic_encode(NULL, 0, 2, 3, NULL, 0, &mask) == CWM_DONE && mask == 0);
+  WANT(cwm_systematic_encode(NULL, 0, 2, 3, bytes, 8, &mask) == CWM_WRONG_SIZE);
+  WANT(cwm_systematic_encode(encoded, 9, 2, 2, NULL, 0, &mask) == CWM_DONE && mask == 0);
+  WANT(cwm_systematic_encode(encoded, 9, 2, 3, NULL, 0, &mask) == CWM_WRONG_SIZE);
+  WANT(cwm_systematic_rebuild(NULL, 0, NULL, 0, 0, 2, 3, 0, NULL, 0, NULL, 0) == CWM_TOO_FEW);
+  WANT(cwm_systematic_rebuild(indices, 3, NULL, 0, 0, 2, 3, 0, NULL, 0, NULL, 0) == CWM_DONE);
+  WANT(cwm_systematic_rebuild(indices, 3, NULL, 0, 0, 2, 3, 0, indices, 3, NULL, 0) == CWM_DONE);
+  WANT(cwm_systematic_rebuild(indices, 3, NULL, 0, 9, 2, 3, 0, NULL, 0, NULL, 0) == CWM_WRONG_SIZE);
+  WANT(cwm_systematic_rebuild(NULL, 0, bytes, 8, 9, 2, 3, 0, NULL, 0, NULL, 0) == CWM_WRONG_SIZE);
+  WANT(cwm_systematic_rebuild(NULL, 0, NULL, 0, 9, 2, 3, 0, NULL, 0, block, 8) == CWM_WRONG_SIZE);
+  WANT(cwm_systematic_decode(NULL, 0, NULL, 0, 2, 3, 0, NULL, 0) == CWM_TOO_FEW);
+  WANT(cwm_systematic_decode(indices + 1, 2, NULL, 0, 2, 3, 0, NULL, 0) == CWM_DONE);
+  WANT(cwm_systematic_decode(NULL, 0, NULL, 0, 2, 3, 0, block, 9) == CWM_TOO_FEW);
+  WANT(cwm_systematic_verify(NULL, 0, NULL, 0, 0, 2, 3, 0, &belong) == CWM_TOO_FEW && belong == 7);
+  WANT(cwm_systematic_verify(indices, 3, NULL, 0, 0, 2, 3, 0, &belong) == CWM_DONE && belong == 1);
   return 0;
 }

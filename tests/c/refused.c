@@ -9,7 +9,7 @@
 #include <string.h>
 
 enum { ROWS = 512, COLS = 3, POINTS = 20, WORDS = 40, MIN = 3, TOTAL = 7, SHARD = 14, FEW = 3, SMALL = 16 };
-enum { BLOCK = 100, BLOCK_SHARD = 48 };
+enum { BLOCK = 100, BLOCK_SHARD = 48, ROW = 40, LOST = 2 };
 
 /* All that the calls are given. */
 struct given {
@@ -20,6 +20,8 @@ struct given {
   uint64_t values[POINTS], coefficients[FEW], rows[SMALL];
   size_t wrong[POINTS], count, many;
   uint8_t block[BLOCK], block_shards[TOTAL * BLOCK_SHARD], spoiled_bytes[TOTAL * BLOCK_SHARD];
+  uint32_t lost[LOST], mask, belong;
+  uint8_t rows_in_hand[TOTAL * ROW], out[LOST * ROW];
 };
 
 static struct given now, before, answer;
@@ -55,6 +57,21 @@ static uint32_t join_bytes_corrected(void) {
   return cwm_join_bytes_corrected(now.indices, TOTAL, MIN, TOTAL, now.spoiled_bytes, TOTAL * BLOCK_SHARD, now.block, BLOCK, &now.count,
                                   now.wrong, POINTS, &now.many);
 }
+static uint32_t systematic_sizes(void) { return cwm_systematic_sizes(BLOCK, MIN, TOTAL, 2, &now.count, &now.many); }
+static uint32_t systematic_encode(void) {
+  return cwm_systematic_encode(now.block, BLOCK, MIN, TOTAL, now.rows_in_hand + MIN * ROW, (TOTAL - MIN) * ROW, &now.mask);
+}
+/* The first data row and the last parity row are lost, and there is one more than is needed. */
+static uint32_t systematic_rebuild(void) {
+  return cwm_systematic_rebuild(now.indices + 1, MIN + 1, now.rows_in_hand + ROW, (MIN + 1) * ROW, BLOCK, MIN, TOTAL, now.mask, now.lost,
+                                LOST, now.out, LOST * ROW);
+}
+static uint32_t systematic_decode(void) {
+  return cwm_systematic_decode(now.indices + 1, MIN + 1, now.rows_in_hand + ROW, (MIN + 1) * ROW, MIN, TOTAL, now.mask, now.block, BLOCK);
+}
+static uint32_t systematic_verify(void) {
+  return cwm_systematic_verify(now.indices, TOTAL, now.rows_in_hand, TOTAL * ROW, BLOCK, MIN, TOTAL, now.mask, &now.belong);
+}
 static uint32_t shard_bytes_sizes(void) { return cwm_shard_bytes_sizes(BLOCK, MIN, TOTAL, &now.count); }
 
 static const struct {
@@ -68,11 +85,13 @@ static const struct {
     {"cwm_decode_poly", decode_poly, 0}, {"cwm_decode", decode, 1},     {"cwm_correct", correct, 1},
     {"cwm_join_corrected", join_corrected, 1}, {"cwm_join_bytes_corrected", join_bytes_corrected, 1},
     {"cwm_split_bytes", split_bytes, 1}, {"cwm_join_bytes", join_bytes, 1}, {"cwm_shard_bytes_sizes", shard_bytes_sizes, 0},
-    {"cwm_weights_at_roots, many", weights_at_many, 1},
+    {"cwm_weights_at_roots, many", weights_at_many, 1}, {"cwm_systematic_sizes", systematic_sizes, 0},
+    {"cwm_systematic_encode", systematic_encode, 1}, {"cwm_systematic_rebuild", systematic_rebuild, 1},
+    {"cwm_systematic_decode", systematic_decode, 1}, {"cwm_systematic_verify", systematic_verify, 1},
 };
 
 /* Words below P, a third of the rows missing, three coefficients in bytes, shards of words and of bytes with rising indices,
- * the same with one that is wrong, and values and rows of constants of which one is wrong. */
+ * the same with one that is wrong, values and rows of constants of which one is wrong, and systematic shards under a mask. */
 static int make(void) {
   for (int i = 0; i < ROWS * COLS; i++) before.cells[i] = (uint64_t)i * 0x9e3779b97f4a7c15 % CWM_MODULUS;
   for (int i = 0; i < ROWS; i++) before.filled[i] = i % 3 != 0;
@@ -81,12 +100,17 @@ static int make(void) {
   before.bytes[0] = 3;
   for (int i = 0; i < POINTS; i++) before.values[i] = 5 + (i == 4);
   for (int i = 0; i < SMALL; i++) before.rows[i] = 5 + (i == 4);
-  for (int i = 0; i < BLOCK; i++) before.block[i] = 3 * i;
+  for (int i = 0; i < BLOCK; i++) before.block[i] = i < 8 ? 255 : 3 * i;
+  before.lost[1] = TOTAL - 1, before.mask = before.belong = 7;
+  memcpy(before.rows_in_hand, before.block, BLOCK);
   size_t n = 0;
   int made = cwm_shard_bytes_sizes(BLOCK, MIN, TOTAL, &n) == CWM_DONE && n == BLOCK_SHARD
              && cwm_split_bytes(before.block, BLOCK, MIN, TOTAL, before.block_shards, TOTAL * BLOCK_SHARD) == CWM_DONE
              && cwm_shard_sizes(WORDS, MIN, TOTAL, &n) == CWM_DONE && n == SHARD
-             && cwm_split(before.data, WORDS, MIN, TOTAL, before.shards, TOTAL * SHARD) == CWM_DONE;
+             && cwm_split(before.data, WORDS, MIN, TOTAL, before.shards, TOTAL * SHARD) == CWM_DONE
+             && cwm_systematic_sizes(BLOCK, MIN, TOTAL, 0, &n, &before.count) == CWM_DONE && n == ROW
+             && cwm_systematic_encode(before.block, BLOCK, MIN, TOTAL, before.rows_in_hand + MIN * ROW, (TOTAL - MIN) * ROW,
+                                      &before.mask) == CWM_DONE && before.mask != 0;
   memcpy(before.spoiled, before.shards, sizeof before.spoiled);
   before.spoiled[2 * SHARD] ^= 1;
   memcpy(before.spoiled_bytes, before.block_shards, sizeof before.spoiled_bytes);
