@@ -2,10 +2,14 @@
 
 ghost use Rattle.std.specs.Prelude.{◌≡◌, ◌≢◌, ◌↔◌, ◌-◌, ◌*◌, ℕ, [], List, length};
 ghost use Rattle.std.specs.Prelude.{IsTrue, IfOk, IfErr, IfSome, IfNone, OnOk, OnErr};
-ghost use Rattle.systematic_shards.specs.declared.Error.TheVariants.{Conflict, Inconsistent, Mismatch, Sizes};
+ghost use Rattle.systematic_shards.specs.declared.Error.TheVariants.{Conflict, Inconsistent};
+ghost use Rattle.systematic_shards.specs.declared.Error.TheVariants.{Mismatch, Sizes};
 ghost use Rattle.systematic_shards.specs.declared.rows.Row.{Row};
 ghost use Rattle.systematic_shards.specs.declared.split.Split.{Split};
-ghost use Rattle.c_calls.specs.SystematicRows.{AreDecoded, AreEncoded, AreInHand, AreRebuilt, AreRowsOf, HaveRoom, HaveRowsFor, IsDecodeDueTo, IsDueTo, IsMemoryOrDue, IsSplitOf, IsVerified, width_of};
+ghost use Rattle.c_calls.specs.SystematicRows.{AreDecoded, AreEncoded, AreInHand, AreRebuilt};
+ghost use Rattle.c_calls.specs.SystematicRows.{AreRowsOf, HaveRoom, HaveRowsFor, IsDecodeDueTo};
+ghost use Rattle.c_calls.specs.SystematicRows.{IsDueTo, IsMemoryOrDue, IsSplitOf, IsVerified};
+ghost use Rattle.c_calls.specs.SystematicRows.{width_of};
 ghost use Rattle.c_calls.specs.WordShards.{IsSplit};
 
 mod in_hand;

@@ -2,8 +2,12 @@
 
 ghost use Rattle.std.specs.Prelude.{◌≡◌, ◌≢◌, ◌↔◌, ◌<◌, ◌≤◌, ◌-◌, ◌*◌, ◌⊎◌, [], length};
 ghost use Rattle.systematic_shards.specs.declared.split.Split.{Split};
-ghost use Rattle.c_calls.specs.Statuses.{done, inconsistent, mismatch, out_of_memory, wrong_index, wrong_size};
-ghost use Rattle.c_calls.specs.SystematicRows.{AreDecoded, AreEncoded, AreRebuilt, GivenRows, HaveRoom, HaveRowsFor, IsDecodeDueTo, IsDueTo, IsSplitOf, IsStatusWhere, IsVerified, TellsOfRows, bytes_in_row, width_of};
+ghost use Rattle.c_calls.specs.Statuses.{done, inconsistent, mismatch, out_of_memory};
+ghost use Rattle.c_calls.specs.Statuses.{wrong_index, wrong_size};
+ghost use Rattle.c_calls.specs.SystematicRows.{AreDecoded, AreEncoded, AreRebuilt, GivenRows};
+ghost use Rattle.c_calls.specs.SystematicRows.{HaveRoom, HaveRowsFor, IsDecodeDueTo, IsDueTo};
+ghost use Rattle.c_calls.specs.SystematicRows.{IsSplitOf, IsStatusWhere, IsVerified, TellsOfRows};
+ghost use Rattle.c_calls.specs.SystematicRows.{bytes_in_row, width_of};
 ghost use Rattle.c_calls.specs.WordShards.{IsSplit};
 
 use c_calls::shards::is_split;

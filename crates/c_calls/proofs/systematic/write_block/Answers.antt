@@ -1,4 +1,4 @@
-use Rattle.std.proofs.Common.{inr, sym, subst}
+use Rattle.std.proofs.Common.{sym, subst}
 use Rattle.std.proofs.lemmas.Result.{err_from_is_err_and}
 use Rattle.c_calls.specs.SystematicRows.{AreRowsOf}
 use Rattle.c_calls.proofs.SystematicRows.{not-of-decoded}
