@@ -1,5 +1,5 @@
 -- From what is recovered of copies of cells, and counted apart, to the cells and to the work of the caller.
-use Rattle.std.proofs.Common.{◌≡◌, ◌∙◌, ℕ, suc, ◌+◌, ◌-◌, ◌*◌, ◌/◌, ◌^◌, ◌<◌, ◌≤◌, List, Bool, length, min, subst, sym, refl, arith}
+use Rattle.std.proofs.Common.{◌≡◌, ◌∙◌, ℕ, suc, ◌+◌, ◌-◌, ◌*◌, ◌/◌, ◌^◌, ◌<◌, ◌≤◌, List, Bool, Option, Some, None, Result, Ok, Err, IfOk, IfSome, IfNone, OnOk, OnErr, length, min, subst, sym, arith}
 use Rattle.std.proofs.lemmas.List.Elements.{AllZip-get_or, length_all_zip}
 use Rattle.std.proofs.lemmas.Nat.{mul-add-lt}
 use Rattle.std.specs.List.{AllZip}
@@ -11,10 +11,9 @@ use Rattle.math_transforms.specs.Matrices.{MatrixOf}
 use Rattle.math_transforms.proofs.DomainSteps.{column-cell}
 use Rattle.math_transforms.proofs.MatrixRows.{length-column}
 use Rattle.math_transforms.proofs.PowersOfTwo.{power_of_two-same, power_of_two-word}
-use Rattle.math_ntt.specs.AddedWork.{AddsUpTo}
+use Rattle.math_ntt.specs.AddedWork.{AddsUpTo, HasRoom}
 use Rattle.math_ntt.proofs.AddedWork.{within-half}
-use Rattle.math_ntt.specs.Evaluations.{EvaluationsOf}
-use Rattle.math_ntt.specs.RecoveredRows.{AddsRecovery, AreRecovered, IsExactWork, IsRefusedWork}
+use Rattle.math_ntt.specs.RecoveredRows.{AreRecovered, IsExactWork, IsRefusedWork}
 use Rattle.math_ntt.proofs.RecoveryCounts.{whole-bound, whole-room}
 
 -- from v to w the work x is added, as far as it fits
@@ -39,14 +38,14 @@ added-within b p z x v w n h a = record {
 
 -- where there is room, all is added
 module _ (lg c : ℕ) (z x v w : WorkOf) (small : lg < 64) (fits : 2 ^ lg * c < 2 ^ 64) (n : IsNone z) (h : AddsWithin (2 ^ lg * lg * (3 * lg + 3 * c + 2)) (128 * 2 ^ lg) z x)
-    (a : IsAdded v x w) (room : v.butterflies ≤ 2 ^ 127) (product_room : v.root_products ≤ 2 ^ 127) where
+    (a : IsAdded v x w) (room : HasRoom v) where
   all-butterflies : w.butterflies ≡ v.butterflies + x.butterflies
   all-butterflies =
       let most : 2 ^ lg * lg * (3 * lg + 3 * c + 2) < 2 ^ 100 = rw (whole-bound lg c) at (whole-room lg c small fits) in
-      omega (arith, a.butterflies, h.no_more, n.butterflies, most, room)
+      omega (arith, a.butterflies, h.no_more, n.butterflies, most, room.butterflies)
 
   all-root_products : w.root_products ≡ v.root_products + x.root_products
-  all-root_products = omega (arith, a.root_products, h.no_more_products, n.root_products, power_of_two-word lg small, product_room)
+  all-root_products = omega (arith, a.root_products, h.no_more_products, n.root_products, power_of_two-word lg small, room.root_products)
 
   module _ {A : Type 0} (cells : List A) (m : MatrixOf A) (filled : List Bool) (rows : m.rows ≡ 2 ^ lg) (cols : c ≡ m.cols) where
     pub added-exact : IsExactWork lg (record { matrix = matrix_of (2 ^ lg) c cells; filled = filled }) z x → IsExactWork lg (record { matrix = m; filled = filled }) v w
@@ -71,22 +70,6 @@ module _ (lg c : ℕ) (z x v w : WorkOf) (small : lg < 64) (fits : 2 ^ lg * c < 
     })
 
 module _ {A : Type 0} where
-  -- what is refused before any of its work
-  pub refused-none : (lg : ℕ) (e : EvaluationsOf A) (v : WorkOf) → IsRefusedWork lg e v v
-  refused-none lg e v = record {
-    none_or_all = λ o. record { no_fewer = omega arith; no_more = omega arith; root_products = refl };
-    some = λ i j l. record { no_more = omega arith; no_more_products = omega arith; in_order = λ begun. absurd (omega arith) };
-  }
-
-  -- and more after it
-  pub recovery-then : (lg : ℕ) (e : EvaluationsOf A) (b p : ℕ) (u v w : WorkOf) → AddsRecovery lg e u v → AddsWithin b p v w → AddsRecovery lg e u w
-  recovery-then lg e b p u v w h k = record {
-    after = h.after;
-    first = h.first;
-    butterflies = omega (arith, h.butterflies, k.no_fewer);
-    root_products = omega (arith, h.root_products, k.no_fewer_products);
-  }
-
   module _ (R : RingOf A) (E : IsEquality R.same) (root : ℕ → A) (lg c : ℕ) (filled : List Bool) (cells copies new : List A) where
     abbrev IsRecovered : ℕ → List A → Type 0
     IsRecovered rows xs = AreRecovered R root (record { matrix = matrix_of rows c xs; filled = filled }) (matrix_of rows c new)
@@ -152,3 +135,32 @@ adds-few b p m c count v w l few h =
 pub several-at_any : (rows cols lg t : ℕ) (v w : WorkOf) → rows ≡ 2 ^ lg → AddsWithin (t * (2 ^ lg * lg * (3 * lg + 3 * cols + 2))) (t * (128 * 2 ^ lg)) v w
     → (m : ℕ) → rows ≡ 2 ^ m → AddsUpTo (t * (rows * m * (3 * m + 3 * cols + 2)) / 2) (t * (128 * rows)) v w
 several-at_any rows cols lg t v w e h m f = rw (← power_of_two-same lg m (sym e ∙ f), e) (within-half _ _ v w h)
+
+-- what holds at the lg of which a number is the power holds at any
+any-lg : (n lg : ℕ) (P : ℕ → Type 0) → n ≡ 2 ^ lg → P lg → (l : ℕ) → n ≡ 2 ^ l → P l
+any-lg n lg P e h l f = subst P (power_of_two-same lg l (sym e ∙ f)) h
+
+module _ {X E : Type 0} where
+  pub some-at_any : (r : Result (Option X) E) (n lg : ℕ) (P : X → ℕ → Type 0) → n ≡ 2 ^ lg → IfOk r (λ o. IfSome o (λ a. P a lg)) → IfOk r (λ o. IfSome o (λ a. (l : ℕ) → n ≡ 2 ^ l → P a l))
+  some-at_any (Ok (Some a)) n lg P e h = any-lg n lg (P a) e h
+  some-at_any (Ok None) n lg P e h = tt
+  some-at_any (Err _) n lg P e h = tt
+
+  pub some_if-at_any : (r : Result (Option X) E) (n lg : ℕ) (C : X → Type 0) (P : ℕ → Type 0) → n ≡ 2 ^ lg → IfOk r (λ o. IfSome o (λ a. C a → P lg))
+      → IfOk r (λ o. IfSome o (λ a. C a → (l : ℕ) → n ≡ 2 ^ l → P l))
+  some_if-at_any (Ok (Some a)) n lg C P e h = λ c. any-lg n lg P e (h c)
+  some_if-at_any (Ok None) n lg C P e h = tt
+  some_if-at_any (Err _) n lg C P e h = tt
+
+  pub none-at_any : (r : Result (Option X) E) (n lg : ℕ) (P : ℕ → Type 0) → n ≡ 2 ^ lg → IfOk r (λ o. IfNone o (P lg)) → IfOk r (λ o. IfNone o ((l : ℕ) → n ≡ 2 ^ l → P l))
+  none-at_any (Ok (Some _)) n lg P e h = tt
+  none-at_any (Ok None) n lg P e h = any-lg n lg P e h
+  none-at_any (Err _) n lg P e h = tt
+
+  pub ok-at_any : (r : Result X E) (n lg : ℕ) (P : ℕ → Type 0) → n ≡ 2 ^ lg → OnOk r (P lg) → OnOk r ((l : ℕ) → n ≡ 2 ^ l → P l)
+  ok-at_any (Ok _) n lg P e h = any-lg n lg P e h
+  ok-at_any (Err _) n lg P e h = tt
+
+  pub err-at_any : (r : Result X E) (n lg : ℕ) (P : ℕ → Type 0) → n ≡ 2 ^ lg → OnErr r (P lg) → OnErr r ((l : ℕ) → n ≡ 2 ^ l → P l)
+  err-at_any (Ok _) n lg P e h = tt
+  err-at_any (Err _) n lg P e h = any-lg n lg P e h

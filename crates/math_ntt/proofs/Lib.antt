@@ -6,6 +6,7 @@ pub mod MatrixPlaces
 pub mod ComparedTruths
 pub mod AddedWork
 pub mod RecoveryCounts
+pub mod RecoveryOutcomes
 pub mod RecoverySteps
 pub mod OneColumn
 pub mod RecoveredWholes

@@ -1,24 +1,17 @@
 -- From what is recovered and counted at a given lg to what is at the lg of any number of rows, and that nothing else fits.
-use Rattle.std.proofs.Common.{◌≡◌, ◌∙◌, ℕ, ◌+◌, ◌*◌, ◌/◌, ◌^◌, List, Bool, length, sym, subst}
+use Rattle.std.proofs.Common.{◌≡◌, ◌∙◌, ℕ, ◌^◌, List, Bool, length, sym, subst}
 use Rattle.math_theory.specs.Domains.{HasExactOrder, IsNoPower}
 use Rattle.math_theory.specs.Laws.{IsEquality, IsGroup, IsProduct, IsRing, IsField}
 use Rattle.math_theory.proofs.domains.CarriedDomains.{HasCoset-of_order-same}
 use Rattle.math_theory.proofs.recovery.CarriedRecovery.{fits_once-same}
 use Rattle.math_base.specs.Members.{RingOf}
-use Rattle.math_transforms.specs.CountedWork.{WorkOf, AddsWithin}
 use Rattle.math_transforms.specs.DomainValues.{matrix_of}
-use Rattle.math_ntt.specs.AddedWork.{AddsUpTo}
-use Rattle.math_ntt.proofs.AddedWork.{within-half}
 use Rattle.math_ntt.specs.Evaluations.{EvaluationsOf}
 use Rattle.math_transforms.specs.Matrices.{column_of}
 use Rattle.math_ntt.specs.RecoveredRows.{AreRecovered, AreOnlyRecovered}
 use Rattle.math_transforms.proofs.DomainSteps.{column-cell}
 use Rattle.math_transforms.proofs.MatrixRows.{length-column}
 use Rattle.math_transforms.proofs.PowersOfTwo.{power_of_two-same}
-
-pub most-at_any : (rows cols lg : ℕ) (v w : WorkOf) → rows ≡ 2 ^ lg → AddsWithin (2 ^ lg * lg * (3 * lg + 3 * cols + 2)) (128 * 2 ^ lg) v w
-    → (m : ℕ) → rows ≡ 2 ^ m → AddsUpTo (rows * m * (3 * m + 3 * cols + 2) / 2) (128 * rows) v w
-most-at_any rows cols lg v w e h m f = rw (← power_of_two-same lg m (sym e ∙ f), e) (within-half _ _ v w h)
 
 module _ {A : Type 0} where
   abbrev pub evaluations : ℕ → ℕ → List A → List Bool → EvaluationsOf A

@@ -1,5 +1,5 @@
 -- What a recovery counts: the tree, and the transforms.
-use Rattle.std.proofs.Common.{◌≡◌, ◌≢◌, ℕ, zero, suc, ◌+◌, ◌-◌, ◌*◌, ◌^◌, ◌<◌, ◌≤◌, mul-le-mul, arith}
+use Rattle.std.proofs.Common.{◌≡◌, ℕ, zero, suc, ◌+◌, ◌-◌, ◌*◌, ◌^◌, ◌<◌, ◌≤◌, mul-le-mul, arith}
 use Rattle.math_transforms.proofs.PowersOfTwo.{power_of_two-word}
 use Rattle.math_transforms.proofs.TreeCounts.{merges-room}
 
@@ -30,6 +30,6 @@ whole-room lg c h l =
     omega (arith, merges-room lg h, transform-room lg c h l, column-room lg h)
 
 -- where some points are filled and some are not, there are two points or more
-pub some_levels : (lg filled missing : ℕ) → filled + missing ≡ 2 ^ lg → filled ≢ 0 → filled ≢ 2 ^ lg → 0 < lg
+pub some_levels : (lg filled missing : ℕ) → filled + missing ≡ 2 ^ lg → 0 < filled → 0 < missing → 0 < lg
 some_levels zero filled missing e h k = absurd (omega (arith, e, h, k))
 some_levels (suc lg) filled missing e h k = omega arith

@@ -1,12 +1,21 @@
 -- Values at the points of a domain, a row a point, some of which are filled.
-use Rattle.std.specs.Prelude.{◌≡◌, ℕ, ◌+◌, ◌*◌, List, Bool, ◌++◌, length, take, drop, slice_set, true}
+use Rattle.std.specs.Prelude.{◌≡◌, ℕ, ◌+◌, ◌*◌, ◌<◌, ◌≤◌, List, Bool, ◌++◌, length, take, drop, slice_set, true}
 use Rattle.std.specs.List.{AllZip}
 use Rattle.math_transforms.specs.Matrices.{MatrixOf, AreSameMatrices}
+
+-- lg is at most the greatest one and below 64
+pub record IsDomainLg (greatest lg : ℕ) : Type 0 where
+  pub domain : lg ≤ greatest
+  pub small : lg < 64
 
 -- a matrix, and for each of its rows whether it is filled
 pub record EvaluationsOf (A : Type 0) : Type 0 where
   pub matrix : MatrixOf A
   pub filled : List Bool
+
+-- the cells of m, and for each of its rows whether it is filled
+abbrev pub evaluations_of : {A : Type 0} → MatrixOf A → List Bool → EvaluationsOf A
+evaluations_of m filled = record { matrix = m; filled = filled }
 
 -- the matrix with these items in place of the first cells of row i
 abbrev with_first_cells : {A : Type 0} → MatrixOf A → ℕ → List A → MatrixOf A

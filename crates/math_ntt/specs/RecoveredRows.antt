@@ -1,5 +1,5 @@
 -- Rows of values of which some are filled, and the polynomials that are recovered from them.
-use Rattle.std.specs.Prelude.{◌≡◌, ℕ, ◌+◌, ◌*◌, ◌<◌, ◌≤◌, ◌^◌, ◌⊎◌, List, length, slice_index_or}
+use Rattle.std.specs.Prelude.{◌≡◌, ℕ, ◌+◌, ◌*◌, ◌<◌, ◌≤◌, ◌^◌, ◌⊎◌, Bool, List, length, slice_index_or, IsTrue}
 use Rattle.math_theory.specs.Powers.{power}
 use Rattle.math_theory.specs.Recovery.{Fits, count_true}
 use Rattle.math_base.specs.Members.{RingOf}
@@ -9,7 +9,7 @@ use Rattle.math_transforms.specs.CountedWork.{WorkOf, AddsAtMost}
 use Rattle.math_transforms.specs.DomainValues.{matrix_of}
 use Rattle.math_ntt.specs.AddedWork.{AddsInOrder, AddsNoneOrAll}
 use Rattle.math_ntt.specs.Evaluations.{EvaluationsOf}
-use Rattle.math_transforms.specs.Matrices.{MatrixOf, column_of, cell_of}
+use Rattle.math_transforms.specs.Matrices.{MatrixOf, IsOfSize, column_of, cell_of}
 use Rattle.math_transforms.specs.MissingPoints.{count_false}
 
 -- where there are 2^lg rows, column k of v fits column k of the cells and the filled rows, at the powers of root lg
@@ -94,3 +94,19 @@ pub record AddsRecovery {A : Type 0} (lg : ℕ) (e : EvaluationsOf A) (v w : Wor
   pub first : IsExactWork lg e v after
   pub butterflies : after.butterflies ≤ w.butterflies
   pub root_products : after.root_products ≤ w.root_products
+
+-- m has the size of e and the polynomials that are recovered from it
+pub record IsRecoveredFrom {A : Type 0} (R : RingOf A) (root : ℕ → A) (e : EvaluationsOf A) (m : MatrixOf A) : Type 0 where
+  pub size : IsOfSize m e.matrix.rows e.matrix.cols
+  pub fits : AreRecovered R root e m
+
+-- a recovery of 2^lg rows that succeeds, from v to w: m has the polynomials
+pub record IsRecovery {A : Type 0} (R : RingOf A) (root : ℕ → A) (lg : ℕ) (e : EvaluationsOf A) (m : MatrixOf A) (v w : WorkOf) : Type 0 where
+  pub fits : AreRecovered R root e m
+  pub exact : IsExactWork lg e v w
+
+-- a recovery of 2^lg rows that is refused, from v to w; where calls on elements never are, and no row or all rows are filled, it has not begun
+pub record IsRefusal {A : Type 0} (never : Bool) (lg : ℕ) (e : EvaluationsOf A) (v w : WorkOf) : Type 0 where
+  pub refused : IsRefusedWork lg e v w
+  pub unbegun : IsTrue never → (count_true e.filled ≡ 0) ⊎ (count_false e.filled ≡ 0) → w ≡ v
+  pub late : IsTrue never → IsLateWork lg e v w

@@ -34,16 +34,16 @@ ghost use Rattle.std.specs.Prelude.{
 };
 ghost use Rattle.std.specs.List.{All, Contains, filter};
 ghost use Rattle.math_theory.specs.Recovery.{count_true, filled_places};
-ghost use Rattle.math_transforms.specs.CountedWork.{AddsWithin};
 ghost use Rattle.math_transforms.specs.DomainValues.{HasDomain};
-ghost use Rattle.math_transforms.specs.Matrices.{cell_of, IsOfSize};
-ghost use Rattle.math_ntt.specs.AddedWork.{AddsUpTo};
+ghost use Rattle.math_transforms.specs.Matrices.{cell_of};
+ghost use Rattle.math_ntt.specs.AddedWork.{AddsOneRecovery, AddsRecoveries, AddsUpTo, HasRoom};
 ghost use Rattle.math_ntt.specs.CorrectedRows.{AreWithinRadius, IsCorrected};
+ghost use Rattle.math_ntt.specs.Evaluations.{evaluations_of, IsDomainLg};
 ghost use Rattle.math_ntt.specs.NarrowedRows.{IsNarrowed, IsNear};
 ghost use Rattle.math_ntt.specs.RecoveredRows.{
   AddsRecovery,
-  AreRecovered,
   IsExactWork,
+  IsRecoveredFrom,
   IsRefusedWork,
 };
 
@@ -159,8 +159,7 @@ impl<F: FieldNTT> EvaluationVector<F> {
     {
         let EvaluationVector { matrix, filled } = self;
         let lg = lg_of(matrix.rows);
-        let out = without_wrong_rows(alloc, &matrix, filled, count, lg, work)?;
-        Ok(out)
+        without_wrong_rows(alloc, &matrix, filled, count, lg, work)
     }
 }
 
@@ -173,32 +172,25 @@ fn without_wrong_rows<F: FieldNTT>(
     lg: u8,
     work: &mut Work,
 ) -> Mem<Option<Corrected<F>>>
-    requires domain { lg ≤ F.MAX_LG_ROOT_ORDER }
-    requires small { lg < 64 }
+    requires lg { IsDomainLg F.MAX_LG_ROOT_ORDER lg }
     requires rows { matrix.now.rows ≡ 2 ^ lg }
     requires full { length matrix.now.cells ≡ matrix.now.rows * matrix.now.cols }
     requires marks { length filled ≡ 2 ^ lg }
     requires count { count ≤ count_true filled }
-    requires room { work.old.butterflies ≤ 2 ^ 127 }
-    requires product_room { work.old.root_products ≤ 2 ^ 127 }
-    ensures found { IfOk result (λ answer. IfSome answer (λ c.
-        (l : ℕ) → matrix.now.rows ≡ 2 ^ l → IsCorrected F.Ring (F.root l)
-        (record { matrix = matrix.now; filled = filled }) count c.polynomials c.wrong.items)) }
-    ensures none { IfOk result (λ answer. IfNone answer (
-        (l : ℕ) → matrix.now.rows ≡ 2 ^ l → (a : ℕ → List F)
-        → ¬ (AreWithinRadius F.Ring (F.root l)
-        (record { matrix = matrix.now; filled = filled }) count a))) }
-    ensures most { let recoveries = (count_true filled - count) / 2 + 1 in
-        AddsWithin (recoveries * (2 ^ lg * lg * (3 * lg + 3 * matrix.now.cols + 2)))
-        (recoveries * (128 * 2 ^ lg)) work.old work.new }
+    requires room { HasRoom work.old }
+    ensures found { IfOk result (λ answer. IfSome answer (λ c. IsCorrected F.Ring (F.root lg)
+        (evaluations_of matrix.now filled) count c.polynomials c.wrong.items)) }
+    ensures none { IfOk result (λ answer. IfNone answer ((a : ℕ → List F)
+        → ¬ (AreWithinRadius F.Ring (F.root lg) (evaluations_of matrix.now filled) count a))) }
+    ensures most { AddsRecoveries ((count_true filled - count) / 2 + 1) lg matrix.now.cols
+        work.old work.new }
     ensures exact { IfOk result (λ answer. IfSome answer (λ c. c.wrong.items ≡ []
-        → (l : ℕ) → matrix.now.rows ≡ 2 ^ l
-        → IsExactWork l (record { matrix = matrix.now; filled = filled }) work.old work.new)) }
-    ensures least { OnOk result ((l : ℕ) → matrix.now.rows ≡ 2 ^ l
-        → AddsRecovery l (record { matrix = matrix.now; filled = filled }) work.old work.new) }
-    ensures refused { OnErr result ((l : ℕ) → matrix.now.rows ≡ 2 ^ l
-        → IsRefusedWork l (record { matrix = matrix.now; filled = filled }) work.old work.new
-        ⊎ AddsRecovery l (record { matrix = matrix.now; filled = filled }) work.old work.new) }
+        → IsExactWork lg (evaluations_of matrix.now filled) work.old work.new)) }
+    ensures least { OnOk result
+        (AddsRecovery lg (evaluations_of matrix.now filled) work.old work.new) }
+    ensures refused { OnErr result
+        (IsRefusedWork lg (evaluations_of matrix.now filled) work.old work.new
+        ⊎ AddsRecovery lg (evaluations_of matrix.now filled) work.old work.new) }
 {
     let rows = filled.non_vanishing_indices(alloc)?;
     let most = (rows.len() - count) / 2;
@@ -231,21 +223,16 @@ fn recovered_copy<F: FieldNTT>(
     lg: u8,
     work: &mut Work,
 ) -> Mem<Matrix<F>>
-    requires domain { lg ≤ F.MAX_LG_ROOT_ORDER }
-    requires small { lg < 64 }
+    requires lg { IsDomainLg F.MAX_LG_ROOT_ORDER lg }
     requires rows { matrix.now.rows ≡ 2 ^ lg }
     requires marks { length filled.now ≡ 2 ^ lg }
-    ensures size { IfOk result (λ v. IsOfSize v matrix.now.rows matrix.now.cols) }
-    ensures fits { IfOk result (λ v. AreRecovered F.Ring F.root
-        (record { matrix = matrix.now; filled = filled.now }) v) }
-    ensures most { AddsWithin (2 ^ lg * lg * (3 * lg + 3 * matrix.now.cols + 2))
-        (128 * 2 ^ lg) work.old work.new }
-    ensures exact { IfOk result (λ _. work.old.butterflies ≤ 2 ^ 127
-        → work.old.root_products ≤ 2 ^ 127 → IsExactWork lg
-        (record { matrix = matrix.now; filled = filled.now }) work.old work.new) }
-    ensures refused { OnErr result (work.old.butterflies ≤ 2 ^ 127
-        → work.old.root_products ≤ 2 ^ 127 → IsRefusedWork lg
-        (record { matrix = matrix.now; filled = filled.now }) work.old work.new) }
+    ensures polynomials { IfOk result (λ v.
+        IsRecoveredFrom F.Ring F.root (evaluations_of matrix.now filled.now) v) }
+    ensures most { AddsOneRecovery lg matrix.now.cols work.old work.new }
+    ensures exact { OnOk result (HasRoom work.old
+        → IsExactWork lg (evaluations_of matrix.now filled.now) work.old work.new) }
+    ensures refused { OnErr result (HasRoom work.old
+        → IsRefusedWork lg (evaluations_of matrix.now filled.now) work.old work.new) }
 {
     let mut cells = copies(alloc, &matrix.cells)?;
     let mut counted = Work::new();
@@ -307,16 +294,15 @@ fn narrowed<F: FieldNTT>(
     count: usize,
     lg: u8,
 ) -> Mem<Option<VanishingPoints>>
-    requires domain { lg ≤ F.MAX_LG_ROOT_ORDER }
-    requires small { lg < 64 }
+    requires lg { IsDomainLg F.MAX_LG_ROOT_ORDER lg }
     requires rows { matrix.now.rows ≡ 2 ^ lg }
     requires marks { length filled.now ≡ 2 ^ lg }
     requires column { column < matrix.now.cols }
     requires count { count ≤ count_true filled.now }
     ensures some { IfOk result (λ answer. IfSome answer (λ left. IsNarrowed F.Ring (F.root lg)
-        (record { matrix = matrix.now; filled = filled.now }) column count left)) }
+        (evaluations_of matrix.now filled.now) column count left)) }
     ensures none { IfOk result (λ answer. IfNone answer ((p : List F) → ¬ (IsNear F.Ring (F.root lg)
-        (record { matrix = matrix.now; filled = filled.now }) column count p))) }
+        (evaluations_of matrix.now filled.now) column count p))) }
 {
     let rows = filled.non_vanishing_indices(alloc)?;
     let powers = domain_points::<F>(alloc, lg)?;

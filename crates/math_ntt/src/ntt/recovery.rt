@@ -34,12 +34,13 @@ ghost use Rattle.std.specs.Prelude.{
 ghost use Rattle.std.specs.List.{All};
 ghost use Rattle.math_theory.specs.Recovery.{count_true};
 ghost use Rattle.math_transforms.specs.CosetValues.{AreMovedValues};
-ghost use Rattle.math_transforms.specs.CountedWork.{AddsAtMost, AddsWithin};
+ghost use Rattle.math_transforms.specs.CountedWork.{AddsAtMost};
 ghost use Rattle.math_transforms.specs.DomainValues.{matrix_of, AreValuesAtPowers, HasDomain};
 ghost use Rattle.math_transforms.specs.Matrices.{IsOfSize};
 ghost use Rattle.math_transforms.specs.MissingPoints.{count_false};
 ghost use Rattle.math_transforms.specs.RootTrees.{IsTreeOf};
-ghost use Rattle.math_ntt.specs.AddedWork.{AddsInOrder, AddsNoneOrAll, AddsUpTo};
+ghost use Rattle.math_ntt.specs.AddedWork.{AddsOneRecovery, AddsUpTo, HasRoom, IsOneTransform};
+ghost use Rattle.math_ntt.specs.Evaluations.{evaluations_of, IsDomainLg};
 ghost use Rattle.math_ntt.specs.RecoveredRows.{
   AreDivided,
   AreQuotientsOfValues,
@@ -47,6 +48,8 @@ ghost use Rattle.math_ntt.specs.RecoveredRows.{
   AreOnlyRecovered,
   IsExactWork,
   IsLateWork,
+  IsRecovery,
+  IsRefusal,
   IsRefusedWork,
 };
 
@@ -170,31 +173,17 @@ pub(super) fn recovered_cells<F: FieldNTT>(
     lg: u8,
     work: &mut Work,
 ) -> Mem<()>
-    requires domain { lg ≤ F.MAX_LG_ROOT_ORDER }
-    requires small { lg < 64 }
+    requires lg { IsDomainLg F.MAX_LG_ROOT_ORDER lg }
     requires size { length cells.old ≡ 2 ^ lg * cols }
     requires points { length points.now ≡ 2 ^ lg }
-    requires room { work.old.butterflies ≤ 2 ^ 127 }
-    requires product_room { work.old.root_products ≤ 2 ^ 127 }
+    requires room { HasRoom work.old }
     requires fits { 2 ^ lg * cols < 2 ^ 64 }
-    ensures size { length cells.new ≡ length cells.old }
-    ensures fits { OnOk result (AreRecovered F.Ring F.root
-        (record { matrix = matrix_of (2 ^ lg) cols cells.old; filled = points.now })
-        (matrix_of (2 ^ lg) cols cells.new)) }
-    ensures most { AddsWithin (2 ^ lg * lg * (3 * lg + 3 * cols + 2))
-        (128 * 2 ^ lg) work.old work.new }
-    ensures exact { OnOk result (IsExactWork lg
-        (record { matrix = matrix_of (2 ^ lg) cols cells.old; filled = points.now }) work.old
-        work.new) }
-    ensures refused { OnErr result (IsRefusedWork lg
-        (record { matrix = matrix_of (2 ^ lg) cols cells.old; filled = points.now }) work.old
-        work.new) }
-    ensures unbegun { IsTrue F.NEVER_REFUSES
-        → (count_true points.now ≡ 0) ⊎ (count_false points.now ≡ 0)
-        → OnErr result (work.new ≡ work.old) }
-    ensures late { OnErr result (IsTrue F.NEVER_REFUSES → IsLateWork lg
-        (record { matrix = matrix_of (2 ^ lg) cols cells.old; filled = points.now }) work.old
-        work.new) }
+    ensures recovered { OnOk result (IsRecovery F.Ring F.root lg
+        (evaluations_of (matrix_of (2 ^ lg) cols cells.old) points.now)
+        (matrix_of (2 ^ lg) cols cells.new) work.old work.new) }
+    ensures refused { OnErr result (IsRefusal F.NEVER_REFUSES lg
+        (evaluations_of (matrix_of (2 ^ lg) cols cells.old) points.now) work.old work.new) }
+    ensures most { AddsOneRecovery lg cols work.old work.new }
 {
     let filled = points.count_non_vanishing() as usize;
     if filled == 0 {
@@ -229,18 +218,13 @@ fn interpolated<F: FieldNTT>(
     lg: u8,
     work: &mut Work,
 ) -> Mem<()>
-    requires domain { lg ≤ F.MAX_LG_ROOT_ORDER }
-    requires small { lg < 64 }
+    requires lg { IsDomainLg F.MAX_LG_ROOT_ORDER lg }
     requires size { length cells.old ≡ 2 ^ lg * cols }
     requires room { 2 * work.old.butterflies + cols * 2 ^ lg * lg < 2 ^ 129 }
-    ensures size { length cells.new ≡ length cells.old }
     ensures values { OnOk result
         (AreValuesAtPowers F.Ring (F.root lg) (matrix_of (2 ^ lg) cols cells.new)
         (matrix_of (2 ^ lg) cols cells.old)) }
-    ensures counted { OnOk result
-        (2 * work.new.butterflies ≡ 2 * work.old.butterflies + cols * 2 ^ lg * lg) }
-    ensures bounded { AddsAtMost (cols * 2 ^ lg * lg) work.old work.new }
-    ensures unbegun { IsTrue F.NEVER_REFUSES → OnErr result (work.new ≡ work.old) }
+    ensures work { IsOneTransform F.NEVER_REFUSES (cols * 2 ^ lg * lg) result work.old work.new }
 {
     let table = interpolation_table(alloc, lg)?;
     interpolate_rows(alloc, cells, cols, lg, &table, work)?;
@@ -259,8 +243,7 @@ fn moved_to_coset<F: FieldNTT>(
     coset: &[F],
     work: &mut Work,
 ) -> Mem<()>
-    requires domain { lg ≤ F.MAX_LG_ROOT_ORDER }
-    requires small { lg < 64 }
+    requires lg { IsDomainLg F.MAX_LG_ROOT_ORDER lg }
     requires some { 0 < lg }
     requires size { length cells.old ≡ 2 ^ lg * cols }
     requires vanishing_size { length vanishing.old ≡ 2 ^ lg }
@@ -268,8 +251,6 @@ fn moved_to_coset<F: FieldNTT>(
         (λ l. F.inverse (F.root l)) F.one lg interpolation.now }
     requires coset { IsTreeOf F.Ring F.root F.shift lg coset.now }
     requires room { 2 * work.old.butterflies + (cols + cols + 2) * 2 ^ lg * lg < 2 ^ 129 }
-    ensures size { length cells.new ≡ length cells.old }
-    ensures vanishing_size { length vanishing.new ≡ length vanishing.old }
     ensures cells { OnOk result
         (AreMovedValues F.Ring (F.root lg) F.shift lg cols cells.old cells.new) }
     ensures vanishing { OnOk result
@@ -297,21 +278,16 @@ fn quotients_from_coset<F: FieldNTT>(
     back: &[F],
     work: &mut Work,
 ) -> Mem<()>
-    requires domain { lg ≤ F.MAX_LG_ROOT_ORDER }
-    requires small { lg < 64 }
+    requires lg { IsDomainLg F.MAX_LG_ROOT_ORDER lg }
     requires some { 0 < lg }
     requires size { length cells.old ≡ 2 ^ lg * cols }
     requires divisors { length divisors.now ≡ 2 ^ lg }
     requires back { IsTreeOf F.Ring
         (λ l. F.inverse (F.root l)) (F.inverse F.shift) lg back.now }
     requires room { 2 * work.old.butterflies + cols * 2 ^ lg * lg < 2 ^ 129 }
-    ensures size { length cells.new ≡ length cells.old }
     ensures quotients { OnOk result (AreQuotientsOfValues F.Ring (F.root lg) F.shift lg cols
         cells.old divisors.now cells.new) }
-    ensures counted { OnOk result
-        (2 * work.new.butterflies ≡ 2 * work.old.butterflies + cols * 2 ^ lg * lg) }
-    ensures bounded { AddsAtMost (cols * 2 ^ lg * lg) work.old work.new }
-    ensures unbegun { OnErr result (IsTrue F.NEVER_REFUSES → work.new ≡ work.old) }
+    ensures work { IsOneTransform F.NEVER_REFUSES (cols * 2 ^ lg * lg) result work.old work.new }
 {
     let numerator = size_inverse(alloc, lg)?;
     let inverses = quotients(alloc, numerator, divisors)?;
@@ -338,8 +314,7 @@ fn divided<F: FieldNTT>(
     interpolation: &mut [F],
     work: &mut Work,
 ) -> Mem<()>
-    requires domain { lg ≤ F.MAX_LG_ROOT_ORDER }
-    requires small { lg < 64 }
+    requires lg { IsDomainLg F.MAX_LG_ROOT_ORDER lg }
     requires some { 0 < lg }
     requires size { length cells.old ≡ 2 ^ lg * cols }
     requires vanishing_size { length vanishing.old ≡ 2 ^ lg }
@@ -347,7 +322,6 @@ fn divided<F: FieldNTT>(
     requires interpolation { IsTreeOf F.Ring
         (λ l. F.inverse (F.root l)) F.one lg interpolation.old }
     requires room { 2 * work.old.butterflies + (3 * cols + 3) * 2 ^ lg * lg < 2 ^ 129 }
-    ensures size { length cells.new ≡ length cells.old }
     ensures divided { OnOk result (AreDivided F.Ring (F.root lg) F.shift (2 ^ lg) cols
         cells.old vanishing.old cells.new) }
     ensures counted { OnOk result (2 * work.new.butterflies
@@ -392,32 +366,19 @@ fn recovered<F: FieldNTT>(
     lg: u8,
     work: &mut Work,
 ) -> Mem<()>
-    requires domain { lg ≤ F.MAX_LG_ROOT_ORDER }
-    requires small { lg < 64 }
+    requires lg { IsDomainLg F.MAX_LG_ROOT_ORDER lg }
     requires size { length cells.old ≡ 2 ^ lg * cols }
     requires points { length points.now ≡ 2 ^ lg }
-    requires many { 0 < lg }
     requires some { 0 < count_true points.now }
-    requires room { work.old.butterflies ≤ 2 ^ 127 }
-    requires product_room { work.old.root_products ≤ 2 ^ 127 }
+    requires missing { 0 < count_false points.now }
+    requires room { HasRoom work.old }
     requires fits { 2 ^ lg * cols < 2 ^ 64 }
-    ensures size { length cells.new ≡ length cells.old }
-    ensures fits { OnOk result (AreRecovered F.Ring F.root
-        (record { matrix = matrix_of (2 ^ lg) cols cells.old; filled = points.now })
-        (matrix_of (2 ^ lg) cols cells.new)) }
-    ensures most { AddsWithin (2 ^ lg * lg * (3 * lg + 3 * cols + 2))
-        (128 * 2 ^ lg) work.old work.new }
-    ensures butterflies { OnOk result (lg ≤ 8 → 2 * work.new.butterflies
-        ≡ 2 * work.old.butterflies + 2 ^ lg * lg * (3 * cols + 3)) }
-    ensures root_products { OnOk result (lg ≤ 8 → 2 * work.new.root_products
-        ≡ 2 * work.old.root_products + count_false points.now * (count_false points.now + 1)) }
-    ensures no_fewer { OnOk result (2 * work.old.butterflies + 2 ^ lg * lg * (3 * cols + 3)
-        ≤ 2 * work.new.butterflies) }
-    ensures refused { OnErr result (lg ≤ 8 → AddsInOrder (2 ^ lg * lg * (3 * cols + 3))
-        (count_false points.now * (count_false points.now + 1)) work.old work.new) }
-    ensures late { OnErr result (IsTrue F.NEVER_REFUSES → lg ≤ 8
-        → AddsNoneOrAll (2 ^ lg * lg * (2 * cols + 3))
-        (count_false points.now * (count_false points.now + 1)) work.old work.new) }
+    ensures recovered { OnOk result (IsRecovery F.Ring F.root lg
+        (evaluations_of (matrix_of (2 ^ lg) cols cells.old) points.now)
+        (matrix_of (2 ^ lg) cols cells.new) work.old work.new) }
+    ensures refused { OnErr result (IsRefusal F.NEVER_REFUSES lg
+        (evaluations_of (matrix_of (2 ^ lg) cols cells.old) points.now) work.old work.new) }
+    ensures most { AddsOneRecovery lg cols work.old work.new }
 {
     let mut evaluation = evaluation_table(alloc, lg)?;
     let mut interpolation = interpolation_table(alloc, lg)?;

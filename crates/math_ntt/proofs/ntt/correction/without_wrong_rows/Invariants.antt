@@ -1,9 +1,9 @@
-use Rattle.std.proofs.Common.{◌≡◌, ◌+◌, ◌-◌, ◌*◌, ◌^◌, ◌≤◌}
+use Rattle.std.proofs.Common.{◌≡◌, ◌+◌, ◌-◌}
 use Rattle.math_theory.specs.Recovery.{count_true}
 use Rattle.math_base.specs.Members.{RingOf}
-use Rattle.math_transforms.specs.CountedWork.{AddsWithin}
 use Rattle.math_base.proofs.Members.{ring_members}
-use Rattle.math_ntt.specs.Evaluations.{EvaluationsOf}
+use Rattle.math_ntt.specs.AddedWork.{AddsRecoveries}
+use Rattle.math_ntt.specs.Evaluations.{EvaluationsOf, evaluations_of}
 use Rattle.math_ntt.specs.RecoveredRows.{AddsRecovery, IsExactWork}
 use Rattle.math_ntt.proofs.CorrectionStates.{IsState}
 use Rattle.math_ntt.proofs.ntt.correction.without_wrong_rows.Given as goal
@@ -12,12 +12,11 @@ use Rattle.math_ntt.proofs.ntt.correction.without_wrong_rows.Given as goal
 abbrev pub invariant-loop-polynomials : goal.invariant-loop-polynomials
 invariant-loop-polynomials g l =
     let R : RingOf g.row.F.Denot = ring_members g.F.Multiplicative.product g.F.Debug.debug_output g.F.Object.same g.F.Object.NEVER_REFUSES g.F.Additive.zero g.F.Additive.sum g.F.Additive.negative g.F.Ring.one in
-    let e : EvaluationsOf g.row.F.Denot = record { matrix = l.matrix; filled = l.fn.filled } in
-    let recoveries = 1 + (count_true e.filled - count_true l.left) in
+    let e : EvaluationsOf g.row.F.Denot = evaluations_of l.matrix l.fn.filled in
     record {
       state : IsState R g.F.FieldNTT.root l.lg e l.count l.left l.polynomials;
-      work : AddsWithin (recoveries * (2 ^ l.lg * l.lg * (3 * l.lg + 3 * e.matrix.cols + 2))) (recoveries * (128 * 2 ^ l.lg)) l.fn.work l.work;
-      exact : count_true l.left ≡ count_true e.filled → l.fn.work.butterflies ≤ 2 ^ 127 → l.fn.work.root_products ≤ 2 ^ 127 → IsExactWork l.lg e l.fn.work l.work;
+      work : AddsRecoveries (1 + (count_true e.filled - count_true l.left)) l.lg e.matrix.cols l.fn.work l.work;
+      exact : count_true l.left ≡ count_true e.filled → IsExactWork l.lg e l.fn.work l.work;
       least : AddsRecovery l.lg e l.fn.work l.work;
     }
 

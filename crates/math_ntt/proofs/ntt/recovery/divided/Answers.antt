@@ -11,8 +11,8 @@ pub evaluate_below-requires-clause-points : goal.evaluate_below-requires-clause-
 evaluate_below-requires-clause-points g c =
     let R = ring_members g.F.Multiplicative.product g.F.Debug.debug_output g.F.Object.same g.F.Object.NEVER_REFUSES g.F.Additive.zero g.F.Additive.sum g.F.Additive.negative g.F.Ring.one in
     let F = g.met.F in
-    all-points R F.Object.equality F.Additive.group F.Multiplicative.commutes F.Ring.ring g.F.FieldNTT.root g.F.Ring.one _ _ refl c.requires.domain c.requires.small
-    (λ l within. F.FieldNTT.roots.square l (omega (arith, within, c.requires.domain))) c.requires.evaluation
+    all-points R F.Object.equality F.Additive.group F.Multiplicative.commutes F.Ring.ring g.F.FieldNTT.root g.F.Ring.one _ _ refl c.requires.lg.domain c.requires.lg.small
+    (λ l within. F.FieldNTT.roots.square l (omega (arith, within, c.requires.lg.domain))) c.requires.evaluation
 
 pub start_at-requires-clause-size : goal.start_at-requires-clause-size
 start_at-requires-clause-size g c = c.requires.evaluation.count
@@ -35,7 +35,7 @@ returns-clause-divided g c =
     let lg = c.args.lg in
     let n = 2 ^ lg in
     let root = g.F.FieldNTT.root in
-    let order = F.FieldNTT.roots.order lg c.requires.domain in
+    let order = F.FieldNTT.roots.order lg c.requires.lg.domain in
     let v = c.args.vanishing.now in
     let values = c.evaluate_below.new.cells in
     let long : length values ≡ n = c.evaluate_below.auto.cells ∙ c.requires.vanishing_size in
@@ -72,10 +72,10 @@ pub returns-in_err-start_at-2-clause-refused : goal.returns-in_err-start_at-2-cl
 returns-in_err-start_at-2-clause-refused g c = on-err c.from_residual-in_err-start_at-2.result (omega (arith, some-cells 1 c.args.lg (let h : 1 ≢ 0 = omega arith in h) (omega arith), c.in_ok-evaluate_below.ensures.counted, c.in_ok-moved_to_coset.ensures.bounded.no_fewer))
 
 pub returns-in_err-quotients_from_coset-clause-refused : goal.returns-in_err-quotients_from_coset-clause-refused
-returns-in_err-quotients_from_coset-clause-refused g c = on-err c.from_residual-in_err-quotients_from_coset.result (omega (arith, some-cells 1 c.args.lg (let h : 1 ≢ 0 = omega arith in h) (omega arith), c.in_ok-evaluate_below.ensures.counted, c.in_ok-moved_to_coset.ensures.bounded.no_fewer, c.in_err-quotients_from_coset.ensures.bounded.no_fewer))
+returns-in_err-quotients_from_coset-clause-refused g c = on-err c.from_residual-in_err-quotients_from_coset.result (omega (arith, some-cells 1 c.args.lg (let h : 1 ≢ 0 = omega arith in h) (omega arith), c.in_ok-evaluate_below.ensures.counted, c.in_ok-moved_to_coset.ensures.bounded.no_fewer, c.in_err-quotients_from_coset.ensures.work.bounded.no_fewer))
 
 pub returns-in_err-quotients_from_coset-clause-late : goal.returns-in_err-quotients_from_coset-clause-late
 returns-in_err-quotients_from_coset-clause-late g c = on-err c.from_residual-in_err-quotients_from_coset.result
     (λ never.
-    let same : c.quotients_from_coset.new.work.butterflies ≡ c.moved_to_coset.new.work.butterflies = ap (λ (w : WorkOf). w.butterflies) (c.in_err-quotients_from_coset.ensures.unbegun never) in
+    let same : c.quotients_from_coset.new.work.butterflies ≡ c.moved_to_coset.new.work.butterflies = ap (λ (w : WorkOf). w.butterflies) (c.in_err-quotients_from_coset.ensures.work.unbegun never) in
     omega (arith, c.in_ok-evaluate_below.ensures.counted, c.in_ok-moved_to_coset.ensures.counted, same))

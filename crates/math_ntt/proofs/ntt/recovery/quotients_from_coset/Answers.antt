@@ -11,8 +11,8 @@ pub interpolate_below-requires-clause-points : goal.interpolate_below-requires-c
 interpolate_below-requires-clause-points g c =
     let R = ring_members g.F.Multiplicative.product g.F.Debug.debug_output g.F.Object.same g.F.Object.NEVER_REFUSES g.F.Additive.zero g.F.Additive.sum g.F.Additive.negative g.F.Ring.one in
     let F = g.met.F in
-    all-points R F.Object.equality F.Additive.group F.Multiplicative.commutes F.Ring.ring (λ l. g.F.Field.inverse (g.F.FieldNTT.root l)) (g.F.Field.inverse g.F.FieldNTT.shift) _ _ refl c.requires.domain c.requires.small
-    (inverse-tree_squares F.Object.equality F.Additive.group F.Multiplicative.commutes F.Ring.ring F.Field.field F.FieldNTT.roots c.args.lg c.requires.domain) c.requires.back
+    all-points R F.Object.equality F.Additive.group F.Multiplicative.commutes F.Ring.ring (λ l. g.F.Field.inverse (g.F.FieldNTT.root l)) (g.F.Field.inverse g.F.FieldNTT.shift) _ _ refl c.requires.lg.domain c.requires.lg.small
+    (inverse-tree_squares F.Object.equality F.Additive.group F.Multiplicative.commutes F.Ring.ring F.Field.field F.FieldNTT.roots c.args.lg c.requires.lg.domain) c.requires.back
 
 pub returns-clause-quotients : goal.returns-clause-quotients
 returns-clause-quotients g c = λ p v e at_cells at_divisors nonzero.
@@ -26,7 +26,7 @@ returns-clause-quotients g c = λ p v e at_cells at_divisors nonzero.
     let n = 2 ^ lg in
     let root = g.F.FieldNTT.root in
     let shift = g.F.FieldNTT.shift in
-    let order = F.FieldNTT.roots.order lg c.requires.domain in
+    let order = F.FieldNTT.roots.order lg c.requires.lg.domain in
     let unit = root-inverse E G P L F.Field.field _ _ order in
     let divisors = c.args.divisors.now in
     let long : length divisors ≡ n = c.requires.divisors in

@@ -1,21 +1,27 @@
-use Rattle.std.proofs.Common.{◌≡◌, ◌∙◌, inl, inr, ◌*◌, ◌^◌, length, refl, sym, arith}
+use Rattle.std.proofs.Common.{◌≡◌, ◌∙◌, inl, inr, ◌*◌, ◌^◌, length, sym, arith}
+use Rattle.math_theory.specs.Recovery.{count_true}
 use Rattle.math_theory.proofs.polynomials.BuiltPolynomials.{value-respects}
 use Rattle.math_theory.proofs.domains.BuiltVanishing.{VanishesAt-respects}
 use Rattle.math_theory.proofs.domains.CarriedDomains.{HasCoset-of_order-same}
 use Rattle.math_theory.proofs.recovery.RecoveredColumns.{domain_agreement, coset_nonzero, recovered-fits}
 use Rattle.math_transforms.specs.DomainValues.{matrix_of}
 use Rattle.math_transforms.specs.Matrices.{column_of}
+use Rattle.math_transforms.specs.MissingPoints.{count_false}
 use Rattle.math_transforms.proofs.DomainSteps.{column-cell}
 use Rattle.math_transforms.proofs.MatrixRows.{length-column}
 use Rattle.math_transforms.proofs.MissingPlaces.{count_both}
 use Rattle.math_transforms.proofs.PowersOfTwo.{power_of_two-same}
 use Rattle.math_transforms.proofs.TreeCounts.{within-part, within-transforms}
-use Rattle.math_ntt.proofs.AddedWork.{in_order-none, on-err}
-use Rattle.math_ntt.proofs.RecoveryCounts.{whole-bound, whole-room}
+use Rattle.math_ntt.proofs.AddedWork.{on-err}
+use Rattle.math_ntt.proofs.RecoveryCounts.{some_levels, whole-bound, whole-room}
+use Rattle.math_ntt.proofs.RecoveryOutcomes.{exact-some, refusal-none, refusal-some}
 use Rattle.math_ntt.proofs.ntt.recovery.recovered.Goals as goal
 
+pub divided-requires-clause-some : goal.divided-requires-clause-some
+divided-requires-clause-some g c = let points = c.args.points.now in some_levels c.args.lg (count_true points) (count_false points) (omega (arith, count_both points, c.requires.points)) c.requires.some c.requires.missing
+
 pub divided-requires-clause-room : goal.divided-requires-clause-room
-divided-requires-clause-room g c = omega (arith, whole-room c.args.lg c.args.cols c.requires.small c.requires.fits, c.in_ok-vanishing.ensures.bounded.no_more)
+divided-requires-clause-room g c = omega (arith, whole-room c.args.lg c.args.cols c.requires.lg.small c.requires.fits, c.in_ok-vanishing.ensures.bounded.no_more)
 
 pub returns-in_err-vanishing-clause-most : goal.returns-in_err-vanishing-clause-most
 returns-in_err-vanishing-clause-most g c = within-part _ _ _ _ _ _ (omega (arith, whole-bound c.args.lg c.args.cols)) (omega arith) c.in_err-vanishing.ensures.bounded
@@ -28,8 +34,8 @@ pub returns-clause-most : goal.returns-clause-most
 returns-clause-most g c =
     within-part _ _ _ _ _ _ (omega (arith, whole-bound c.args.lg c.args.cols)) (omega arith) (within-transforms _ _ _ _ _ _ c.in_ok-vanishing.ensures.bounded c.in_ok-divided.ensures.bounded)
 
-pub returns-clause-fits : goal.returns-clause-fits
-returns-clause-fits g c = λ m k e b.
+pub returns-clause-recovered : goal.returns-clause-recovered
+returns-clause-recovered g c =
     let F = g.met.F in
     let E = F.Object.equality in
     let G = F.Additive.group in
@@ -42,8 +48,8 @@ returns-clause-fits g c = λ m k e b.
     let root = g.F.FieldNTT.root lg in
     let shift = g.F.FieldNTT.shift in
     let points = c.args.points.now in
-    let order = F.FieldNTT.roots.order lg c.requires.domain in
-    let coset = HasCoset-of_order-same E G P R root shift n order F.FieldNTT.roots.shift_is_not_zero (F.FieldNTT.roots.shift_is_no_power lg c.requires.domain) in
+    let order = F.FieldNTT.roots.order lg c.requires.lg.domain in
+    let coset = HasCoset-of_order-same E G P R root shift n order F.FieldNTT.roots.shift_is_not_zero (F.FieldNTT.roots.shift_is_no_power lg c.requires.lg.domain) in
     let v = c.in_ok-vanishing.vanishing in
     let found = rw c.deref_mut.ensures.value at c.in_ok-divided.ensures.divided in
     let again = found.divisor in
@@ -59,44 +65,38 @@ returns-clause-fits g c = λ m k e b.
     let cells = matrix_of n c.args.cols c.args.cells.now in
     let product = matrix_of n c.args.cols found.product in
     let quotient = matrix_of n c.args.cols c.divided.new.cells in
-    rw (← power_of_two-same lg m e)
-    (recovered-fits E G P R f root shift n points c.requires.points coset 1 n (column_of zero cells k) v.items again (column_of zero product k) (column_of zero quotient k)
-    (length-column zero cells k) long (length-column zero product k) (length-column zero quotient k) c.requires.some (omega (arith, count_both points, c.requires.points)) (omega arith) (omega arith) vanishes on_domain
-    (λ i l. rw (column-cell zero n c.args.cols k i c.args.cells.now l b) (products i k l b))
-    (λ i l. let every : 1 * i ≡ i = omega arith in rw every (quotients i k l b)))
+    record {
+      fits = λ m k e b. rw (← power_of_two-same lg m e)
+          (recovered-fits E G P R f root shift n points c.requires.points coset 1 n (column_of zero cells k) v.items again (column_of zero product k) (column_of zero quotient k)
+          (length-column zero cells k) long (length-column zero product k) (length-column zero quotient k) c.requires.some (omega (arith, count_both points, c.requires.points)) (omega arith) (omega arith) vanishes on_domain
+          (λ i l. rw (column-cell zero n c.args.cols k i c.args.cells.now l b) (products i k l b))
+          (λ i l. let every : 1 * i ≡ i = omega arith in rw every (quotients i k l b)));
+      exact = exact-some _ _ _ _ c.requires.some c.requires.missing
+          (λ small. (omega (arith, c.in_ok-vanishing.ensures.butterflies small, c.in_ok-divided.ensures.counted), omega (arith, c.in_ok-vanishing.ensures.exact small, c.in_ok-divided.ensures.bounded.root_products)))
+          (omega (arith, c.in_ok-vanishing.ensures.bounded.no_fewer, c.in_ok-divided.ensures.counted));
+    }
 
 pub returns-in_err-evaluation-clause-refused : goal.returns-in_err-evaluation-clause-refused
-returns-in_err-evaluation-clause-refused g c = on-err c.from_residual.result (λ small. in_order-none _ _ _)
+returns-in_err-evaluation-clause-refused g c = on-err c.from_residual.result (refusal-none _ _ _ _)
 
 pub returns-in_err-interpolation-clause-refused : goal.returns-in_err-interpolation-clause-refused
-returns-in_err-interpolation-clause-refused g c = on-err c.from_residual-in_err-interpolation.result (λ small. in_order-none _ _ _)
+returns-in_err-interpolation-clause-refused g c = on-err c.from_residual-in_err-interpolation.result (refusal-none _ _ _ _)
 
 pub returns-in_err-vanishing-clause-refused : goal.returns-in_err-vanishing-clause-refused
-returns-in_err-vanishing-clause-refused g c = on-err c.from_residual-in_err-vanishing.result (λ small.
+returns-in_err-vanishing-clause-refused g c = on-err c.from_residual-in_err-vanishing.result (
+    refusal-some _ _ _ _ _ c.requires.some c.requires.missing
+    (λ small.
     let none = c.in_err-vanishing.ensures.butterflies small in
     record { no_more = omega (arith, none); no_more_products = c.in_err-vanishing.ensures.no_more small; in_order = λ begun. absurd (omega (arith, begun, none)) })
+    (λ never small. inl (c.in_err-vanishing.ensures.butterflies small)))
 
 pub returns-in_err-divided-clause-refused : goal.returns-in_err-divided-clause-refused
-returns-in_err-divided-clause-refused g c = on-err c.from_residual-in_err-divided.result (λ small.
-    let none = c.in_ok-vanishing.ensures.butterflies small in
-    let all = c.in_ok-vanishing.ensures.exact small in
+returns-in_err-divided-clause-refused g c = on-err c.from_residual-in_err-divided.result (
     let bound = c.in_err-divided.ensures.bounded in
-    record { no_more = omega (arith, none, bound.no_more); no_more_products = omega (arith, all, bound.root_products); in_order = λ begun. omega (arith, all, bound.root_products) })
-
-pub returns-in_err-evaluation-clause-late : goal.returns-in_err-evaluation-clause-late
-returns-in_err-evaluation-clause-late g c = on-err c.from_residual.result (λ never small. inl refl)
-
-pub returns-in_err-interpolation-clause-late : goal.returns-in_err-interpolation-clause-late
-returns-in_err-interpolation-clause-late g c = on-err c.from_residual-in_err-interpolation.result (λ never small. inl refl)
-
-pub returns-in_err-vanishing-clause-late : goal.returns-in_err-vanishing-clause-late
-returns-in_err-vanishing-clause-late g c = on-err c.from_residual-in_err-vanishing.result (λ never small. inl (c.in_err-vanishing.ensures.butterflies small))
-
-pub returns-in_err-divided-clause-late : goal.returns-in_err-divided-clause-late
-returns-in_err-divided-clause-late g c = on-err c.from_residual-in_err-divided.result (λ never. λ small.
+    refusal-some _ _ _ _ _ c.requires.some c.requires.missing
+    (λ small.
     let none = c.in_ok-vanishing.ensures.butterflies small in
     let all = c.in_ok-vanishing.ensures.exact small in
-    inr (omega (arith, none, c.in_err-divided.ensures.late never), omega (arith, all, c.in_err-divided.ensures.bounded.root_products)))
-
-pub returns-clause-no_fewer : goal.returns-clause-no_fewer
-returns-clause-no_fewer g c = omega (arith, c.in_ok-vanishing.ensures.bounded.no_fewer, c.in_ok-divided.ensures.counted)
+    record { no_more = omega (arith, none, bound.no_more); no_more_products = omega (arith, all, bound.root_products); in_order = λ begun. omega (arith, all, bound.root_products) })
+    (λ never small.
+    inr (omega (arith, c.in_ok-vanishing.ensures.butterflies small, c.in_err-divided.ensures.late never), omega (arith, c.in_ok-vanishing.ensures.exact small, bound.root_products))))
