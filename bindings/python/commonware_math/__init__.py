@@ -4,6 +4,9 @@
 >>> join({4: shards[4], 0: shards[0], 2: shards[2]}, 3, 5)
 b'any three of five shards give these bytes back'
 
+These shards are values of polynomials whose coefficients are the data. For bytes that are mostly read whole take ``systematic``:
+there the data stand in the first ``min`` shards as they are, and parity shards follow.
+
 An element of the field is a whole number below ``MODULUS``, 2**64 - 2**32 + 1. Words are a contiguous buffer of
 unsigned 64-bit numbers: an ``array('Q')``, a memoryview or an array of numpy. If a call only reads them, a list of
 numbers will do. A call that writes in place makes no copy of the buffer, and leaves it as it was if it raises.
@@ -28,10 +31,10 @@ from ._library import library as _lib, number as _number
 
 # `eval` is left out, since it would hide the one of Python: it is `commonware_math.eval`.
 __all__ = [
-    "MODULUS", "version", "shard_size", "split", "join", "join_corrected", "evaluate", "interpolate", "recover", "correct",
-    "decode", "weights", "weights_at_roots", "encode_poly", "decode_poly", "Error", "OutOfMemory", "OutOfRange", "WrongSize",
-    "TooFew", "Mismatch", "WrongIndex", "Conflict", "Inconsistent", "EndOfBuffer", "InvalidVarint", "InvalidLength",
-    "ExtraData", "Repeated",
+    "MODULUS", "version", "shard_size", "split", "join", "join_corrected", "systematic", "evaluate", "interpolate", "recover",
+    "correct", "decode", "weights", "weights_at_roots", "encode_poly", "decode_poly", "Error", "OutOfMemory", "OutOfRange",
+    "WrongSize", "TooFew", "Mismatch", "WrongIndex", "Conflict", "Inconsistent", "EndOfBuffer", "InvalidVarint",
+    "InvalidLength", "ExtraData", "Repeated",
 ]
 
 #: The version of this package. ``version()`` is that of the library.
@@ -95,7 +98,8 @@ class OutOfMemory(Error, MemoryError):
 
 
 class OutOfRange(Error, ValueError):
-    """A word is ``MODULUS`` or more, or a byte that says whether a row is filled is neither 0 nor 1."""
+    """A word is ``MODULUS`` or more, a byte that says whether a row is filled is neither 0 nor 1, or the high half of a word of
+    a systematic data shard is all ones under the mask."""
 
     status = 2
 
@@ -196,17 +200,13 @@ def _indices(values: Iterable[SupportsIndex]) -> tuple[Any, int]:
 
 
 class _Shards:
-    """What a join is handed: the indices of the shards and how many they are, and their bytes, one behind the other."""
+    """What a call is handed: the indices of the shards and how many they are, and their bytes, one behind the other."""
 
-    def __init__(self, shards: Mapping[int, Bytes], min: SupportsIndex, total: SupportsIndex) -> None:
+    def __init__(self, shards: Any, min: SupportsIndex, total: SupportsIndex) -> None:
         self.min, self.total = _number(min, 32), _number(total, 32)
-        if not isinstance(shards, abc.Mapping):
-            raise TypeError(
-                "shards are a mapping, each under its index, such as {0: .., 2: ..}, or dict(enumerate(shards)) for all of "
-                f"them in their order: not a {type(shards).__name__}"
-            )
-        self.indices, self.count = _indices(shards)
-        rows = [_library.row_of_bytes(shard) for shard in shards.values()]
+        pairs = self._pairs(shards)
+        self.indices, self.count = _indices(index for index, _ in pairs)
+        rows = [_library.row_of_bytes(shard) for _, shard in pairs]
         sizes = [row.nbytes for row in rows]
         for index, size in zip(self.indices, sizes):
             if size != sizes[0]:
@@ -216,6 +216,16 @@ class _Shards:
         self.at, self.length = _library.read_bytes(self.bytes)
         # No more come back.
         self.room = builtins.min(self.min, self.count) * self.size
+
+    @staticmethod
+    def _pairs(shards: Any) -> list[tuple[int, Bytes]]:
+        """The shards, each beside its index."""
+        if not isinstance(shards, abc.Mapping):
+            raise TypeError(
+                "shards are a mapping, each under its index, such as {0: .., 2: ..}, or dict(enumerate(shards)) for all of "
+                f"them in their order: not a {type(shards).__name__}"
+            )
+        return list(shards.items())
 
     def numbers(self) -> _Numbers:
         of_split = f"min {self.min}, total {self.total}"
@@ -646,3 +656,6 @@ def decode_poly(encoded: Bytes) -> "array[int]":
     )
     return _array(found, written.value)
 
+
+# Last, since it stands on what is above.
+from . import systematic  # noqa: E402

@@ -95,6 +95,11 @@ _SIGNATURES = {
     "cwm_split_bytes": [_at, _size, _u32, _u32, _at, _size],
     "cwm_join_bytes": [_at, _size, _u32, _u32, _at, _size, _at, _size, _at],
     "cwm_join_bytes_corrected": [_at, _size, _u32, _u32, _at, _size, _at, _size, _at, _at, _size, _at],
+    "cwm_systematic_sizes": [_size, _u32, _u32, _u32, _at, _at],
+    "cwm_systematic_encode": [_at, _size, _u32, _u32, _at, _size, _at],
+    "cwm_systematic_rebuild": [_at, _size, _at, _size, _size, _u32, _u32, _u32, _at, _size, _at, _size],
+    "cwm_systematic_decode": [_at, _size, _at, _size, _u32, _u32, _u32, _at, _size],
+    "cwm_systematic_verify": [_at, _size, _at, _size, _size, _u32, _u32, _u32, _at],
 }
 
 library = _load()

@@ -26,6 +26,15 @@ back: bytes = cm.join({0: shards[0], 2: bytearray(shards[2])}, 2, 3)
 found: Tuple[bytes, List[int]] = cm.join_corrected(some, 2, 3)
 size: int = cm.shard_size(10, 2, 3)
 
+rows, mask = cm.systematic.encode(data, 2, 3)
+beside: Tuple[int, int, int, int] = (10, 2, 3, mask)
+rows = cm.systematic.rebuild({0: rows[0], 2: rows[2]}, [1], *beside)
+rows = cm.systematic.rebuild([(0, rows[0]), (2, bytearray(rows[2]))], array("I", [1]), *beside)
+back = cm.systematic.decode(enumerate(rows), *beside)
+back = cm.systematic.decode(some, 10, min=2, total=3, mask=mask)
+belong: bool = cm.systematic.verify(dict(enumerate(rows)), *beside)
+size = cm.systematic.shard_size(10, 2, 3) + cm.systematic.data_size(10, 2, 3, 0)
+
 cells = array("Q", [4, 6, 8, 0])
 cm.evaluate(cells)
 cm.interpolate(memoryview(cells), 1)
@@ -67,6 +76,10 @@ cm.eval([4.5, 6], 5)
 cm.eval([4, 6, 8], [0, 1]) + 1
 cm.weights("text", 3)
 cm.decode_poly([4, 6])
+cm.systematic.encode("text", 2, 3)
+cm.systematic.decode([b"12345678"], 8, 1, 1, 0)
+cm.systematic.rebuild({0: b"12345678"}, 0, 8, 1, 1, 0)
+cm.systematic.verify({0: "12345678"}, 8, 1, 1, 0)
 """
 
 
