@@ -8,6 +8,9 @@
 //! # Ok::<(), commonware_math_proved::Error>(())
 //! ```
 //!
+//! These shards are values of polynomials whose coefficients are the data. For bytes that are mostly read whole take
+//! [`systematic`]: there the data stand in the first `min` shards as they are, and parity shards follow.
+//!
 //! An element of the field is a whole number below [`MODULUS`], in a `u64`. Cells lie row by row: cell (i, k) is
 //! `cells[i * cols + k]`, and each column is a polynomial of its own. A domain has N points, N a power of two up to
 //! 2^32: point i is power i of the root of order N.
@@ -19,6 +22,7 @@
 
 #[allow(unsafe_code, missing_docs)]
 mod library;
+pub mod systematic;
 
 use std::fmt;
 
@@ -31,7 +35,7 @@ pub const MODULUS: u64 = 0xffff_ffff_0000_0001;
 pub enum Error {
     /// Memory ran out.
     OutOfMemory,
-    /// A word is [`MODULUS`] or more.
+    /// A word is [`MODULUS`] or more, or the high half of a word of a systematic data shard is all ones under the mask.
     OutOfRange,
     /// A number of words, rows or columns is none that the call takes.
     WrongSize,

@@ -4,6 +4,7 @@
 //! aligned and not null, also where it has no item, its length is true and below 2^63 bytes, and what is written is
 //! borrowed alone, so that it overlaps with nothing. Rust's allocator on the system's `malloc` is left as it is.
 
+use crate::systematic::Code;
 use crate::Error;
 use std::ffi::c_char;
 
@@ -33,6 +34,11 @@ mod declared {
         pub fn cwm_split_bytes(data: *const u8, n: usize, min: u32, total: u32, shards: *mut u8, m: usize) -> u32;
         pub fn cwm_join_bytes(indices: *const u32, k: usize, min: u32, total: u32, shards: *const u8, n: usize, data: *mut u8, m: usize, written: *mut usize) -> u32;
         pub fn cwm_join_bytes_corrected(indices: *const u32, k: usize, min: u32, total: u32, shards: *const u8, n: usize, data: *mut u8, m: usize, written: *mut usize, left_out: *mut usize, room: usize, many: *mut usize) -> u32;
+        pub fn cwm_systematic_sizes(size: usize, min: u32, total: u32, index: u32, row: *mut usize, data: *mut usize) -> u32;
+        pub fn cwm_systematic_encode(data: *const u8, size: usize, min: u32, total: u32, parity: *mut u8, m: usize, mask: *mut u32) -> u32;
+        pub fn cwm_systematic_rebuild(indices: *const u32, k: usize, rows: *const u8, n: usize, size: usize, min: u32, total: u32, mask: u32, wanted: *const u32, w: usize, out: *mut u8, m: usize) -> u32;
+        pub fn cwm_systematic_decode(indices: *const u32, k: usize, rows: *const u8, n: usize, min: u32, total: u32, mask: u32, data: *mut u8, size: usize) -> u32;
+        pub fn cwm_systematic_verify(indices: *const u32, k: usize, rows: *const u8, n: usize, size: usize, min: u32, total: u32, mask: u32, belong: *mut u32) -> u32;
     }
 }
 
@@ -155,4 +161,33 @@ pub fn join_bytes(indices: &[u32], min: u32, total: u32, shards: &[u8], data: &m
 pub fn join_bytes_corrected(indices: &[u32], min: u32, total: u32, shards: &[u8], data: &mut [u8], written: &mut usize, left_out: &mut [usize], many: &mut usize) -> Result<(), Error> {
     // SAFETY: as above.
     done(unsafe { declared::cwm_join_bytes_corrected(indices.as_ptr(), indices.len(), min, total, shards.as_ptr(), shards.len(), data.as_mut_ptr(), data.len(), written, left_out.as_mut_ptr(), left_out.len(), many) })
+}
+
+pub fn systematic_sizes(code: &Code, index: u32, row: &mut usize, data: &mut usize) -> Result<(), Error> {
+    // SAFETY: as above.
+    done(unsafe { declared::cwm_systematic_sizes(code.size, code.min, code.total, index, row, data) })
+}
+
+#[rustfmt::skip]
+pub fn systematic_encode(data: &[u8], min: u32, total: u32, parity: &mut [u8], mask: &mut u32) -> Result<(), Error> {
+    // SAFETY: as above.
+    done(unsafe { declared::cwm_systematic_encode(data.as_ptr(), data.len(), min, total, parity.as_mut_ptr(), parity.len(), mask) })
+}
+
+#[rustfmt::skip]
+pub fn systematic_rebuild(code: &Code, indices: &[u32], rows: &[u8], wanted: &[u32], out: &mut [u8]) -> Result<(), Error> {
+    // SAFETY: as above.
+    done(unsafe { declared::cwm_systematic_rebuild(indices.as_ptr(), indices.len(), rows.as_ptr(), rows.len(), code.size, code.min, code.total, code.mask, wanted.as_ptr(), wanted.len(), out.as_mut_ptr(), out.len()) })
+}
+
+#[rustfmt::skip]
+pub fn systematic_decode(code: &Code, indices: &[u32], rows: &[u8], data: &mut [u8]) -> Result<(), Error> {
+    // SAFETY: as above.
+    done(unsafe { declared::cwm_systematic_decode(indices.as_ptr(), indices.len(), rows.as_ptr(), rows.len(), code.min, code.total, code.mask, data.as_mut_ptr(), data.len()) })
+}
+
+#[rustfmt::skip]
+pub fn systematic_verify(code: &Code, indices: &[u32], rows: &[u8], belong: &mut u32) -> Result<(), Error> {
+    // SAFETY: as above.
+    done(unsafe { declared::cwm_systematic_verify(indices.as_ptr(), indices.len(), rows.as_ptr(), rows.len(), code.size, code.min, code.total, code.mask, belong) })
 }

@@ -87,6 +87,68 @@ fn shards_of_words_come_back() {
 }
 
 #[test]
+fn systematic_shards_come_back() {
+    let mut words = Words(4);
+    for length in 0..200 {
+        let total = 1 + words.below(12);
+        let min = 1 + words.below(total);
+        // words whose high half is all ones force a mask
+        let data: Vec<u8> =
+            (0..length).map(|i| if length % 3 == 0 && i < 24 { 0xff } else { words.next() as u8 }).collect();
+        let (shards, code) = systematic::encode(&data, min as u32, total as u32).unwrap();
+        assert_eq!((shards.len(), code.size), (total, length));
+        assert_eq!(code.mask, u32::from(length % 3 == 0 && length > 7));
+        assert!(shards.iter().all(|shard| shard.len() == code.shard_size().unwrap()));
+        assert_eq!(shards[..min].concat()[..length], data);
+        assert_eq!((0..min as u32).map(|i| code.data_size(i).unwrap()).sum::<usize>(), length);
+        let count = min + words.below(total - min + 1);
+        let left: Vec<(u32, &[u8])> =
+            words.choice(total, count).into_iter().map(|i| (i as u32, &shards[i][..])).collect();
+        let wanted: Vec<u32> = (0..total as u32).collect();
+        assert_eq!(systematic::rebuild(&code, &left, &wanted), Ok(shards.clone()));
+        assert_eq!(systematic::decode(&code, &left), Ok(data));
+        assert_eq!(systematic::verify(&code, &left), Ok(true));
+        if count > min && length > 0 {
+            let mut damaged: Vec<(u32, Vec<u8>)> = left.iter().map(|(i, shard)| (*i, shard.to_vec())).collect();
+            damaged[count - 1].1[0] ^= 1;
+            assert_eq!(systematic::verify(&code, &damaged), Ok(false));
+            assert_eq!(systematic::rebuild(&code, &damaged, &[0]), Err(Error::Inconsistent));
+        }
+    }
+}
+
+#[test]
+fn refusals_of_systematic_shards() {
+    let (shards, code) = systematic::encode(b"0123456789", 2, 4).unwrap();
+    let (a, b, c, high) = (&shards[0][..], &shards[1][..], &shards[2][..], &[0xff; 8][..]);
+    assert_eq!(systematic::encode(b"", 0, 1), Err(Error::Mismatch));
+    assert_eq!(systematic::encode(b"", 2, 1), Err(Error::Mismatch));
+    assert_eq!(systematic::Code { size: 1 << 34, ..code }.shard_size(), Err(Error::WrongSize));
+    assert_eq!(code.data_size(4), Err(Error::WrongIndex));
+    for refused in [
+        |code: &systematic::Code, shards: &[(u32, &[u8])]| systematic::rebuild(code, shards, &[0]).map(|_| ()),
+        |code: &systematic::Code, shards: &[(u32, &[u8])]| systematic::decode(code, shards).map(|_| ()),
+        |code: &systematic::Code, shards: &[(u32, &[u8])]| systematic::verify(code, shards).map(|_| ()),
+    ] {
+        assert_eq!(refused(&systematic::Code { min: 5, ..code }, &[(0, a), (1, b)]), Err(Error::Mismatch));
+        assert_eq!(refused(&systematic::Code { size: 1 << 34, ..code }, &[(0, a)]), Err(Error::WrongSize));
+        assert_eq!(refused(&code, &[(0, a), (1, &b[..7])]), Err(Error::Mismatch));
+        assert_eq!(refused(&code, &[(0, &a[..7]), (1, &b[..7])]), Err(Error::WrongSize));
+        assert_eq!(refused(&code, &[]), Err(Error::TooFew));
+        assert_eq!(refused(&code, &[(0, a), (4, b)]), Err(Error::WrongIndex));
+        assert_eq!(refused(&code, &[(0, a), (2, high)]), Err(Error::OutOfRange));
+        assert_eq!(refused(&code, &[(0, high), (2, c)]), Err(Error::OutOfRange));
+        assert_eq!(refused(&code, &[(0, a), (0, a)]), Err(Error::TooFew));
+    }
+    assert_eq!(systematic::rebuild(&code, &[(0, a), (1, b)], &[4]), Err(Error::WrongIndex));
+    assert_eq!(systematic::rebuild(&code, &[(0, a), (0, b)], &[1]), Err(Error::Conflict));
+    assert_eq!(systematic::verify(&code, &[(0, a), (0, b)]), Ok(false));
+    assert_eq!(systematic::decode(&code, &[(0, a), (1, b), (2, a)]), Err(Error::Inconsistent));
+    // the bytes past the end of the data are zeros
+    assert_eq!(systematic::decode(&code, &[(0, a), (1, &b"89\x01\0\0\0\0\0"[..])]), Err(Error::Inconsistent));
+}
+
+#[test]
 fn polynomials_come_back() {
     let mut words = Words(3);
     for lg in 0..8 {
