@@ -250,6 +250,7 @@ static void run(uint32_t min, uint32_t total, size_t block, size_t bytes, uint32
 }
 
 int main(int argc, char **argv) {
+  setvbuf(stdout, NULL, _IOLBF, 0);
   if (argc > 1) seconds = atoi(argv[1]);
   run(10, 16, 4000000, 4000000, 1, 6);
   run(10, 16, 262144, 67108864, 1, 6);

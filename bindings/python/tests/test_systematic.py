@@ -117,6 +117,8 @@ KEPT, BEHIND = 0xA5, 16
 
 
 def filled(kind, values):
+    if isinstance(values, bytes):
+        return (kind * max(1, len(values))).from_buffer_copy(values or b"\0")
     return (kind * max(1, len(values)))(*values)
 
 
