@@ -1,8 +1,8 @@
 /* systematic [SECONDS]: times systematic shards in one run, one core, beside other libraries where they were there when this was built
  * (ISAL, ZFEC), and checks each answer.
  *
- * A line has the MB of data that go through in a second of processor time: the best of some tries, which take turns between the
- * libraries. Each work is repeated for SECONDS (1) a library, three times at least. */
+ * A line has the MB of data that go through in a second of processor time: the best of some tries, in which the libraries take turns.
+ * Each work is repeated for SECONDS (1) a library, three times at least. */
 #include "commonware_math.h"
 
 #include <stdio.h>
@@ -187,7 +187,7 @@ static void (*work_of(const library *l, int work))(const job *) {
   return work == ENCODE ? l->encode : work == REBUILD ? l->rebuild : l->decode;
 }
 
-/* whether the work was done right: the parity rows are judged by what is rebuilt from them */
+/* whether what was made is the data; parity rows are judged by what is rebuilt from them */
 static void judge(const job *j, const library *l, int work) {
   uint32_t made = work == REBUILD ? j->lost : work == DECODE ? j->min : 0;
   for (size_t b = 0; b < j->blocks; b++) {
@@ -195,66 +195,72 @@ static void judge(const job *j, const library *l, int work) {
   }
 }
 
-/* one work by all libraries in turn; of each its own parity rows stand in the shards, so encoding comes before all else */
-static void timed(const job *j, int work) {
+/* one work by all libraries in turn, each with shards of its own */
+static void timed(const job *jobs, int work) {
   double best[LIBRARIES], spent = 0;
-  for (int n = 0; n < LIBRARIES; n++) best[n] = 1e9;
+  for (int n = 0; n < LIBRARIES; n++) best[n] = 1e9, libraries[n].begin(&jobs[n]);
   for (int tries = 0; tries < 3 || spent < seconds * LIBRARIES; tries++) {
     for (int n = 0; n < LIBRARIES; n++) {
-      const library *l = &libraries[n];
-      void (*done)(const job *) = work_of(l, work);
+      const job *j = &jobs[n];
+      void (*done)(const job *) = work_of(&libraries[n], work);
       if (done == NULL) continue;
-      l->begin(j);
-      if (work != ENCODE) l->encode(j);
       memset(j->out, 0, j->blocks * j->min * j->row);
       double start = now();
       done(j);
       double took = now() - start;
       spent += took;
       if (took < best[n]) best[n] = took;
-      if (work == ENCODE && tries == 0) l->rebuild(j), judge(j, l, REBUILD);
-      judge(j, l, work);
-      l->end();
+      judge(j, &libraries[n], work);
     }
   }
-  double size = (double)(j->blocks * j->min * j->row) * 1e-6;
   for (int n = 0; n < LIBRARIES; n++) {
+    const job *j = &jobs[n];
+    double size = (double)(j->blocks * j->min * j->row) * 1e-6;
+    libraries[n].end();
     if (work_of(&libraries[n], work) == NULL) continue;
     printf("%-12s %-8s %3u of %3u, %3u lost, %5.1f MB in blocks of %5.2f MB %9.1f MB a second\n", libraries[n].name, names[work], j->min,
            j->total, work == ENCODE ? 0 : j->lost, size, size / (double)j->blocks, size / best[n]);
   }
 }
 
+static void lose(job *jobs, uint32_t lost) {
+  for (int n = 0; n < LIBRARIES; n++) jobs[n].lost = lost;
+}
+
 /* rows are a multiple of 64 bytes, so that a block is nearly as long as is asked for */
-static void run(uint32_t min, uint32_t total, size_t block, size_t bytes, uint32_t one, uint32_t most) {
-  job j = {min, total, one, block / min / 64 * 64, bytes / block, NULL, NULL, NULL};
-  uint64_t state = 1;
-  j.shards = room(j.blocks * total * j.row);
-  j.out = room(j.blocks * min * j.row);
-  j.masks = room(j.blocks * sizeof *j.masks);
-  for (size_t b = 0; b < j.blocks; b++) {
-    for (size_t k = 0; k < min * j.row / 8; k++) {
-      state = state * UINT64_C(6364136223846793005) + UINT64_C(1442695040888963407);
-      uint64_t word = state ^ state >> 29;
-      memcpy(row_of(&j, b, 0) + 8 * k, &word, 8);
+static void run(uint32_t min, uint32_t total, size_t block, size_t bytes, uint32_t most) {
+  job jobs[LIBRARIES];
+  size_t row = block / min / 64 * 64, blocks = bytes / block;
+  uint8_t *out = room(blocks * min * row);
+  uint32_t *masks = room(blocks * sizeof *masks);
+  for (int n = 0; n < LIBRARIES; n++) {
+    uint64_t state = 1;
+    jobs[n] = (job){min, total, 0, row, blocks, room(blocks * total * row), out, masks};
+    for (size_t b = 0; b < blocks; b++) {
+      for (size_t k = 0; k < min * row / 8; k++) {
+        state = state * UINT64_C(6364136223846793005) + UINT64_C(1442695040888963407);
+        uint64_t word = state ^ state >> 29;
+        memcpy(row_of(&jobs[n], b, 0) + 8 * k, &word, 8);
+      }
     }
   }
-  timed(&j, ENCODE);
-  j.lost = 0;
-  timed(&j, DECODE);
-  for (j.lost = one; j.lost <= most; j.lost += most > one ? most - one : 1) {
-    timed(&j, REBUILD);
-    timed(&j, DECODE);
+  timed(jobs, ENCODE);
+  timed(jobs, DECODE);
+  for (uint32_t lost = 1; lost <= most; lost = lost == 1 ? most : most + 1) {
+    lose(jobs, lost);
+    timed(jobs, REBUILD);
+    timed(jobs, DECODE);
   }
-  free(j.shards), free(j.out), free(j.masks);
+  for (int n = 0; n < LIBRARIES; n++) free(jobs[n].shards);
+  free(out), free(masks);
 }
 
 int main(int argc, char **argv) {
   setvbuf(stdout, NULL, _IOLBF, 0);
   if (argc > 1) seconds = atoi(argv[1]);
-  run(10, 16, 4000000, 4000000, 1, 6);
-  run(10, 16, 262144, 67108864, 1, 6);
-  run(100, 200, 4000000, 4000000, 1, 100);
-  run(100, 200, 262144, 67108864, 1, 100);
+  run(10, 16, 4000000, 4000000, 6);
+  run(10, 16, 262144, 67108864, 6);
+  run(100, 200, 4000000, 4000000, 100);
+  run(100, 200, 262144, 4194304, 100);
   return 0;
 }
