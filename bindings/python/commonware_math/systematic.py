@@ -108,11 +108,6 @@ class _Held(_Shards):
         half is not all ones under the mask."""
         return word < MODULUS if index >= self.min else word >> 32 ^ self.mask != 2**32 - 1
 
-    def _settled(self) -> int:
-        """How many indices have a shard, no two different ones, and no word that may not stand there."""
-        found = [(index, rows) for index, rows in self._rows().items() if len(rows) == 1]
-        return sum(all(self._is_element(index, word) for row in rows for word in self._words(row)) for index, rows in found)
-
     def _large(self) -> str:
         """The first word that may not stand where it stands."""
         for i, index in enumerate(self.indices[: self.count]):
