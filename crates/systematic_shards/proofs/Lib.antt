@@ -15,3 +15,5 @@ pub mod Positions
 pub mod Marked
 pub mod Settled
 pub mod Corrected
+pub mod LeastDomains
+pub mod Transformed

@@ -10,3 +10,5 @@ pub mod Filled
 pub mod Held
 pub mod Wanted
 pub mod Correcting
+pub mod Made
+pub mod Transforms

@@ -29,6 +29,7 @@ mod planning;
 mod rebuilding;
 mod rows;
 mod split;
+mod transforming;
 mod weights;
 
 pub use correcting::rebuild_corrected;
