@@ -1,5 +1,5 @@
--- Words that are written one by one: of a column, of all columns, and of one row.
-use Rattle.std.proofs.Common.{◌≡◌, ◌≢◌, ◌∙◌, inl, inr, ℕ, ◌+◌, ◌-◌, ◌*◌, ◌<◌, List, length, get_or, refl, sym, ap, subst, arith}
+-- Words that are written run by run: of some columns, of all columns, and of one row.
+use Rattle.std.proofs.Common.{◌≡◌, ◌≢◌, ◌∙◌, inl, inr, ℕ, ◌+◌, ◌-◌, ◌*◌, ◌<◌, ◌≤◌, List, length, get_or, refl, sym, ap, subst, arith}
 use Rattle.std.specs.List.{Contains}
 use Rattle.std.specs.List.Sorted.{IsStrictlyIncreasing}
 use Rattle.std.proofs.lemmas.Bool.{cases_lt}
@@ -7,55 +7,57 @@ use Rattle.std.proofs.lemmas.List.{get_or_default}
 use Rattle.std.proofs.lemmas.Nat.{same_from_place}
 use Rattle.math_restoring.specs.Restored.{AreDistinct}
 use Rattle.systematic_shards.specs.declared.rows.Row.{Row}
-use Rattle.systematic_shards.specs.Filled.{AreFilled, IsColumnFilled, IsRowFilled}
+use Rattle.systematic_shards.specs.Filled.{AreFilled, AreRunsFilled}
 use Rattle.systematic_shards.specs.Wanted.{AreCopied, AreCopiesWithin}
-use Rattle.systematic_shards.specs.Words.{IsWithin}
+use Rattle.systematic_shards.specs.Words.{AreWritten, IsWithin}
 use Rattle.systematic_shards.proofs.OneCodeword.{rising-before}
 
--- from place j * n to place (j + 1) * n there are n
-pub turn : (j n : ℕ) → (j + 1) * n - j * n ≡ n
-turn j n = grind arith
+-- no run so far
+pub runs-none : (width from cols : ℕ) (places : List ℕ) (value : ℕ → ℕ → ℕ) (old : ℕ → ℕ) → AreRunsFilled width from cols places value 0 old old
+runs-none width from cols places value old = record { written = λ j c b. absurd (omega (arith, b)); others = λ i apart. refl }
 
--- no word of a column so far
-pub column-none : (width k : ℕ) (places : List ℕ) (value old : ℕ → ℕ) → IsColumnFilled width k places value 0 old old
-column-none width k places value old = record { written = λ j b. absurd (omega (arith, b)); others = λ i apart. refl }
+-- the run of one row more
+pub runs-more : (width from cols n at : ℕ) (places : List ℕ) (value : ℕ → ℕ → ℕ) (run : ℕ → ℕ) (old now new : ℕ → ℕ) → AreDistinct places → n < length places → from + cols ≤ width
+    → at ≡ get_or places n 0 * width + from → ((c : ℕ) → c < cols → run c ≡ value n c) → AreWritten (λ c. at + c) run cols now new
+    → AreRunsFilled width from cols places value n old now → AreRunsFilled width from cols places value (n + 1) old new
+runs-more width from cols n at places value run old now new distinct l within start same put h =
+    let there = λ (c : ℕ). (let e : at + c ≡ get_or places n 0 * width + (from + c) = omega (arith, start) in e) in
+    record {
+      written = λ j c b m. elim (cases_lt j n) as (λ _. new (get_or places j 0 * width + (from + c)) ≡ value j c) [
+        | inl before ↦
+            put.others (get_or places j 0 * width + (from + c))
+            (λ d e f. distinct j n before l ((same_from_place (get_or places j 0) (from + c) (get_or places n 0) (from + d) width (omega (arith, m, within)) (omega (arith, e, within)) (f ∙ there d)).0))
+            ∙ h.written j c before m
+        | inr after ↦
+            let is : n ≡ j = omega (arith, after, b) in
+            subst (λ i. new (get_or places i 0 * width + (from + c)) ≡ value i c) is (ap new (sym (there c)) ∙ put.written c m ∙ same c m)
+      ];
+      others = λ i apart. put.others i (λ c e f. apart n c (omega arith) e (f ∙ there c)) ∙ h.others i (λ j c b e. apart j c (omega (arith, b)) e);
+    }
 
--- one word more of a column
-pub column-more : (width k n : ℕ) (places : List ℕ) (value old now new : ℕ → ℕ) → AreDistinct places → n < length places → k < width
-    → new (get_or places n 0 * width + k) ≡ value n → ((i : ℕ) → i ≢ get_or places n 0 * width + k → new i ≡ now i)
-    → IsColumnFilled width k places value n old now → IsColumnFilled width k places value (n + 1) old new
-column-more width k n places value old now new distinct l m put kept h = record {
-  written = λ j b. elim (cases_lt j n) as (λ _. new (get_or places j 0 * width + k) ≡ value j) [
-    | inl before ↦
-        kept (get_or places j 0 * width + k) (λ e. distinct j n before l ((same_from_place (get_or places j 0) k (get_or places n 0) k width m m e).0)) ∙ h.written j before
-    | inr after ↦ let is : n ≡ j = omega (arith, after, b) in subst (λ i. new (get_or places i 0 * width + k) ≡ value i) is put
-  ];
-  others = λ i apart. kept i (apart n (omega arith)) ∙ h.others i (λ j b. apart j (omega (arith, b)));
-}
+-- no column so far
+pub filled-none : (width : ℕ) (places : List ℕ) (value : ℕ → ℕ → ℕ) (old : ℕ → ℕ) → AreFilled width places value 0 old old
+filled-none width places value old = record { written = λ j k b m. absurd (omega (arith, m)); others = λ i apart. refl }
 
--- one column more
-pub filled-more : (width k : ℕ) (places : List ℕ) (value : ℕ → ℕ → ℕ) (old now new : ℕ → ℕ) → k < width
-    → IsColumnFilled width k places (λ j. value j k) (length places) now new → AreFilled width places value k old now → AreFilled width places value (k + 1) old new
-filled-more width k places value old now new m put h = record {
-  written = λ j i b c. elim (cases_lt i k) as (λ _. new (get_or places j 0 * width + i) ≡ value j i) [
+-- some columns more
+pub filled-more : (width from cols : ℕ) (places : List ℕ) (run value : ℕ → ℕ → ℕ) (old now new : ℕ → ℕ) → from + cols ≤ width
+    → ((j c : ℕ) → j < length places → c < cols → run j c ≡ value j (from + c)) → AreRunsFilled width from cols places run (length places) now new
+    → AreFilled width places value from old now → AreFilled width places value (from + cols) old new
+filled-more width from cols places run value old now new within same put h = record {
+  written = λ j i b m. elim (cases_lt i from) as (λ _. new (get_or places j 0 * width + i) ≡ value j i) [
     | inl before ↦
         put.others (get_or places j 0 * width + i)
-        (λ s d e. omega (arith, before, (same_from_place (get_or places j 0) i (get_or places s 0) k width (omega (arith, before, m)) m e).1))
+        (λ s c d e f.
+        let q = same_from_place (get_or places j 0) i (get_or places s 0) (from + c) width (omega (arith, before, within)) (omega (arith, e, within)) f in
+        omega (arith, before, q.1))
         ∙ h.written j i b before
-    | inr after ↦ let is : k ≡ i = omega (arith, after, c) in subst (λ n. new (get_or places j 0 * width + n) ≡ value j n) is (put.written j b)
+    | inr after ↦
+        let c : ℕ = i - from in
+        let e : from + c ≡ i = omega (arith, after) in
+        let inside : c < cols = omega (arith, e, m) in
+        subst (λ n. new (get_or places j 0 * width + n) ≡ value j n) e (put.written j c b inside ∙ same j c b inside)
   ];
-  others = λ i apart. put.others i (λ j b. apart j k b m) ∙ h.others i apart;
-}
-
--- one word more of a row
-pub row-more : (width place k : ℕ) (value old now new : ℕ → ℕ) → k < width → new (place * width + k) ≡ value k → ((i : ℕ) → i ≢ place * width + k → new i ≡ now i)
-    → IsRowFilled width place value k old now → IsRowFilled width place value (k + 1) old new
-row-more width place k value old now new m put kept h = record {
-  written = λ i b. elim (cases_lt i k) as (λ _. new (place * width + i) ≡ value i) [
-    | inl before ↦ kept (place * width + i) (λ e. omega (arith, before, e)) ∙ h.written i before
-    | inr after ↦ let is : k ≡ i = omega (arith, after, b) in subst (λ n. new (place * width + n) ≡ value n) is put
-  ];
-  others = λ i apart. kept i (apart k m) ∙ h.others i apart;
+  others = λ i apart. put.others i (λ j c b e. apart j (from + c) b (omega (arith, e, within))) ∙ h.others i apart;
 }
 
 -- the item in a place, whichever stands for none
@@ -75,7 +77,7 @@ one-place xs i j h l m e = elim (cases_lt i j) as (λ _. i ≡ j) [
 module _ {M : Type 0} (word : List M → ℕ → ℕ) (width : ℕ) (indices : List ℕ) (rows : List (Row M)) (wanted : List ℕ) (count : length indices ≡ length rows) where
   -- one wanted row more, which is in hand, and is copied
   pub copied-more : (n p : ℕ) (now new : ℕ → ℕ) → IsStrictlyIncreasing indices → p < length indices → get_or indices p 0 ≡ get_or wanted n 0
-      → ((d : Row M) → IsRowFilled width n (word (get_or rows p d).cells.now) width now new) → AreCopied word width indices rows wanted n now → AreCopied word width indices rows wanted (n + 1) new
+      → ((d : Row M) → AreWritten (λ k. n * width + k) (word (get_or rows p d).cells.now) width now new) → AreCopied word width indices rows wanted n now → AreCopied word width indices rows wanted (n + 1) new
   copied-more n p now new rising l is put h t q k d b m same c =
       elim (cases_lt t n) as (λ _. new (t * width + k) ≡ word (get_or rows q d).cells.now k) [
         | inl before ↦

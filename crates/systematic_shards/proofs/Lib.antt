@@ -1,6 +1,8 @@
 pub mod Codewords
 pub mod RisingIndices
 pub mod Masks
+pub mod Written
+pub mod Made
 pub mod WeightedSums
 pub mod Bytes
 pub mod Elements

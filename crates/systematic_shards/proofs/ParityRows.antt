@@ -8,22 +8,21 @@ use Rattle.math_base.specs.declared.fields.goldilocks.F.{F}
 use Rattle.math_base.specs.Elements.{number, same}
 use Rattle.systematic_shards.specs.declared.rows.Row.{Row}
 use Rattle.systematic_shards.specs.declared.split.Split.{Split}
-use Rattle.systematic_shards.specs.Filled.{AreFilled, AreWithinRoom, word_by}
+use Rattle.systematic_shards.specs.Filled.{AreFilled, AreWithinRoom, IsCodewordThrough, row_word}
 use Rattle.systematic_shards.specs.Masks.{IsFree, masked_number}
-use Rattle.systematic_shards.specs.Refusals.{AreElements}
-use Rattle.systematic_shards.specs.Shards.{AreBlockRows, AreShards, HaveCodewordThrough, HaveOneCodewordOf, HaveOneEncoding, IsElementIn, column_of_rows, element_in, mask_of_row, word_in}
-use Rattle.systematic_shards.specs.Weights.{AreWeightRows, sum_at}
+use Rattle.systematic_shards.specs.Refusals.{AreElements, HaveCodewordOf}
+use Rattle.systematic_shards.specs.Shards.{AreBlockRows, AreShards, HaveCodewordThrough, HaveOneCodewordOf, HaveOneEncoding, IsElementIn, element_in, mask_of_row, word_in}
 use Rattle.systematic_shards.proofs.Codewords.{codeword, one_codeword}
 use Rattle.systematic_shards.proofs.Elements.{element-word, word-fits, word-from_same}
-use Rattle.systematic_shards.proofs.OneCodeword.{some_item, through-rows, word-of_codeword}
+use Rattle.systematic_shards.proofs.OneCodeword.{some_item, through-rows}
 use Rattle.systematic_shards.proofs.Ranges.{range-distinct, range-rising, room-for, rows-from_range, rows-to_range}
 
--- words by weights have room where all rows have
-pub room-filled : {M : Type 0} (word : List M → ℕ → ℕ) (least mask size n width : ℕ) (rows : List (Row M)) (weights : List F) (indices places : List ℕ) → mask < 2 ^ 32
-    → size ≡ n * (8 * width) → All (λ p. p < n) places → AreWithinRoom size width places (word_by word least mask rows weights indices)
-room-filled word least mask size n width rows weights indices places short is below j k l m =
-    room-for size n width (get_or places j 0) k (word_by word least mask rows weights indices j k) is (below j 0 l) m
-    (word-fits least mask (get_or indices j 0) (sum_at (column_of_rows word least mask rows k) weights j) short)
+-- there is room for rows of a where there is room for all of theirs
+pub room-filled : (split : Split) (mask size n : ℕ) (a : ℕ → ℕ → F) (indices places : List ℕ) → mask < 2 ^ 32 → size ≡ n * (8 * split.width) → All (λ p. p < n) places
+    → AreWithinRoom size split.width places (row_word split mask a indices)
+room-filled split mask size n a indices places short is below j k l m =
+    room-for size n split.width (get_or places j 0) k (row_word split mask a indices j k) is (below j 0 l) m
+    (word-fits split.min mask (get_or indices j 0) (a (get_or indices j 0) k) short)
 
 module _ {M : Type 0} (word : List M → ℕ → ℕ) (split : Split) (mask : ℕ) (short : mask < 2 ^ 32) (block : List M) (rows : List (Row M)) (are : AreBlockRows word split.width block split.min rows) where
   -- the indices of the data rows
@@ -48,21 +47,21 @@ module _ {M : Type 0} (word : List M → ℕ → ℕ) (split : Split) (mask : �
       subst (λ w. IsElementIn split.min mask row.index w) (sym (are.words t k d b m))
       (fit (t * split.width + k) c, λ _. free (t * split.width + k) c, λ past. absurd (omega (arith, past, b, are.index t d b)))
 
-  -- rows by weights from the data rows are the parity rows
-  pub encoded-shards : (first wanted places : List ℕ) (weights : List F) (old new : ℕ → ℕ) → first ≡ range_with_len 0 split.min → wanted ≡ range_with_len split.min (split.total - split.min)
-      → places ≡ range_with_len 0 (length wanted) → AreWeightRows split.total first wanted (length wanted) weights → IsFree (split.min * split.width) (word block) mask
-      → ((k : ℕ) → k < split.min * split.width → word block k < 2 ^ 64)
-      → AreFilled split.width places (word_by word split.min mask rows weights wanted) split.width old new → AreShards split mask (word block) new
-  encoded-shards first wanted places weights old new first_are wanted_are places_are W free fit filled =
-      let n : ℕ = split.total - split.min in
+  -- they are rows of a codeword
+  pub block-codeword : IsFree (split.min * split.width) (word block) mask → ((k : ℕ) → k < split.min * split.width → word block k < 2 ^ 64) → HaveCodewordOf word split mask rows
+  block-codeword free fit =
       let within : split.min ≤ split.total = split.within in
-      let indices : first ≡ map (λ row. row.index) rows = first_are ∙ block-indices in
-      let rising = range-rising 0 split.min split.total (omega (arith, within)) in
-      let rising_first = subst (λ xs. All (λ i. i < split.total) xs) (sym first_are) rising.1 in
-      let many : length wanted ≡ n = ap length wanted_are ∙ length-range_with_len split.min n in
-      let held : length places ≡ n = ap length places_are ∙ length-range_with_len 0 (length wanted) ∙ many in
-      let count : length first ≡ split.min = ap length first_are ∙ length-range_with_len 0 split.min in
-      let (a, of_code, belong) = through-rows word split mask short rows (range_with_len 0 split.min) block-indices rising are.count (block-elements free fit) in (
+      through-rows word split mask short rows (range_with_len 0 split.min) block-indices (range-rising 0 split.min split.total (omega (arith, within))) are.count (block-elements free fit)
+
+  -- of which the others are the parity rows
+  pub encoded-shards : (targets places : List ℕ) (old new : ℕ → ℕ) → targets ≡ range_with_len split.min (split.total - split.min) → places ≡ range_with_len 0 (length targets)
+      → HaveCodewordOf word split mask rows
+      → ((a : ℕ → ℕ → F) → IsCodewordThrough word split mask rows a → AreFilled split.width places (row_word split mask a targets) split.width old new) → AreShards split mask (word block) new
+  encoded-shards targets places old new targets_are places_are (a, of_code, belong) filled =
+      let n : ℕ = split.total - split.min in
+      let many : length targets ≡ n = ap length targets_are ∙ length-range_with_len split.min n in
+      let held : length places ≡ n = ap length places_are ∙ length-range_with_len 0 (length targets) ∙ many in
+      let put = filled a (of_code, belong) in (
         a,
         of_code,
         rows-from_range split mask a 0 split.min (word block) (λ t k l m.
@@ -71,13 +70,10 @@ module _ {M : Type 0} (word : List M → ℕ → ℕ) (split : Split) (mask : �
             let index : (get_or rows t d).index ≡ 0 + t = omega (arith, are.index t d l) in
             sym (are.words t k d l m) ∙ belong t d c k m ∙ ap (λ i. word_in split.min mask i (a i k)) index),
         rows-from_range split mask a split.min n new (λ t k l m.
-            let b : t < length wanted = omega (arith, l, many) in
-            let place : get_or places t 0 ≡ t = ap (λ xs. get_or xs t 0) places_are ∙ (let e : get_or (range_with_len 0 (length wanted)) t 0 ≡ t = omega (arith, get_or-range_with_len 0 (length wanted) t 0 b) in e) in
-            let index : get_or wanted t 0 ≡ split.min + t = ap (λ xs. get_or xs t 0) wanted_are ∙ get_or-range_with_len split.min n t 0 l in
-            ap (λ p. new (p * split.width + k)) (sym place)
-            ∙ filled.written t k (omega (arith, l, held)) m
-            ∙ word-of_codeword word split mask short rows first wanted weights a indices rising_first (omega (arith, count)) W of_code belong t k b (omega (arith, index, l, within)) m
-            ∙ ap (λ i. word_in split.min mask i (a i k)) index),
+            let b : t < length targets = omega (arith, l, many) in
+            let place : get_or places t 0 ≡ t = ap (λ xs. get_or xs t 0) places_are ∙ (let e : get_or (range_with_len 0 (length targets)) t 0 ≡ t = omega (arith, get_or-range_with_len 0 (length targets) t 0 b) in e) in
+            let index : get_or targets t 0 ≡ split.min + t = ap (λ xs. get_or xs t 0) targets_are ∙ get_or-range_with_len split.min n t 0 l in
+            ap (λ p. new (p * split.width + k)) (sym place) ∙ put.written t k (omega (arith, l, held)) m ∙ ap (λ i. word_in split.min mask i (a i k)) index),
       )
 
 -- elements with one word are same

@@ -8,14 +8,13 @@ use Rattle.std.proofs.lemmas.Nat.{same_from_place}
 use Rattle.math_base.specs.declared.fields.goldilocks.F.{F}
 use Rattle.systematic_shards.specs.declared.rows.Row.{Row}
 use Rattle.systematic_shards.specs.declared.split.Split.{Split}
-use Rattle.systematic_shards.specs.Filled.{AreFilled, AreWithinRoom, word_by}
+use Rattle.systematic_shards.specs.Filled.{AreFilled, AreWithinRoom, row_word}
 use Rattle.systematic_shards.specs.Held.{AreIndexed}
-use Rattle.systematic_shards.specs.Shards.{AreRowsAt, AreWithinAt, BelongTo, IsCodewordOf, IsRowOf, word_in}
+use Rattle.systematic_shards.specs.Shards.{AreRowsAt, AreWithinAt, BelongTo, word_in}
 use Rattle.systematic_shards.specs.Wanted.{AreCopied, AreCopiesWithin, AreLost}
-use Rattle.systematic_shards.specs.Weights.{AreRising, AreWeightRows}
 use Rattle.systematic_shards.specs.Words.{IsWithin}
 use Rattle.systematic_shards.proofs.Held.{rising-more}
-use Rattle.systematic_shards.proofs.OneCodeword.{rising-take, some_item, word-of_codeword}
+use Rattle.systematic_shards.proofs.OneCodeword.{some_item}
 
 -- nothing is lost so far
 pub lost-none : (indices wanted : List ℕ) → AreLost indices wanted 0 [] []
@@ -78,9 +77,8 @@ lost-more indices wanted n lost places none h =
       ];
     }
 
-module _ {M : Type 0} (word : List M → ℕ → ℕ) (split : Split) (mask : ℕ) (short : mask < 2 ^ 32) (indices : List ℕ) (held : List (Row M)) (indexed : AreIndexed split indices held)
-    (wanted lost places : List ℕ) (weights : List F) (below : All (λ i. i < split.total) wanted) (L : AreLost indices wanted (length wanted) lost places)
-    (W : AreWeightRows split.total (take split.min indices) lost (length lost) weights) (a : ℕ → ℕ → F) (of_code : IsCodewordOf split a) (belong : BelongTo word split mask held a) where
+module _ {M : Type 0} (word : List M → ℕ → ℕ) (split : Split) (mask : ℕ) (indices : List ℕ) (held : List (Row M)) (indexed : AreIndexed split indices held)
+    (wanted lost places : List ℕ) (L : AreLost indices wanted (length wanted) lost places) (a : ℕ → ℕ → F) (belong : BelongTo word split mask held a) where
   many : length indices ≡ length held
   many = ap length indexed.are ∙ length-map held (λ row. row.index)
 
@@ -89,29 +87,17 @@ module _ {M : Type 0} (word : List M → ℕ → ℕ) (split : Split) (mask : �
 
   -- a wanted row that is in hand is that of a
   copy-word : (t p k : ℕ) (d : Row M) → p < length held → get_or indices p 0 ≡ get_or wanted t 0 → k < split.width
-      → word (get_or held p d).cells.now k ≡ word_in split.min mask (get_or wanted t 0) (a (get_or wanted t 0) k)
+      → word (get_or held p d).cells.now k ≡ row_word split mask a wanted t k
   copy-word t p k d l e m = belong p d l k m ∙ ap (λ i. word_in split.min mask i (a i k)) (index-held p d l ∙ e)
 
-  -- one by weights is that of a
-  lost-word : (j k : ℕ) → j < length places → k < split.width
-      → word_by word split.min mask (take split.min held) weights lost j k ≡ word_in split.min mask (get_or wanted (get_or places j 0) 0) (a (get_or wanted (get_or places j 0) 0) k)
-  lost-word j k l m =
-      let chosen : List (Row M) = take split.min held in
-      let first : take split.min indices ≡ map (λ row. row.index) chosen = ap (take split.min) indexed.are ∙ take-map (λ row. row.index) split.min held in
-      let count : length (take split.min indices) ≡ split.min = length-take-le split.min indices (omega (arith, indexed.enough, many)) in
-      let rising : AreRising split.total (take split.min indices) = rising-take split.min split.total indices (omega (arith, indexed.enough, many)) indexed.rising in
-      let of_chosen : BelongTo word split mask chosen a =
-      λ t e n. let c : t < split.min = omega (arith, n, length-take-le split.min held indexed.enough) in
-      subst (λ (row : Row M). IsRowOf split mask a row.index (word row.cells.now)) (sym (get_or-take split.min held t e c)) (belong t e (omega (arith, c, indexed.enough))) in
-      let index : get_or lost j 0 ≡ get_or wanted (get_or places j 0) 0 = L.index j l in
-      let inside : get_or wanted (get_or places j 0) 0 < split.total = below (get_or places j 0) 0 (L.inside j l) in
-      word-of_codeword word split mask short chosen (take split.min indices) lost weights a first rising.1 (omega (arith, count)) W of_code of_chosen j k (omega (arith, l, L.count)) (omega (arith, index, inside)) m
-      ∙ ap (λ i. word_in split.min mask i (a i k)) index
+  -- one that is lost is that of a in its place
+  lost-word : (j k : ℕ) → j < length places → row_word split mask a lost j k ≡ row_word split mask a wanted (get_or places j 0) k
+  lost-word j k l = ap (λ i. word_in split.min mask i (a i k)) (L.index j l)
 
   -- all wanted rows are written
   pub wanted-rows : (mid new : ℕ → ℕ) → AreCopied word split.width indices held wanted (length wanted) mid
-      → AreFilled split.width places (word_by word split.min mask (take split.min held) weights lost) split.width mid new → AreRowsAt split mask a wanted new
-  wanted-rows mid new copied filled t l k m = elim (L.all t l) as (λ _. new (t * split.width + k) ≡ word_in split.min mask (get_or wanted t 0) (a (get_or wanted t 0) k)) [
+      → AreFilled split.width places (row_word split mask a lost) split.width mid new → AreRowsAt split mask a wanted new
+  wanted-rows mid new copied filled t l k m = elim (L.all t l) as (λ _. new (t * split.width + k) ≡ row_word split mask a wanted t k) [
     | inl there ↦
         let p : ℕ = there.0 in
         let b : p < length held = omega (arith, there.1, many) in
@@ -123,16 +109,16 @@ module _ {M : Type 0} (word : List M → ℕ → ℕ) (split : Split) (mask : �
         L.missing j c (subst (Contains indices) (ap (λ q. get_or wanted q 0) same ∙ sym (L.index j c)) there))
         ∙ copied t p k d l b e m ∙ copy-word t p k d b e m
     | inr (j, b, e) ↦
-        ap (λ q. new (q * split.width + k)) (sym e) ∙ filled.written j k b m ∙ lost-word j k b m ∙ ap (λ q. word_in split.min mask (get_or wanted q 0) (a (get_or wanted q 0) k)) e
+        ap (λ q. new (q * split.width + k)) (sym e) ∙ filled.written j k b m ∙ lost-word j k b ∙ ap (λ q. row_word split mask a wanted q k) e
   ]
 
   -- where there is room for the rows of a, there is room for those in hand and for those that are lost
   pub copies-within : (size : ℕ) → AreWithinAt size split mask a wanted → AreCopiesWithin size word split.width indices held wanted (length wanted)
   copies-within size within t p k d l b e m = subst (IsWithin size (t * split.width + k)) (sym (copy-word t p k d b e m)) (within t k l m)
 
-  pub lost-within : (size : ℕ) → AreWithinAt size split mask a wanted → AreWithinRoom size split.width places (word_by word split.min mask (take split.min held) weights lost)
+  pub lost-within : (size : ℕ) → AreWithinAt size split mask a wanted → AreWithinRoom size split.width places (row_word split mask a lost)
   lost-within size within j k l m =
-      subst (IsWithin size (get_or places j 0 * split.width + k)) (sym (lost-word j k l m)) (within (get_or places j 0) k (L.inside j l) m)
+      subst (IsWithin size (get_or places j 0 * split.width + k)) (sym (lost-word j k l)) (within (get_or places j 0) k (L.inside j l) m)
 
 -- a search that finds nothing
 pub missing-from : (xs : List ℕ) (x : ℕ) (r : Result ℕ ℕ)

@@ -14,7 +14,7 @@ use Rattle.math_base.proofs.ElementNumbers.{same_number}
 use Rattle.math_restoring.specs.Restored.{item}
 use Rattle.math_transforms.specs.RootWeights.{powers_at}
 use Rattle.systematic_shards.specs.Codewords.{IsCodeword}
-use Rattle.systematic_shards.specs.Weights.{AreWeightRows, AreWeightsFor, IsValueThrough, sum_at}
+use Rattle.systematic_shards.specs.Weights.{AreWeightRows, AreWeightsFor, IsValueThrough}
 use Rattle.systematic_shards.proofs.Codewords.{domain_of, point}
 
 -- there are as many weights as indices
@@ -49,20 +49,6 @@ value-cell lg min total width index k indices column x a next inside below enoug
       values = λ t b. held t b ∙ of_p.values (get_or indices t 0) (below t 0 b);
     })
     ∙ sym (of_p.values index inside)
-
--- so is the sum of row j of the weights
-pub sum-cell : (min total width k j : ℕ) (indices wanted : List ℕ) (column weights : List F) (a : ℕ → ℕ → F) → 1 ≤ total → total < 2 ^ 32 → get_or wanted j 0 < total
-    → All (λ i. i < total) indices → min ≤ length indices → k < width → j < length wanted → length column ≡ length indices → IsCodeword min total width a
-    → AreWeightRows total indices wanted (length wanted) weights
-    → ((t : ℕ) → t < length indices → same (item column t) (a (get_or indices t 0) k)) → same (sum_at column weights j) (a (get_or wanted j 0) k)
-sum-cell min total width k j indices wanted column weights a some short inside below enough l m size codeword W held =
-    let (lg, next, small) = domain_of total some short in
-    let row : List F = take (length indices) (drop (j * length indices) weights) in
-    let is : sum_at column weights j ≡ weighted_sum (residue 0) sum product column row =
-    ap (λ n. weighted_sum (residue 0) sum product column (take n (drop (j * n) weights))) size in
-    ap number is
-    ∙ value-cell lg min total width (get_or wanted j 0) k indices column (weighted_sum (residue 0) sum product column row) a next inside below enough l codeword held
-    (sum-value lg (get_or wanted j 0) indices column row size (W.each lg j next m))
 
 -- no row of weights so far
 pub weights-none : (total : ℕ) (indices wanted : List ℕ) (weights : List F) → length weights ≡ 0 → AreWeightRows total indices wanted 0 weights

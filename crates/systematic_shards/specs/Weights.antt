@@ -3,9 +3,8 @@ use Rattle.std.specs.Prelude.{◌≡◌, ℕ, ◌*◌, ◌<◌, ◌≤◌, ◌^�
 use Rattle.std.specs.Int.{IsNextPowerOfTwo}
 use Rattle.std.specs.List.Sorted.{IsStrictlyIncreasing}
 use Rattle.math_theory.specs.Powers.{power}
-use Rattle.math_theory.specs.Sums.{weighted_sum}
 use Rattle.math_base.specs.declared.fields.goldilocks.F.{F}
-use Rattle.math_base.specs.Elements.{residue, same, sum, product, root_of, goldilocks}
+use Rattle.math_base.specs.Elements.{residue, same, product, root_of, goldilocks}
 use Rattle.math_base.specs.Polynomials.{AreWeightsAt}
 use Rattle.math_restoring.specs.Restored.{item}
 use Rattle.math_transforms.specs.RootWeights.{powers_at}
@@ -24,10 +23,6 @@ pub record AreWeightRows (total : ℕ) (indices wanted : List ℕ) (n : ℕ) (we
   pub size : length weights ≡ n * length indices
   pub each : (lg j : ℕ) → IsNextPowerOfTwo total (2 ^ lg) → j < n
       → AreWeightsFor lg indices (slice_index wanted j) (take (length indices) (drop (j * length indices) weights))
-
--- the sum of the items, each times its weight in row j of the weights
-abbrev pub sum_at : List F → List F → ℕ → F
-sum_at column weights j = weighted_sum (residue 0) sum product column (take (length column) (drop (j * length column) weights))
 
 -- p has at most as many coefficients as there are indices, and the items of the column as its values at these
 pub record IsThrough (lg : ℕ) (indices : List ℕ) (column p : List F) : Type 0 where

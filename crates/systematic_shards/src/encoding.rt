@@ -5,12 +5,13 @@ ghost use Rattle.std.specs.List.{range_with_len};
 ghost use Rattle.systematic_shards.specs.Masks.{IsLeastMask};
 ghost use Rattle.systematic_shards.specs.Shards.{AreBlockRows, AreShards};
 
-use crate::filling::{Plan, fill, zeros};
+use crate::filling::fill;
+use crate::making::Weights;
 use crate::mask::least_mask;
 use crate::memory::WordMemory;
 use crate::rows::Row;
 use crate::split::{Code, Split};
-use crate::weights::{indices_between, weight_rows};
+use crate::weights::indices_between;
 use math_base::algebra::Mem;
 use std::alloc::Global;
 
@@ -51,8 +52,8 @@ fn places_below(alloc: Global, count: usize) -> Mem<Vec<usize>>
 /// The block has as many bytes as the split says, and `parity` as many as the parity rows. If `min`
 /// is `total`, or there are no bytes, only the mask is found. It takes memory for `min` weights for
 /// each parity row, for a few times N elements while these are made, where N is `total` rounded up
-/// to a power of two, and, where the mask is not 0, for a flag for each word. If that is refused,
-/// it writes nothing.
+/// to a power of two, for a column of all rows or 32 KiB, and, where the mask is not 0, for a flag
+/// for each word. If that is refused, it writes nothing.
 ///
 /// ```
 /// use systematic_shards::{Split, encode};
@@ -74,16 +75,10 @@ pub fn encode<M: WordMemory>(alloc: Global, split: Split, block: &[M], parity: &
     let mask = least_mask(alloc, block, split.min as usize * split.width)?;
     let rows = block_rows(alloc, block, split)?;
     let first = indices_between(alloc, 0, split.min)?;
-    let wanted = indices_between(alloc, split.min, split.total)?;
-    let places = places_below(alloc, wanted.len())?;
-    let weights = weight_rows(alloc, split.total, &first, &wanted)?;
-    let mut column = zeros(alloc, rows.len())?;
-    let code = Code { split, mask };
-    let plan = Plan {
-        indices: &wanted,
-        places: &places,
-        weights: &weights,
-    };
-    fill(&rows, &plan, code, &mut column, parity);
+    let targets = indices_between(alloc, split.min, split.total)?;
+    let places = places_below(alloc, targets.len())?;
+    let weights = Weights::new(alloc, &first, &targets, Code { split, mask })?;
+    let mut room = weights.room(alloc)?;
+    fill(&rows, &weights, &places, &mut room, parity);
     Ok(mask)
 }

@@ -1,108 +1,109 @@
-//! Rows by weights, column by column: the inner loops.
-//!
-//! A column of the rows in hand is gathered once, and each further row takes a sum of products from
-//! it. Nothing here takes memory but `zeros`.
+//! Rows that are made, and what becomes of them, some columns at a time: they are written, or
+//! compared with rows in hand.
 
-ghost use Rattle.std.specs.Prelude.{◌≡◌, ◌↔◌, ◌+◌, ◌*◌, ◌<◌, ◌≤◌, ◌^◌, ℕ, All, length, slice_index};
-ghost use Rattle.std.specs.Prelude.{IsTrue, IfOk};
-ghost use Rattle.math_restoring.specs.Restored.{AreDistinct};
-ghost use Rattle.systematic_shards.specs.Filled.{AreFilled, AreWithinRoom, HaveSums, HaveSumsIn};
-ghost use Rattle.systematic_shards.specs.Filled.{IsColumnFilled, IsRowFilled, word_by};
-ghost use Rattle.systematic_shards.specs.Shards.{column_of_rows, word_in};
-ghost use Rattle.systematic_shards.specs.Weights.{sum_at};
-ghost use Rattle.systematic_shards.specs.Words.{IsWithin};
+ghost use Rattle.std.specs.Prelude.{◌≡◌, ◌↔◌, ◌+◌, ◌*◌, ◌<◌, ◌≤◌, ◌^◌, ℕ, IsTrue, length, map, slice_index};
+ghost use Rattle.math_base.specs.declared.fields.goldilocks.F.{F};
+ghost use Rattle.math_base.specs.Elements.{number, residue, same};
+ghost use Rattle.math_restoring.specs.Restored.{item};
+ghost use Rattle.systematic_shards.specs.Filled.{AreFilled, ArePlaces, AreRunsFilled, AreRunsWithin};
+ghost use Rattle.systematic_shards.specs.Filled.{HaveElements, HaveRoomFor, IsCodewordThrough};
+ghost use Rattle.systematic_shards.specs.Filled.{made_word, row_word};
+ghost use Rattle.systematic_shards.specs.Masks.{masked_number};
+ghost use Rattle.systematic_shards.specs.Refusals.{AreElements};
+ghost use Rattle.systematic_shards.specs.Shards.{BelongTo};
+ghost use Rattle.systematic_shards.specs.Words.{AreWritten, IsWithin};
 
+use crate::making::Weights;
 use crate::mask::{element_of, word_of};
-use crate::memory::WordMemory;
+use crate::memory::{RUN, WordMemory, run_of};
 use crate::rows::{Row, row_mask};
 use crate::split::Code;
-use math_base::algebra::Mem;
 use math_base::fields::goldilocks::F;
-use math_values::sums::sum_of_products;
-use std::alloc::Global;
 
-/// Rows that are written, each by its weights from rows in hand.
-#[derive(Clone, Copy)]
-pub(crate) struct Plan<'a> {
-    /// Their indices.
-    pub(crate) indices: &'a [u32],
-    /// How many rows stand before each where it is written.
-    pub(crate) places: &'a [usize],
-    /// The weights of each, row after row: as many as there are rows in hand.
-    pub(crate) weights: &'a [F],
-}
-
-/// Room for so many elements.
-pub(crate) fn zeros(alloc: Global, count: usize) -> Mem<Vec<F>>
-    ensures { IfOk result (λ v. length v.items ≡ count) }
+/// The words of so many elements under the mask, and zeros behind them.
+fn words_of(elements: &[F], mask: u32) -> [u64; RUN]
+    requires { length elements.now ≤ 64 }
+    ensures size { length result ≡ 64 }
+    ensures words { (c : ℕ) → c < length elements.now
+        → slice_index result c ≡ masked_number mask (number (item elements.now c)) }
 {
-    let room = vec![in alloc; F::from(0); count]?;
-    Ok(room)
-}
-
-/// Writes the elements in column k of the rows over the items of `column`.
-pub(crate) fn gather<M: WordMemory>(rows: &[Row<'_, M>], code: Code, k: usize, column: &mut [F])
-    requires { length column.old ≡ length rows.now }
-    ensures { column.new ≡ column_of_rows M.word code.split.min code.mask rows.now k }
-{
-    for t in 0..column.len() {
-        let row = &rows[t];
-        column[t] = element_of(M::read(row.cells, k), row_mask(code, row.index));
+    let mut words = [0; RUN];
+    for c in 0..elements.len() {
+        words[c] = word_of(elements[c], mask);
     }
+    words
 }
 
-/// Writes word k of the rows of the plan, each by its weights from a column.
-fn fill_column<M: WordMemory>(column: &[F], plan: &Plan<'_>, code: Code, k: usize, out: &mut [M])
-    requires weights { length plan.now.weights.now
-        ≡ length plan.now.indices.now * length column.now }
-    requires places { length plan.now.places.now ≡ length plan.now.indices.now }
-    requires apart { AreDistinct plan.now.places.now }
-    requires inside { All (λ p. (p + 1) * code.split.width ≤ 2 ^ 61) plan.now.places.now }
-    requires within { k < code.split.width }
-    requires fits { (j : ℕ) → j < length plan.now.indices.now
-        → IsWithin (M.BYTES * length out.old)
-        (slice_index plan.now.places.now j * code.split.width + k)
-        (word_in code.split.min code.mask (slice_index plan.now.indices.now j)
-        (sum_at column.now plan.now.weights.now j)) }
-    ensures { IsColumnFilled code.split.width k plan.now.places.now
-        (λ j. word_in code.split.min code.mask (slice_index plan.now.indices.now j)
-        (sum_at column.now plan.now.weights.now j))
-        (length plan.now.indices.now) (M.word out.old) (M.word out.new) }
+/// Writes the words of the elements under the mask, the first as word `at`.
+fn write_elements<M: WordMemory>(elements: &[F], mask: u32, at: usize, out: &mut [M])
+    requires few { length elements.now ≤ 64 }
+    requires place { at + length elements.now ≤ 2 ^ 61 }
+    requires fits { (c : ℕ) → c < length elements.now → IsWithin (M.BYTES * length out.old)
+        (at + c) (masked_number mask (number (item elements.now c))) }
+    ensures { AreWritten (λ c. at + c) (λ c. masked_number mask (number (item elements.now c)))
+        (length elements.now) (M.word out.old) (M.word out.new) }
 {
-    let min = column.len();
-    for j in 0..plan.indices.len() {
-        let sum = sum_of_products(column, &plan.weights[j * min..(j + 1) * min]);
-        let word = word_of(sum, row_mask(code, plan.indices[j]));
-        M::write(out, plan.places[j] * code.split.width + k, word);
-    }
+    let words = words_of(elements, mask);
+    M::write_run(out, at, &words[..elements.len()]);
 }
 
-/// Writes the rows of the plan, each by its weights from the rows in hand. `column` is room for a
-/// column.
-pub(crate) fn fill<M: WordMemory>(
-    rows: &[Row<'_, M>],
-    plan: &Plan<'_>,
-    code: Code,
-    column: &mut [F],
+/// Writes the words of the elements that are made in `cols` columns, from column `from` on: those
+/// of each row in its place.
+fn write_made<M: WordMemory>(
+    made: &[F],
+    weights: &Weights,
+    places: &[usize],
+    from: usize,
+    cols: usize,
     out: &mut [M],
 )
-    requires size { length column.old ≡ length rows.now }
-    requires weights { length plan.now.weights.now
-        ≡ length plan.now.indices.now * length rows.now }
-    requires places { length plan.now.places.now ≡ length plan.now.indices.now }
-    requires apart { AreDistinct plan.now.places.now }
-    requires inside { All (λ p. (p + 1) * code.split.width ≤ 2 ^ 61) plan.now.places.now }
-    requires fits { AreWithinRoom (M.BYTES * length out.old) code.split.width plan.now.places.now
-        (word_by M.word code.split.min code.mask rows.now plan.now.weights.now
-        plan.now.indices.now) }
-    ensures { AreFilled code.split.width plan.now.places.now
-        (word_by M.word code.split.min code.mask rows.now plan.now.weights.now
-        plan.now.indices.now)
-        code.split.width (M.word out.old) (M.word out.new) }
+    requires room { length weights.now.targets.items * cols ≤ length made.now }
+    requires few { cols ≤ 64 }
+    requires within { from + cols ≤ weights.now.code.split.width }
+    requires places { ArePlaces weights.now.code.split.width weights.now.targets.items places.now }
+    requires fits { let code = weights.now.code in AreRunsWithin (M.BYTES * length out.old)
+        code.split.width from cols places.now
+        (made_word code.split code.mask weights.now.targets.items cols made.now)
+        (length places.now) }
+    ensures { let code = weights.now.code in AreRunsFilled code.split.width from cols places.now
+        (made_word code.split code.mask weights.now.targets.items cols made.now)
+        (length places.now) (M.word out.old) (M.word out.new) }
 {
-    for k in 0..code.split.width {
-        gather(rows, code, k, column);
-        fill_column(column, plan, code, k, out);
+    let code = weights.code;
+    for j in 0..places.len() {
+        let mask = row_mask(code, weights.targets[j]);
+        let at = places[j] * code.split.width + from;
+        write_elements(&made[j * cols..(j + 1) * cols], mask, at, out);
+    }
+}
+
+/// Makes the rows of the targets, and writes each in its place. The rows are those of the indices.
+pub(crate) fn fill<M: WordMemory>(
+    rows: &[Row<'_, M>],
+    weights: &Weights,
+    places: &[usize],
+    room: &mut [F],
+    out: &mut [M],
+)
+    requires rows { weights.now.indices.items ≡ map (λ row. row.index) rows.now }
+    requires places { ArePlaces weights.now.code.split.width weights.now.targets.items places.now }
+    requires room { (length weights.now.indices.items + length weights.now.targets.items)
+        * weights.now.cols ≤ length room.old }
+    requires fits { HaveRoomFor M.word (M.BYTES * length out.old) weights.now.code.split
+        weights.now.code.mask rows.now weights.now.targets.items places.now }
+    ensures { (a : ℕ → ℕ → F) → let code = weights.now.code in
+        IsCodewordThrough M.word code.split code.mask rows.now a
+        → AreFilled code.split.width places.now
+        (row_word code.split code.mask a weights.now.targets.items) code.split.width
+        (M.word out.old) (M.word out.new) }
+{
+    let width = weights.code.split.width;
+    let mut from = 0;
+    while from < width {
+        let cols = weights.cols.min(width - from);
+        weights.make(rows, from, cols, room);
+        write_made(room, weights, places, from, cols, out);
+        from += cols;
     }
 }
 
@@ -111,54 +112,83 @@ pub(crate) fn copy_row<M: WordMemory>(cells: &[M], width: usize, place: usize, o
     requires inside { (place + 1) * width ≤ 2 ^ 61 }
     requires fits { (k : ℕ) → k < width
         → IsWithin (M.BYTES * length out.old) (place * width + k) (M.word cells.now k) }
-    ensures { IsRowFilled width place (M.word cells.now) width (M.word out.old) (M.word out.new) }
+    ensures { AreWritten (λ k. place * width + k) (M.word cells.now) width (M.word out.old)
+        (M.word out.new) }
 {
-    for k in 0..width {
-        M::write(out, place * width + k, M::read(cells, k));
+    let mut from = 0;
+    while from < width {
+        let some = RUN.min(width - from);
+        let run = run_of(cells, from, some);
+        M::write_run(out, place * width + from, &run[..some]);
+        from += some;
     }
 }
 
-/// Whether word k of each further row is what its weights give from a column.
-fn have_sums_in<M: WordMemory>(
-    column: &[F],
-    weights: &[F],
-    further: &[Row<'_, M>],
-    code: Code,
-    k: usize,
-) -> bool
-    requires { length weights.now ≡ length further.now * length column.now }
-    ensures { IsTrue result ↔ HaveSumsIn M.word code.split.min code.mask column.now weights.now
-        further.now k (length further.now) }
+/// Whether the words are those of the elements under the mask.
+fn are_words_of(words: &[u64], mask: u32, elements: &[F]) -> bool
+    requires { length words.now ≡ length elements.now }
+    ensures { IsTrue result ↔ ((c : ℕ) → c < length elements.now
+        → same (residue (masked_number mask (slice_index words.now c))) (item elements.now c)) }
 {
-    let min = column.len();
-    for j in 0..further.len() {
-        let row = &further[j];
-        let sum = sum_of_products(column, &weights[j * min..(j + 1) * min]);
-        if element_of(M::read(row.cells, k), row_mask(code, row.index)) != sum {
+    for c in 0..elements.len() {
+        if element_of(words[c], mask) != elements[c] {
             return false;
         }
     }
     true
 }
 
-/// Whether each further row is what its weights give from the rows. `column` is room for a column.
-pub(crate) fn have_sums<M: WordMemory>(
+/// Whether the rows have the elements that are made in `cols` columns, from column `from` on.
+fn have_elements<M: WordMemory>(
     rows: &[Row<'_, M>],
-    further: &[Row<'_, M>],
-    weights: &[F],
     code: Code,
-    column: &mut [F],
+    from: usize,
+    cols: usize,
+    made: &[F],
 ) -> bool
-    requires size { length column.old ≡ length rows.now }
-    requires weights { length weights.now ≡ length further.now * length rows.now }
-    ensures { IsTrue result ↔ HaveSums M.word code.split.min code.mask rows.now weights.now
-        further.now code.split.width }
+    requires few { cols ≤ 64 }
+    requires within { from + cols ≤ code.split.width }
+    requires room { length rows.now * cols ≤ length made.now }
+    ensures { IsTrue result ↔ HaveElements M.word code.split code.mask rows.now from cols made.now
+        (length rows.now) }
 {
-    for k in 0..code.split.width {
-        gather(rows, code, k, column);
-        if !have_sums_in(column, weights, further, code, k) {
+    for j in 0..rows.len() {
+        let row = &rows[j];
+        let run = run_of(row.cells, from, cols);
+        let mask = row_mask(code, row.index);
+        if !are_words_of(&run[..cols], mask, &made[j * cols..(j + 1) * cols]) {
             return false;
         }
+    }
+    true
+}
+
+/// Whether the further rows, which are those of the targets, belong to the codeword of the rows.
+pub(crate) fn have_made<M: WordMemory>(
+    rows: &[Row<'_, M>],
+    further: &[Row<'_, M>],
+    weights: &Weights,
+    room: &mut [F],
+) -> bool
+    requires rows { weights.now.indices.items ≡ map (λ row. row.index) rows.now }
+    requires further { weights.now.targets.items ≡ map (λ row. row.index) further.now }
+    requires room { (length weights.now.indices.items + length weights.now.targets.items)
+        * weights.now.cols ≤ length room.old }
+    requires elements { AreElements M.word weights.now.code.split weights.now.code.mask
+        further.now }
+    ensures { (a : ℕ → ℕ → F) → let code = weights.now.code in
+        IsCodewordThrough M.word code.split code.mask rows.now a
+        → (IsTrue result ↔ BelongTo M.word code.split code.mask further.now a) }
+{
+    let code = weights.code;
+    let mut from = 0;
+    while from < code.split.width {
+        let cols = weights.cols.min(code.split.width - from);
+        weights.make(rows, from, cols, room);
+        if !have_elements(further, code, from, cols, room) {
+            return false;
+        }
+        from += cols;
     }
     true
 }

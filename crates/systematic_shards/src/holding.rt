@@ -11,11 +11,11 @@ ghost use Rattle.systematic_shards.specs.Weights.{AreRising};
 ghost use Rattle.systematic_shards.specs.declared.Error.TheVariants.{Conflict};
 
 use crate::Error;
-use crate::filling::{have_sums, zeros};
+use crate::filling::have_made;
+use crate::making::Weights;
 use crate::memory::WordMemory;
 use crate::rows::{Row, are_elements, first_difference};
 use crate::split::Code;
-use crate::weights::weight_rows;
 use math_base::algebra::Mem;
 use std::alloc::Global;
 
@@ -107,9 +107,9 @@ fn are_of_one_codeword<M: WordMemory>(
         (λ answer. IsTrue answer ↔ HaveCodewordOf M.word code.split code.mask rows.now) }
 {
     let min = code.split.min as usize;
-    let weights = weight_rows(alloc, code.split.total, &indices[..min], &indices[min..])?;
-    let mut column = zeros(alloc, min)?;
-    let answer = have_sums(&rows[..min], &rows[min..], &weights, code, &mut column);
+    let weights = Weights::new(alloc, &indices[..min], &indices[min..], code)?;
+    let mut room = weights.room(alloc)?;
+    let answer = have_made(&rows[..min], &rows[min..], &weights, &mut room);
     Ok(answer)
 }
 

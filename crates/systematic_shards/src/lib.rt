@@ -23,6 +23,7 @@ mod encoding;
 mod filling;
 mod holding;
 pub mod laws;
+mod making;
 mod mask;
 mod memory;
 mod planning;

@@ -1,11 +1,11 @@
 //! Any word as an element: the mask over its high half.
 
-ghost use Rattle.std.specs.Prelude.{◌≡◌, ◌-◌, ◌<◌, ◌≤◌, ◌^◌, ◌↔◌, ℕ, IfOk, IsTrue, OnOk};
+ghost use Rattle.std.specs.Prelude.{◌≡◌, ◌-◌, ◌<◌, ◌≤◌, ◌^◌, ◌↔◌, ℕ, All, IfOk, IsTrue, OnOk};
 ghost use Rattle.math_base.specs.Elements.{number, residue};
 ghost use Rattle.systematic_shards.specs.Masks.{AreTaken, IsFree, IsFreeOf, IsLeastMask};
 ghost use Rattle.systematic_shards.specs.Masks.{masked_number};
 
-use crate::memory::WordMemory;
+use crate::memory::{RUN, WordMemory, run_of};
 use math_base::algebra::Mem;
 use math_base::fields::goldilocks::F;
 use std::alloc::Global;
@@ -41,16 +41,36 @@ pub(crate) fn is_free_of(word: u64, mask: u32) -> bool
     (word >> 32) ^ u64::from(mask) != ALL_ONES
 }
 
+/// Whether the mask is free of each word.
+///
+/// All words are looked at before it answers, so that none waits for the one before it.
+pub(crate) fn are_free_of(words: &[u64], mask: u32) -> bool
+    ensures free { IsTrue result ↔ All (IsFreeOf mask) words.now }
+    ensures fit { All (λ word. word < 2 ^ 64) words.now }
+{
+    let mut free = true;
+    for word in words {
+        if !is_free_of(*word, mask) {
+            free = false;
+        }
+    }
+    free
+}
+
 /// Whether the mask is free of each of the first `count` words.
 fn is_free<M: WordMemory>(cells: &[M], count: usize, mask: u32) -> bool
     requires { count < 2 ^ 31 }
     ensures free { IsTrue result ↔ IsFree count (M.word cells.now) mask }
     ensures fit { IsTrue result → (k : ℕ) → k < count → M.word cells.now k < 2 ^ 64 }
 {
-    for k in 0..count {
-        if !is_free_of(M::read(cells, k), mask) {
+    let mut from = 0;
+    while from < count {
+        let some = RUN.min(count - from);
+        let run = run_of(cells, from, some);
+        if !are_free_of(&run[..some], mask) {
             return false;
         }
+        from += some;
     }
     true
 }

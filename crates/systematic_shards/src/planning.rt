@@ -1,28 +1,30 @@
-//! The rows of wanted indices: those in hand are copied, and the others come by weights.
+//! The rows of wanted indices: those in hand are copied, and the others are made from these.
 
-ghost use Rattle.std.specs.Prelude.{◌≡◌, ◌↔◌, ◌+◌, ◌*◌, ◌<◌, ◌≤◌, ◌^◌, ℕ, All, Contains, List, length, slice_index};
+ghost use Rattle.std.specs.Prelude.{◌≡◌, ◌↔◌, ◌+◌, ◌*◌, ◌<◌, ◌≤◌, ◌^◌, ℕ, All, Contains, List, length, map, slice_index};
 ghost use Rattle.std.specs.Prelude.{IsTrue, IsFalse, IfOk, IfSome, IfNone, OnErr, OnOk};
 ghost use Rattle.std.specs.List.Sorted.{IsStrictlyIncreasing};
 ghost use Rattle.math_base.specs.declared.fields.goldilocks.F.{F};
-ghost use Rattle.systematic_shards.specs.Filled.{AreWithinRoom, word_by};
+ghost use Rattle.math_base.specs.Elements.{number};
+ghost use Rattle.math_restoring.specs.Restored.{item};
+ghost use Rattle.systematic_shards.specs.Filled.{ArePlaces, AreRunsWithin, AreWithinRoom};
+ghost use Rattle.systematic_shards.specs.Filled.{IsCodewordThrough, made_word, row_word};
 ghost use Rattle.systematic_shards.specs.Held.{AreIndexed};
+ghost use Rattle.systematic_shards.specs.Masks.{masked_number};
 ghost use Rattle.systematic_shards.specs.Refusals.{AreElements};
 ghost use Rattle.systematic_shards.specs.Shards.{AreRowsAt, AreWithinAt, BelongTo};
-ghost use Rattle.systematic_shards.specs.Shards.{IsCodewordOf, word_in};
+ghost use Rattle.systematic_shards.specs.Shards.{IsCodewordOf};
 ghost use Rattle.systematic_shards.specs.Wanted.{AreCopied, AreCopiesWithin, AreLost};
-ghost use Rattle.systematic_shards.specs.Weights.{sum_at};
 ghost use Rattle.systematic_shards.specs.Words.{IsWithin};
 
-use crate::filling::{Plan, copy_row, fill, gather, zeros};
+use crate::filling::{copy_row, fill};
 use crate::holding::Held;
+use crate::making::Weights;
 use crate::mask::word_of;
 use crate::memory::WordMemory;
 use crate::rows::{Row, row_mask};
 use crate::split::Code;
-use crate::weights::weight_rows;
 use math_base::algebra::Mem;
 use math_base::fields::goldilocks::F;
-use math_values::sums::sum_of_products;
 use std::alloc::Global;
 
 /// The rows that are wanted and not in hand.
@@ -157,54 +159,79 @@ fn write_copies<M: WordMemory>(
     }
 }
 
-/// Whether so many bytes have room for the words in column k of the rows of the plan.
-fn is_column_within(column: &[F], plan: &Plan<'_>, code: Code, k: usize, size: usize) -> bool
-    requires weights { length plan.now.weights.now
-        ≡ length plan.now.indices.now * length column.now }
-    requires places { length plan.now.places.now ≡ length plan.now.indices.now }
-    requires inside { All (λ p. (p + 1) * code.split.width ≤ 2 ^ 61) plan.now.places.now }
-    requires within { k < code.split.width }
-    ensures { IsTrue result ↔ ((j : ℕ) → j < length plan.now.places.now
-        → IsWithin size (slice_index plan.now.places.now j * code.split.width + k)
-        (word_in code.split.min code.mask (slice_index plan.now.indices.now j)
-        (sum_at column.now plan.now.weights.now j))) }
+/// Whether so many bytes have room for the words of the elements under the mask, the first as word
+/// `at`.
+fn is_run_within(elements: &[F], mask: u32, at: usize, size: usize) -> bool
+    requires { at + length elements.now ≤ 2 ^ 61 }
+    ensures { IsTrue result ↔ ((c : ℕ) → c < length elements.now
+        → IsWithin size (at + c) (masked_number mask (number (item elements.now c)))) }
 {
-    let min = column.len();
-    for j in 0..plan.indices.len() {
-        let sum = sum_of_products(column, &plan.weights[j * min..(j + 1) * min]);
-        let word = word_of(sum, row_mask(code, plan.indices[j]));
-        if !is_within(size, plan.places[j] * code.split.width + k, word) {
+    for c in 0..elements.len() {
+        if !is_within(size, at + c, word_of(elements[c], mask)) {
             return false;
         }
     }
     true
 }
 
-/// Whether so many bytes have room for the rows of the plan, none of which has a place behind
-/// `last`. `column` is room for a column.
-fn are_lost_within<M: WordMemory>(
-    rows: &[Row<'_, M>],
-    plan: &Plan<'_>,
-    code: Code,
-    last: usize,
-    column: &mut [F],
+/// Whether so many bytes have room for the words of the elements that are made in `cols` columns,
+/// from column `from` on.
+fn are_made_within(
+    made: &[F],
+    weights: &Weights,
+    places: &[usize],
+    from: usize,
+    cols: usize,
     size: usize,
 ) -> bool
-    requires size { length column.old ≡ length rows.now }
-    requires weights { length plan.now.weights.now
-        ≡ length plan.now.indices.now * length rows.now }
-    requires places { length plan.now.places.now ≡ length plan.now.indices.now }
-    requires last { (last + 1) * code.split.width ≤ 2 ^ 61 }
-    requires behind { All (λ p. p ≤ last) plan.now.places.now }
-    ensures { IsTrue result ↔ AreWithinRoom size code.split.width plan.now.places.now
-        (word_by M.word code.split.min code.mask rows.now plan.now.weights.now
-        plan.now.indices.now) }
+    requires room { length weights.now.targets.items * cols ≤ length made.now }
+    requires within { from + cols ≤ weights.now.code.split.width }
+    requires places { ArePlaces weights.now.code.split.width weights.now.targets.items places.now }
+    ensures { let code = weights.now.code in IsTrue result ↔ AreRunsWithin size code.split.width
+        from cols places.now (made_word code.split code.mask weights.now.targets.items cols made.now)
+        (length places.now) }
 {
-    for k in first_past(size, code.split.width, last)..code.split.width {
-        gather(rows, code, k, column);
-        if !is_column_within(column, plan, code, k, size) {
+    let code = weights.code;
+    for j in 0..places.len() {
+        let mask = row_mask(code, weights.targets[j]);
+        let at = places[j] * code.split.width + from;
+        if !is_run_within(&made[j * cols..(j + 1) * cols], mask, at, size) {
             return false;
         }
+    }
+    true
+}
+
+/// Whether so many bytes have room for the rows of the targets in their places, none of which lies
+/// behind `last`.
+fn are_lost_within<M: WordMemory>(
+    rows: &[Row<'_, M>],
+    weights: &Weights,
+    places: &[usize],
+    last: usize,
+    room: &mut [F],
+    size: usize,
+) -> bool
+    requires rows { weights.now.indices.items ≡ map (λ row. row.index) rows.now }
+    requires places { ArePlaces weights.now.code.split.width weights.now.targets.items places.now }
+    requires room { (length weights.now.indices.items + length weights.now.targets.items)
+        * weights.now.cols ≤ length room.old }
+    requires last { (last + 1) * weights.now.code.split.width ≤ 2 ^ 61 }
+    requires behind { All (λ p. p ≤ last) places.now }
+    ensures { (a : ℕ → ℕ → F) → let code = weights.now.code in
+        IsCodewordThrough M.word code.split code.mask rows.now a
+        → (IsTrue result ↔ AreWithinRoom size code.split.width places.now
+        (row_word code.split code.mask a weights.now.targets.items)) }
+{
+    let width = weights.code.split.width;
+    let mut from = first_past(size, width, last);
+    while from < width {
+        let cols = weights.cols.min(width - from);
+        weights.make(rows, from, cols, room);
+        if !are_made_within(room, weights, places, from, cols, size) {
+            return false;
+        }
+        from += cols;
     }
     true
 }
@@ -212,8 +239,7 @@ fn are_lost_within<M: WordMemory>(
 /// Writes the rows of the wanted indices over `out`, row after row, if what lies past its end are
 /// zeros; else it writes nothing. Answers which it was.
 ///
-/// The rows in hand are copied. Each other one comes by weights from the first `min` of these: so
-/// it takes `min` products a word. For many rows from many, transforms would take fewer.
+/// The rows in hand are copied. Each other one is made from the first `min` of these.
 pub(crate) fn write_wanted<M: WordMemory>(
     alloc: Global,
     held: &Held<'_, M>,
@@ -239,23 +265,17 @@ pub(crate) fn write_wanted<M: WordMemory>(
     let width = code.split.width;
     let size = M::BYTES * out.len();
     let lost = lost_rows(alloc, &held.indices, wanted)?;
-    let first = &held.indices[..min];
-    let weights = weight_rows(alloc, code.split.total, first, &lost.indices)?;
-    let mut column = zeros(alloc, min)?;
-    let plan = Plan {
-        indices: &lost.indices,
-        places: &lost.places,
-        weights: &weights,
-    };
+    let weights = Weights::new(alloc, &held.indices[..min], &lost.indices, code)?;
+    let mut room = weights.room(alloc)?;
     if !are_copies_within(&held.indices, &held.rows, wanted, width, size) {
         return Ok(false);
     }
     let chosen = &held.rows[..min];
     let last = wanted.len().saturating_sub(1);
-    if !are_lost_within(chosen, &plan, code, last, &mut column, size) {
+    if !are_lost_within(chosen, &weights, &lost.places, last, &mut room, size) {
         return Ok(false);
     }
     write_copies(&held.indices, &held.rows, wanted, width, out);
-    fill(chosen, &plan, code, &mut column, out);
+    fill(chosen, &weights, &lost.places, &mut room, out);
     Ok(true)
 }

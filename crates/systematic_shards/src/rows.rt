@@ -1,14 +1,15 @@
 //! Rows in the caller's memory, and what is tested of them before anything else.
 
-ghost use Rattle.std.specs.Prelude.{◌≡◌, ◌≢◌, ◌↔◌, ◌*◌, ◌<◌, ◌≤◌, ℕ, All, List, length};
+ghost use Rattle.std.specs.Prelude.{◌≡◌, ◌≢◌, ◌↔◌, ◌*◌, ◌<◌, ◌≤◌, ℕ, All, List, length, slice_index};
 ghost use Rattle.std.specs.Prelude.{IsTrue, IfErr, IfSome, IfNone, OnOk};
+ghost use Rattle.math_numbers.specs.Goldilocks.{P};
 ghost use Rattle.systematic_shards.specs.Refusals.{AreElements, HasLength, IsDue, IsSound};
 ghost use Rattle.systematic_shards.specs.Shards.{IsElementIn, mask_of_row};
 ghost use Rattle.systematic_shards.specs.declared.Error.TheVariants.{Conflict, Inconsistent};
 
 use crate::Error;
-use crate::mask::is_free_of;
-use crate::memory::WordMemory;
+use crate::mask::are_free_of;
+use crate::memory::{RUN, WordMemory, run_of};
 use crate::split::{Code, Split};
 use math_base::fields::goldilocks::MODULUS;
 
@@ -67,15 +68,28 @@ pub(crate) fn are_below(numbers: &[u32], bound: u32) -> bool
     numbers.iter().all(|n| *n < bound)
 }
 
-/// Whether the word is one of an element in the row of this index.
-fn is_element(word: u64, code: Code, index: u32) -> bool
-    ensures { IsTrue result ↔ IsElementIn code.split.min code.mask index word }
+/// Whether each word is below P.
+fn are_below_modulus(words: &[u64]) -> bool
+    ensures { IsTrue result ↔ All (λ word. word < P) words.now }
+{
+    words.iter().all(|word| *word < MODULUS)
+}
+
+/// Whether each word is one of an element in the row of this index.
+///
+/// Nearly all words of a parity row have a high half that is not all ones, and are below P for
+/// that: this is tested first, since it takes less.
+fn are_words_in(words: &[u64], code: Code, index: u32) -> bool
+    ensures { IsTrue result ↔ ((k : ℕ) → k < length words.now
+        → IsElementIn code.split.min code.mask index (slice_index words.now k)) }
 {
     if index < code.split.min {
-        is_free_of(word, code.mask)
-    } else {
-        word < MODULUS
+        return are_free_of(words, code.mask);
     }
+    if are_free_of(words, 0) {
+        return true;
+    }
+    are_below_modulus(words)
 }
 
 /// Whether each word of the row is one of an element.
@@ -83,10 +97,15 @@ pub(crate) fn has_elements<M: WordMemory>(row: &Row<'_, M>, code: Code) -> bool
     ensures { IsTrue result ↔ ((k : ℕ) → k < code.split.width
         → IsElementIn code.split.min code.mask row.now.index (M.word row.now.cells.now k)) }
 {
-    for k in 0..code.split.width {
-        if !is_element(M::read(row.cells, k), code, row.index) {
+    let width = code.split.width;
+    let mut from = 0;
+    while from < width {
+        let some = RUN.min(width - from);
+        let run = run_of(row.cells, from, some);
+        if !are_words_in(&run[..some], code, row.index) {
             return false;
         }
+        from += some;
     }
     true
 }

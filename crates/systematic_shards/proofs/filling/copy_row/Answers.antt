@@ -1,8 +1,58 @@
-use Rattle.std.proofs.Common.{◌∙◌}
-use Rattle.systematic_shards.proofs.Filled.{row-more}
+use Rattle.std.proofs.Common.{◌≡◌, ◌∙◌, ◌+◌, ◌*◌, ◌<◌, ◌≤◌, ◌^◌, ℕ, List, length, take, get_or, refl, sym, subst, arith}
+use Rattle.std.proofs.lemmas.List.{get_or-take, length-take-le}
+use Rattle.systematic_shards.specs.Words.{AreWritten, IsWithin}
+use Rattle.systematic_shards.proofs.Written.{run-more, same-run, written-none}
 use Rattle.systematic_shards.proofs.filling.copy_row.Goals as goal
 
-pub loop-k-preserved : goal.loop-k-preserved
-loop-k-preserved g c =
-    row-more c.args.width c.args.place c.loop-k.k (g.M.WordMemory.word c.args.cells.now) (g.M.WordMemory.word c.args.out.now) (g.M.WordMemory.word c.loop-k.out) (g.M.WordMemory.word c.write.new.cells)
-    c.loop-k-test.true (c.write.ensures.written ∙ c.read.ensures) c.write.ensures.others c.loop-k.invariant
+pub loop-from-init : goal.loop-from-init
+loop-from-init g c = record {
+  within = omega arith;
+  written = written-none (λ k. c.args.place * c.args.width + k) (g.M.WordMemory.word c.args.cells.now) (g.M.WordMemory.word c.args.out.now);
+}
+
+pub write_run-requires-clause-place : goal.write_run-requires-clause-place
+write_run-requires-clause-place g c =
+    let n : ℕ = c.min-some.result in
+    let run : List ℕ = c.run_of-run.result in
+    let width : ℕ = c.args.width in
+    let long : length (take n run) ≡ n = length-take-le n run (omega (arith, c.run_of-run.ensures.size, c.min-some.ensures)) in
+    let next : (c.args.place + 1) * width ≡ c.args.place * width + width = grind arith in
+    omega (arith, long, next, c.requires.inside, c.loop-from.invariant.within, c.min-some.ensures)
+
+pub write_run-requires-clause-fits : goal.write_run-requires-clause-fits
+write_run-requires-clause-fits g c = λ k l.
+    let n : ℕ = c.min-some.result in
+    let run : List ℕ = c.run_of-run.result in
+    let from : ℕ = c.loop-from.from in
+    let at : ℕ = c.args.place * c.args.width in
+    let word : ℕ → ℕ = g.M.WordMemory.word c.args.cells.now in
+    let long : length (take n run) ≡ n = length-take-le n run (omega (arith, c.run_of-run.ensures.size, c.min-some.ensures)) in
+    let b : k < n = omega (arith, l, long) in
+    subst (IsWithin (g.M.WordMemory.BYTES * length c.loop-from.out) (at + from + k)) (sym (get_or-take n run k 0 b ∙ c.run_of-run.ensures.words k b))
+    (subst (λ i. IsWithin (g.M.WordMemory.BYTES * length c.loop-from.out) i (word (from + k))) (let e : at + (from + k) ≡ at + from + k = omega arith in e)
+    (subst (λ i. IsWithin (g.M.WordMemory.BYTES * i) (at + (from + k)) (word (from + k))) (sym c.loop-from.auto.out)
+    (c.requires.fits (from + k) (omega (arith, b, c.loop-from.invariant.within, c.min-some.ensures)))))
+
+pub loop-from-preserved : goal.loop-from-preserved
+loop-from-preserved g c =
+    let n : ℕ = c.min-some.result in
+    let run : List ℕ = c.run_of-run.result in
+    let from : ℕ = c.loop-from.from in
+    let at : ℕ = c.args.place * c.args.width in
+    let word : ℕ → ℕ = g.M.WordMemory.word c.args.cells.now in
+    let value : ℕ → ℕ = λ k. get_or (take n run) k 0 in
+    let old = g.M.WordMemory.word c.args.out.now in
+    let now = g.M.WordMemory.word c.loop-from.out in
+    let new = g.M.WordMemory.word c.write_run.new.cells in
+    let long : length (take n run) ≡ n = length-take-le n run (omega (arith, c.run_of-run.ensures.size, c.min-some.ensures)) in
+    record {
+      within = omega (arith, c.loop-from.invariant.within, c.min-some.ensures);
+      written = run-more at from n word value old now new (λ k b. get_or-take n run k 0 b ∙ c.run_of-run.ensures.words k b)
+          (same-run (at + from) (length (take n run)) n value value now new long (λ k b. refl) c.write_run.ensures) c.loop-from.invariant.written;
+    }
+
+pub returns : goal.returns
+returns g c =
+    let width : ℕ = c.args.width in
+    let all : c.loop-from.from ≡ width = omega (arith, c.loop-from-test.false, c.loop-from.invariant.within) in
+    subst (λ n. AreWritten (λ k. c.args.place * width + k) (g.M.WordMemory.word c.args.cells.now) n (g.M.WordMemory.word c.args.out.now) (g.M.WordMemory.word c.loop-from.out)) all c.loop-from.invariant.written

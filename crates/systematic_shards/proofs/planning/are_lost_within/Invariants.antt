@@ -1,10 +1,15 @@
-use Rattle.std.proofs.Common.{ℕ, ◌+◌, ◌*◌, ◌<◌, length, get_or}
-use Rattle.systematic_shards.specs.Filled.{word_by}
+use Rattle.std.proofs.Common.{ℕ, ◌+◌, ◌-◌, ◌*◌, ◌<◌, length, get_or}
+use Rattle.math_base.specs.declared.fields.goldilocks.F.{F}
+use Rattle.systematic_shards.specs.Filled.{IsCodewordThrough, row_word}
 use Rattle.systematic_shards.specs.Words.{IsWithin}
 use Rattle.systematic_shards.proofs.planning.are_lost_within.Given as goal
 
 -- there is room for the columns so far
-abbrev pub invariant-loop-k : goal.invariant-loop-k
-invariant-loop-k g l =
-    (j i : ℕ) → j < length l.plan.places.now → i < l.k
-    → IsWithin l.size (get_or l.plan.places.now j 0 * l.code.split.width + i) (word_by g.M.WordMemory.word l.code.split.min l.code.mask l.rows l.plan.weights.now l.plan.indices.now j i)
+abbrev pub invariant-loop-from : goal.invariant-loop-from
+invariant-loop-from g l =
+    let code = l.weights.code in
+    (a : ℕ → ℕ → F) → IsCodewordThrough g.M.WordMemory.word code.split code.mask l.rows a → (k j : ℕ) → k < l.from → j < length l.places
+    → IsWithin l.size (get_or l.places j 0 * code.split.width + k) (row_word code.split code.mask a l.weights.targets.items j k)
+
+abbrev pub decreases-loop-from : goal.decreases-loop-from
+decreases-loop-from g l = l.weights.code.split.width - l.from

@@ -1,5 +1,5 @@
-use Rattle.std.proofs.Common.{◌+◌, sym, subst, arith}
-use Rattle.systematic_shards.specs.Filled.{IsRowFilled}
+use Rattle.std.proofs.Common.{◌+◌, ◌*◌, sym, subst, arith}
+use Rattle.systematic_shards.specs.Words.{AreWritten}
 use Rattle.systematic_shards.specs.Wanted.{AreCopied}
 use Rattle.systematic_shards.proofs.Filled.{at-any, copied-more, copied-none}
 use Rattle.systematic_shards.proofs.planning.write_copies.Goals as goal
@@ -21,7 +21,7 @@ loop-place-preserved g c =
           let new = word w.copy_row.new.out in
           subst (λ o. AreCopied word width indices rows wanted (n + 1) (word o)) (sym w.out-is)
           (copied-more word width indices rows wanted c.requires.count n p now new c.requires.rising found.0 found.1
-          (at-any (λ r. IsRowFilled width n (word r.cells.now) width now new) rows p w.index-rows-p.result (omega (arith, found.0, c.requires.count)) w.copy_row.ensures)
+          (at-any (λ r. AreWritten (λ k. n * width + k) (word r.cells.now) width now new) rows p w.index-rows-p.result (omega (arith, found.0, c.requires.count)) w.copy_row.ensures)
           c.loop-place.invariant)
       | in_default w ↦
           subst (λ o. AreCopied word width indices rows wanted (n + 1) (word o)) (sym w.out-is)

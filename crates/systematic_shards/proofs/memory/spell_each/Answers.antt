@@ -1,0 +1,19 @@
+use Rattle.std.proofs.Common.{◌≡◌, ◌+◌, get_or, length, subst, sym, arith}
+use Rattle.systematic_shards.specs.Words.{AreWritten, IsWithin, word_of_bytes}
+use Rattle.systematic_shards.proofs.Written.{next-written}
+use Rattle.systematic_shards.proofs.memory.spell_each.Goals as goal
+
+pub spell-requires-clause-fits : goal.spell-requires-clause-fits
+spell-requires-clause-fits c =
+    let k = c.loop-k.k in
+    subst (λ n. IsWithin n (c.args.at + k) (get_or c.args.words.now k 0)) (sym c.loop-k.auto.cells) (c.requires.fits k c.loop-k-test.true)
+
+pub loop-k-preserved : goal.loop-k-preserved
+loop-k-preserved c =
+    next-written c.args.at c.loop-k.k (λ j. get_or c.args.words.now j 0) (word_of_bytes c.args.cells.now) (word_of_bytes c.loop-k.cells) (word_of_bytes c.spell.new.cells)
+    c.spell.ensures.written c.spell.ensures.others c.loop-k.invariant
+
+pub returns : goal.returns
+returns c =
+    let all : c.loop-k.k ≡ length c.args.words.now = omega (arith, c.loop-k-test.false, c.loop-k.auto.k-end) in
+    subst (λ n. AreWritten (λ j. c.args.at + j) (λ j. get_or c.args.words.now j 0) n (word_of_bytes c.args.cells.now) (word_of_bytes c.loop-k.cells)) all c.loop-k.invariant
