@@ -5,10 +5,10 @@ pub mod Masks
 pub mod Codewords
 pub mod Weights
 pub mod Shards
+pub mod Made
 pub mod Refusals
 pub mod Filled
 pub mod Held
 pub mod Wanted
 pub mod Correcting
-pub mod Made
 pub mod Transforms
