@@ -7,8 +7,8 @@ use Rattle.math_base.specs.declared.fields.goldilocks.F.{F}
 use Rattle.math_decoding.proofs.WrongPlaces.{AreGathered}
 use Rattle.systematic_shards.specs.declared.split.Split.{Split}
 use Rattle.systematic_shards.specs.Correcting.{ArePositionsWithout}
-use Rattle.systematic_shards.specs.Filled.{IsRowFilled}
 use Rattle.systematic_shards.specs.Shards.{IsRowOf, word_in}
+use Rattle.systematic_shards.specs.Words.{AreWritten}
 
 -- P holds of the item at position i
 abbrev pub HoldsAtPosition : {X : Type 0} → (X → Type 0) → List X → ℕ → Type 0
@@ -34,12 +34,12 @@ AreRowsBefore split mask a indices n word = (t : ℕ) → t < n → IsRowOf spli
 
 -- one row more
 pub rows-more : (split : Split) (mask : ℕ) (a : ℕ → ℕ → F) (indices : List ℕ) (n : ℕ) (now new : ℕ → ℕ)
-    → IsRowFilled split.width n (λ k. word_in split.min mask (get_or indices n 0) (a (get_or indices n 0) k)) split.width now new
+    → AreWritten (λ k. n * split.width + k) (λ k. word_in split.min mask (get_or indices n 0) (a (get_or indices n 0) k)) split.width now new
     → AreRowsBefore split mask a indices n now → AreRowsBefore split mask a indices (n + 1) new
 rows-more split mask a indices n now new filled h t l k m =
     elim (cases_lt t n) as (λ _. new (t * split.width + k) ≡ word_in split.min mask (get_or indices t 0) (a (get_or indices t 0) k)) [
       | inl before ↦
-          filled.others (t * split.width + k) (λ j c e. omega (arith, before, (same_from_place t k n j split.width m c e).0)) ∙ h t before k m
+          filled.others (t * split.width + k) (λ i b e. omega (arith, before, (same_from_place t k n i split.width m b e).0)) ∙ h t before k m
       | inr after ↦
           let is : n ≡ t = omega (arith, after, l) in
           subst (λ i. new (i * split.width + k) ≡ word_in split.min mask (get_or indices i 0) (a (get_or indices i 0) k)) is (filled.written k m)

@@ -1,21 +1,21 @@
 -- Settled rows: points that are marked and cells that are written row after row, and how many indices are settled.
-use Rattle.std.proofs.Common.{◌≡◌, ◌⊎◌, ◌↔◌, ◌∙◌, inl, inr, ℕ, ◌+◌, ◌*◌, ◌<◌, ◌≤◌, ◌^◌, List, Bool, true, false, length, replicate, get_or, sym, ap, ap₂, subst, true≢false, arith}
+use Rattle.std.proofs.Common.{◌≡◌, ◌⊎◌, ◌↔◌, ◌∙◌, inl, inr, ℕ, ◌+◌, ◌*◌, ◌<◌, ◌≤◌, List, Bool, true, false, length, replicate, get_or, sym, ap, ap₂, subst, true≢false, arith}
 use Rattle.std.proofs.Math.ListN.{set}
-use Rattle.std.specs.Int.{IsNextPowerOfTwo}
 use Rattle.std.specs.List.{All}
 use Rattle.std.proofs.lemmas.Bool.{cases_eq, cases_lt}
 use Rattle.std.proofs.lemmas.List.{get_or-replicate, get_or-set_other, get_or-set_same, get_or_default, get_or_past, length-replicate, length-set}
-use Rattle.std.proofs.lemmas.Nat.{mul-le, same_from_place}
+use Rattle.std.proofs.lemmas.Nat.{same_from_place}
 use Rattle.math_theory.specs.Recovery.{count_true, filled_places}
 use Rattle.math_base.specs.declared.fields.goldilocks.F.{F}
 use Rattle.math_base.specs.Elements.{number, same}
 use Rattle.math_ntt.proofs.MarkedRows.{contains-place, place-marked, rising-places}
+use Rattle.math_restoring.specs.Restored.{item}
 use Rattle.math_transforms.proofs.PresentIndices.{length-places}
 use Rattle.systematic_shards.specs.declared.rows.Row.{Row}
 use Rattle.systematic_shards.specs.declared.split.Split.{Split}
-use Rattle.systematic_shards.specs.Correcting.{Agrees, AreMarked, HasCells, HasElements, HaveSettled, IsSettled, IsSettledIndex, cells_at, number_at}
-use Rattle.systematic_shards.specs.Filled.{IsRowFilled}
+use Rattle.systematic_shards.specs.Correcting.{Agrees, AreMarked, HasCells, HasElements, HaveSettled, IsSettled, IsSettledIndex, cells_at}
 use Rattle.systematic_shards.specs.Shards.{element_in}
+use Rattle.systematic_shards.specs.Words.{AreWritten}
 use Rattle.systematic_shards.proofs.Marked.{distinct-among}
 use Rattle.systematic_shards.proofs.OneCodeword.{rising-distinct}
 
@@ -119,7 +119,7 @@ module _ {M : Type 0} (word : List M → ℕ → ℕ) (split : Split) (mask : �
 
   -- a row whose elements are written
   pub written-more : (n size : ℕ) (row : Row M) (old new : List F) → n < length rows → row ≡ get_or rows n row → HasElements word split mask row → length new ≡ length old
-      → IsRowFilled split.width row.index (λ k. number (element_in split.min mask row.index (word row.cells.now k))) split.width (number_at old) (number_at new)
+      → AreWritten (λ k. row.index * split.width + k) (λ k. element_in split.min mask row.index (word row.cells.now k)) split.width (item old) (item new)
       → AreWrittenBefore word split mask rows n size old → AreWrittenBefore word split mask rows (n + 1) size new
   written-more n size row old new l is right count filled h = record {
     many = count ∙ h.many;
@@ -128,11 +128,11 @@ module _ {M : Type 0} (word : List M → ℕ → ℕ) (split : Split) (mask : �
         elim (cases_eq other.index row.index) as (λ _. same (cells_at split.width new other.index k) (element_in split.min mask other.index (word other.cells.now k))) [
           | inl e ↦
               let agrees : Agrees word split mask other row = subst (Agrees word split mask other) (sym is) (settled.1 n row l) in
-              ap (λ i. number_at new (i * split.width + k)) e ∙ filled.written k m
+              ap (λ i. number (item new (i * split.width + k))) e ∙ ap number (filled.written k m)
               ∙ ap₂ (λ i w. number (element_in split.min mask i w)) (sym e) (agrees (sym e) right k m)
           | inr apart ↦ elim (cases_lt t n) as (λ _. same (cells_at split.width new other.index k) (element_in split.min mask other.index (word other.cells.now k))) [
             | inl before ↦
-                filled.others (other.index * split.width + k) (λ j c f. apart (same_from_place other.index k row.index j split.width m c f).0) ∙ h.held t d before settled k m
+                ap number (filled.others (other.index * split.width + k) (λ j c f. apart (same_from_place other.index k row.index j split.width m c f).0)) ∙ h.held t d before settled k m
             | inr after ↦
                 let here : t ≡ n = omega (arith, after, b) in
                 absurd (apart (ap (λ r. r.index) (ap (λ m. get_or rows m d) here ∙ get_or_default rows n d row l ∙ sym is)))
@@ -165,11 +165,3 @@ module _ {M : Type 0} (word : List M → ℕ → ℕ) (split : Split) (mask : �
         settled = each;
         enough = omega (arith, enough, length-places points);
       }
-
--- rows of the domain have fewer than 2^61 words in all
-pub domain-fits : (split : Split) (lg : ℕ) → IsNextPowerOfTwo split.total (2 ^ lg) → 2 ^ lg * split.width < 2 ^ 61
-domain-fits split lg next =
-    let some : 1 ≤ split.total = omega (arith, split.some, split.within) in
-    let up : 2 ^ lg * split.width ≤ (2 * split.total) * split.width = mul-le (2 ^ lg) split.width (2 * split.total) split.width (omega (arith, next.2, some)) (omega arith) in
-    let turn : (2 * split.total) * split.width ≡ 2 * (split.total * split.width) = grind arith in
-    omega (arith, up, turn, split.all)

@@ -3,7 +3,7 @@ use Rattle.std.specs.Prelude.{◌≡◌, ◌↔◌, ℕ, ◌+◌, ◌*◌, ◌<�
 use Rattle.std.specs.Int.{IsNextPowerOfTwo}
 use Rattle.std.specs.List.Sorted.{IsStrictlyIncreasing}
 use Rattle.math_base.specs.declared.fields.goldilocks.F.{F}
-use Rattle.math_base.specs.Elements.{number, same}
+use Rattle.math_base.specs.Elements.{same}
 use Rattle.math_ntt.specs.Evaluations.{EvaluationsOf}
 use Rattle.math_restoring.specs.Restored.{item}
 use Rattle.math_transforms.specs.Matrices.{IsOfSize}
@@ -79,10 +79,6 @@ IsCorrectingDue bytes word split mask rows wanted Inconsistent = ⊥
 -- the cell in column k of row i, where the cells are rows of this width
 abbrev pub cells_at : ℕ → List F → ℕ → ℕ → F
 cells_at width cells i k = item cells (i * width + k)
-
--- the number of the element in this place
-abbrev pub number_at : List F → ℕ → ℕ
-number_at cells k = number (item cells k)
 
 -- the row of its index among the cells has the elements of the words of the row
 abbrev pub HasCells : {M : Type 0} → (List M → ℕ → ℕ) → Split → ℕ → List F → Row M → Type 0

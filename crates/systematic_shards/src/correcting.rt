@@ -10,22 +10,21 @@
 ghost use Rattle.std.specs.Prelude.{◌≡◌, ◌↔◌, ◌+◌, ◌*◌, ◌<◌, ◌≤◌, ◌^◌, ◌⊎◌, ℕ, All, length};
 ghost use Rattle.std.specs.Prelude.{IsTrue, IfOk, IfErr, IfSome, IfNone, OnErr, OnOk};
 ghost use Rattle.std.specs.Int.{IsNextPowerOfTwo};
-ghost use Rattle.math_base.specs.Elements.{number};
 ghost use Rattle.math_base.specs.declared.fields.goldilocks.F.{F};
+ghost use Rattle.math_restoring.specs.Restored.{item};
 ghost use Rattle.systematic_shards.specs.Correcting.{Agrees, AreCorrectedTo, AreMarked};
 ghost use Rattle.systematic_shards.specs.Correcting.{ArePositionsWithout, AreSettledRows};
 ghost use Rattle.systematic_shards.specs.Correcting.{HasCells, HaveSettled, HoldsNear, IsNear};
 ghost use Rattle.systematic_shards.specs.Correcting.{IsCorrectingDue, IsSettled};
-ghost use Rattle.systematic_shards.specs.Correcting.{cells_at, number_at};
+ghost use Rattle.systematic_shards.specs.Correcting.{cells_at};
 ghost use Rattle.systematic_shards.specs.Errors.{IsMemory};
-ghost use Rattle.systematic_shards.specs.Filled.{IsRowFilled};
 ghost use Rattle.systematic_shards.specs.Refusals.{AreAsked, IsSound};
 ghost use Rattle.systematic_shards.specs.Shards.{AreRowsAt, IsCodewordOf, IsRowOf};
 ghost use Rattle.systematic_shards.specs.Shards.{element_in, word_in};
+ghost use Rattle.systematic_shards.specs.Words.{AreWritten};
 ghost use Rattle.systematic_shards.specs.declared.Error.TheVariants.{TooFew};
 
 use crate::Error;
-use crate::filling::zeros;
 use crate::mask::{element_of, word_of};
 use crate::memory::WordMemory;
 use crate::rows::{Row, are_below, check_rows, first_difference, has_elements, row_mask};
@@ -34,6 +33,7 @@ use math_base::algebra::Mem;
 use math_base::fields::goldilocks::F;
 use math_ntt::ntt::{EvaluationVector, Matrix, VanishingPoints};
 use math_transforms::transform::{lg_of, size_of};
+use math_values::strips::strip_room;
 use std::alloc::Global;
 
 /// Writes the rows of the wanted indices over `out`, row after row, though some rows in hand are
@@ -164,10 +164,9 @@ fn settled_points<M: WordMemory>(
 /// Writes the elements of the words of the row over the row of its index.
 fn put_elements<M: WordMemory>(row: &Row<'_, M>, code: Code, cells: &mut [F])
     requires { (row.now.index + 1) * code.split.width ≤ length cells.old }
-    ensures { IsRowFilled code.split.width row.now.index
-        (λ k. number (element_in code.split.min code.mask row.now.index
-        (M.word row.now.cells.now k)))
-        code.split.width (number_at cells.old) (number_at cells.new) }
+    ensures { AreWritten (λ k. row.now.index * code.split.width + k)
+        (λ k. element_in code.split.min code.mask row.now.index (M.word row.now.cells.now k))
+        code.split.width (item cells.old) (item cells.new) }
 {
     let width = code.split.width;
     let from = row.index as usize * width;
@@ -185,14 +184,13 @@ fn settled_cells<M: WordMemory>(
     lg: u8,
 ) -> Mem<Vec<F>>
     requires small { lg ≤ 32 }
-    requires fits { 2 ^ lg * code.split.width < 2 ^ 64 }
     requires below { All (λ row. row.index < 2 ^ lg) rows.now }
     ensures count { IfOk result (λ cells. length cells.items ≡ 2 ^ lg * code.split.width) }
     ensures cells { IfOk result (λ cells. All (λ row.
         IsSettled M.word code.split code.mask rows.now row
         → HasCells M.word code.split code.mask cells.items row) rows.now) }
 {
-    let mut cells = zeros(alloc, size_of(lg) * code.split.width)?;
+    let mut cells = strip_room(alloc, size_of(lg), code.split.width)?;
     for row in rows {
         if has_elements(row, code) {
             put_elements(row, code, &mut cells);
@@ -293,7 +291,7 @@ fn write_row<M: WordMemory>(cells: &[F], index: u32, place: usize, code: Code, o
     requires cells { (index + 1) * code.split.width ≤ length cells.now }
     requires inside { (place + 1) * code.split.width ≤ 2 ^ 61 }
     requires room { 8 * ((place + 1) * code.split.width) ≤ M.BYTES * length out.old }
-    ensures { IsRowFilled code.split.width place
+    ensures { AreWritten (λ k. place * code.split.width + k)
         (λ k. word_in code.split.min code.mask index (cells_at code.split.width cells.now index k))
         code.split.width (M.word out.old) (M.word out.new) }
 {

@@ -2,7 +2,7 @@ use Rattle.std.proofs.Common.{◌≡◌, ◌∙◌, ◌*◌, ◌^◌, ap, inr, r
 use Rattle.std.specs.List.{All}
 use Rattle.math_transforms.specs.Matrices.{IsOfSize}
 use Rattle.systematic_shards.specs.Correcting.{AreMarked, HasCells, IsSettled}
-use Rattle.systematic_shards.proofs.Settled.{domain-fits, settled-few, settled-many}
+use Rattle.systematic_shards.proofs.Settled.{settled-few, settled-many}
 use Rattle.systematic_shards.proofs.correcting.settled_rows.Goals as goal
 
 pub settled_points-requires-clause-below : goal.settled_points-requires-clause-below
@@ -10,9 +10,6 @@ settled_points-requires-clause-below g c = λ k d l. let sound = c.requires k d 
 
 pub settled_cells-requires-clause-below : goal.settled_cells-requires-clause-below
 settled_cells-requires-clause-below g c = λ k d l. let sound = c.requires k d l in omega (arith, sound.1, c.lg_of_rows-lg.ensures.value.1)
-
-pub settled_cells-requires-clause-fits : goal.settled_cells-requires-clause-fits
-settled_cells-requires-clause-fits g c = let fits = domain-fits c.args.code.split c.lg_of_rows-lg.result c.lg_of_rows-lg.ensures.value in omega (arith, fits)
 
 pub from_cells-matrix-requires : goal.from_cells-matrix-requires
 from_cells-matrix-requires g c = c.in_ok-cells.ensures.count ∙ ap (λ n. n * c.args.code.split.width) (sym c.size_of.ensures)
