@@ -9,7 +9,6 @@
 
 ghost use Rattle.std.specs.Prelude.{◌≡◌, ◌↔◌, ◌+◌, ◌*◌, ◌<◌, ◌≤◌, ◌^◌, ◌⊎◌, ℕ, All, length};
 ghost use Rattle.std.specs.Prelude.{IsTrue, IfOk, IfErr, IfSome, IfNone, OnErr, OnOk};
-ghost use Rattle.std.specs.Int.{IsNextPowerOfTwo};
 ghost use Rattle.math_base.specs.declared.fields.goldilocks.F.{F};
 ghost use Rattle.math_restoring.specs.Restored.{item};
 ghost use Rattle.systematic_shards.specs.Correcting.{Agrees, AreCorrectedTo, AreMarked};
@@ -28,11 +27,12 @@ use crate::Error;
 use crate::mask::{element_of, word_of};
 use crate::memory::WordMemory;
 use crate::rows::{Row, are_below, check_rows, first_difference, has_elements, row_mask};
-use crate::split::{Code, Split};
+use crate::split::Code;
+use crate::weights::lg_above;
 use math_base::algebra::Mem;
 use math_base::fields::goldilocks::F;
 use math_ntt::ntt::{EvaluationVector, Matrix, VanishingPoints};
-use math_transforms::transform::{lg_of, size_of};
+use math_transforms::transform::size_of;
 use math_values::strips::strip_room;
 use std::alloc::Global;
 
@@ -132,14 +132,6 @@ fn is_settled<M: WordMemory>(rows: &[Row<'_, M>], row: &Row<'_, M>, code: Code) 
     true
 }
 
-/// The lg of `total` rounded up to a power of two.
-fn lg_of_rows(split: Split) -> u8
-    ensures value { IsNextPowerOfTwo split.total (2 ^ result) }
-    ensures small { result ≤ 32 }
-{
-    lg_of((split.total as usize).next_power_of_two())
-}
-
 /// 2^lg points, of which those of settled indices are marked.
 fn settled_points<M: WordMemory>(
     alloc: Global,
@@ -212,7 +204,7 @@ fn settled_rows<M: WordMemory>(
     ensures err { IfErr result (λ e. IsMemory e ⊎ ((e ≡ TooFew)
         × ¬ (HaveSettled M.word code.split code.mask code.split.min rows.now))) }
 {
-    let lg = lg_of_rows(code.split);
+    let lg = lg_above(code.split.total);
     let points = settled_points(alloc, rows, code, lg)?;
     if points.count_non_vanishing() < code.split.min as u64 {
         return Err(Error::TooFew);

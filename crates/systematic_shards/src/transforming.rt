@@ -24,6 +24,7 @@ use crate::mask::element_of;
 use crate::memory::WordMemory;
 use crate::rows::{Row, row_mask};
 use crate::split::Code;
+use crate::weights::lg_above;
 use math_base::algebra::Mem;
 use math_base::fields::goldilocks::F;
 use math_restoring::restoring::Restorer;
@@ -35,15 +36,6 @@ use std::alloc::Global;
 
 /// How many cells a strip has at most, where eight columns have no more: 128 KiB.
 const STRIP_CELLS: usize = 16384;
-
-/// The lg of the number rounded up to a power of two.
-fn lg_above(count: u32) -> u8
-    requires { 1 ≤ count }
-    ensures value { IsNextPowerOfTwo count (2 ^ result) }
-    ensures small { result ≤ 32 }
-{
-    (32 - (count - 1).leading_zeros()) as u8
-}
 
 /// Writes over the cells the elements of the row, from column `from` on, times the factor.
 fn write_elements<M: WordMemory>(

@@ -28,12 +28,13 @@ fn point_of(alloc: Global, lg: u8, index: u32) -> F
     point
 }
 
-/// The lg of `total` rounded up to a power of two.
-fn lg_of_domain(total: NonZeroU32) -> u8
-    ensures value { IsNextPowerOfTwo total.value (2 ^ result) }
+/// The lg of the number rounded up to a power of two.
+pub(crate) fn lg_above(count: u32) -> u8
+    requires { 1 ≤ count }
+    ensures value { IsNextPowerOfTwo count (2 ^ result) }
     ensures small { result ≤ 32 }
 {
-    (32 - (total.get() - 1).leading_zeros()) as u8
+    (32 - (count - 1).leading_zeros()) as u8
 }
 
 /// The weights of pairs of an index and a weight.
@@ -64,7 +65,7 @@ fn weights_for(alloc: Global, total: NonZeroU32, indices: &[u32], index: u32) ->
     ensures { IfOk result (λ weights. (lg : ℕ) → IsNextPowerOfTwo total.value (2 ^ lg)
         → AreWeightsFor lg indices.now index weights.items) }
 {
-    let x = point_of(alloc, lg_of_domain(total), index);
+    let x = point_of(alloc, lg_above(total.get()), index);
     let found = lagrange_coefficients_at(alloc, total, copied(alloc, indices)?, &x)?;
     let found = values(alloc, found)?;
     Ok(found)

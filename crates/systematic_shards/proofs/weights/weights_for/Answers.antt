@@ -1,5 +1,6 @@
 use Rattle.systematic_shards.proofs.weights.weights_for.Goals as goal
-use Rattle.std.proofs.Common.{◌≡◌, ◌∙◌, ◌-◌, ap, sym, subst, arith}
+use Rattle.std.proofs.Common.{◌≡◌, ◌∙◌, ◌-◌, ◌^◌, ap, sym, subst, arith}
+use Rattle.std.specs.Int.{IsNextPowerOfTwo}
 use Rattle.std.specs.Int.Count.{count_leading_zeros}
 use Rattle.std.specs.Map.{keys_of}
 use Rattle.math_theory.specs.Powers.{power}
@@ -24,7 +25,7 @@ returns c =
     let h : AreIndicesBelow c.args.total.value c.args.indices.now (keys_of pairs) = subst (λ xs. AreIndicesBelow c.args.total.value xs (keys_of pairs)) copies q.4 in
     let keys : keys_of pairs ≡ c.args.indices.now = indices-given c.args.total.value c.args.indices.now (keys_of pairs) c.requires.rising h in
     λ lg next.
-    let same : c.lg_of_domain.result ≡ lg = lg-only c.args.total.value c.lg_of_domain.result lg (omega arith) c.lg_of_domain.ensures.value next in
+    let same : c.lg_above.result ≡ lg = lg-only c.args.total.value c.lg_above.result lg (omega arith) (subst (λ n. IsNextPowerOfTwo n (2 ^ c.lg_above.result)) c.get.ensures.value c.lg_above.ensures.value) next in
     let point : c.point_of-x.result ≡ power (residue 1) product (root_of lg) c.args.index = c.point_of-x.ensures ∙ ap (λ n. power (residue 1) product (root_of n) c.args.index) same in
     subst (λ x. AreWeightsAt goldilocks x (powers_at goldilocks (root_of lg) c.args.indices.now) c.in_ok-found-2.found.items) point
     (subst (λ is. AreWeightsAt goldilocks c.point_of-x.result (powers_at goldilocks (root_of lg) is) c.in_ok-found-2.found.items) keys
