@@ -1,9 +1,9 @@
 -- The rows that are wanted: those in hand, and those that are lost.
-use Rattle.std.proofs.Common.{◌≡◌, ◌⊎◌, ◌∙◌, inl, inr, ℕ, ◌+◌, ◌-◌, ◌*◌, ◌<◌, ◌≤◌, ◌^◌, List, [], ◌∷◌, ◌++◌, length, map, take, get_or, Result, Ok, Err, MatchResult, IfNone, refl, sym, ap, subst, arith, rules}
-use Rattle.std.specs.List.{All, Contains}
+use Rattle.std.proofs.Common.{◌≡◌, ◌⊎◌, ◌∙◌, inl, inr, ℕ, ◌+◌, ◌-◌, ◌*◌, ◌<◌, ◌≤◌, List, [], ◌∷◌, ◌++◌, length, get_or, Result, Ok, Err, MatchResult, IfNone, refl, sym, ap, subst, arith, rules}
+use Rattle.std.specs.List.{Contains}
 use Rattle.std.specs.Result.{result_ok}
 use Rattle.std.proofs.lemmas.Bool.{cases_lt}
-use Rattle.std.proofs.lemmas.List.{get_or-append_right, get_or-map, get_or-take, get_or_append_left, get_or_default, length-map, length-take-le, length_push, take-map}
+use Rattle.std.proofs.lemmas.List.{get_or-append_right, get_or-map, get_or_append_left, get_or_default, length-map, length_push}
 use Rattle.std.proofs.lemmas.Nat.{same_from_place}
 use Rattle.math_base.specs.declared.fields.goldilocks.F.{F}
 use Rattle.systematic_shards.specs.declared.rows.Row.{Row}

@@ -1,5 +1,4 @@
 use Rattle.std.proofs.Common.{◌≡◌, ◌∙◌, ap, arith}
-use Rattle.std.proofs.Math.ListN.{set}
 use Rattle.std.proofs.lemmas.List.{get_or_default, length-set}
 use Rattle.math_base.specs.Elements.{number, residue}
 use Rattle.math_restoring.specs.Restored.{item}

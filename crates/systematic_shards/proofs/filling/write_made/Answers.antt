@@ -3,7 +3,7 @@ use Rattle.std.proofs.lemmas.List.{get_or_default}
 use Rattle.math_base.specs.declared.fields.goldilocks.F.{F}
 use Rattle.math_base.specs.Elements.{number}
 use Rattle.math_restoring.specs.Restored.{item}
-use Rattle.systematic_shards.specs.Filled.{AreRunsFilled, made_word}
+use Rattle.systematic_shards.specs.Filled.{made_word}
 use Rattle.systematic_shards.specs.Masks.{masked_number}
 use Rattle.systematic_shards.specs.Shards.{mask_of_row}
 use Rattle.systematic_shards.specs.Words.{IsWithin}

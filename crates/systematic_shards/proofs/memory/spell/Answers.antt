@@ -1,4 +1,4 @@
-use Rattle.std.proofs.Common.{◌≡◌, ◌∙◌, inr, ◌-◌, ◌*◌, ◌<◌, ◌^◌, length, take, ap, subst, arith}
+use Rattle.std.proofs.Common.{◌≡◌, ◌∙◌, inr, ◌-◌, ◌*◌, ◌<◌, ◌^◌, length, take, ap, arith}
 use Rattle.std.proofs.lemmas.List.{length-take-le}
 use Rattle.systematic_shards.specs.Words.{word_of_bytes}
 use Rattle.systematic_shards.proofs.Bytes.{put_at, word-kept, word-written}

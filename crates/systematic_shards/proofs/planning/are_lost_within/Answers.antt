@@ -1,4 +1,4 @@
-use Rattle.std.proofs.Common.{◌≡◌, ◌∙◌, ◌≤◌, ◌+◌, ◌*◌, ℕ, length, get_or, refl, sym, true≢false, arith}
+use Rattle.std.proofs.Common.{◌∙◌, ◌≤◌, ◌+◌, ◌*◌, ℕ, length, get_or, refl, sym, true≢false, arith}
 use Rattle.std.proofs.lemmas.Nat.{mul-le}
 use Rattle.systematic_shards.specs.Filled.{row_word}
 use Rattle.systematic_shards.specs.Words.{IsWithin}

@@ -1,11 +1,8 @@
-use Rattle.std.proofs.Common.{◌≡◌, ◌∙◌, inl, inr, ◌+◌, ◌-◌, ◌*◌, ◌<◌, ◌≤◌, ◌^◌, ℕ, List, length, take, drop, get_or, refl, sym, ap, subst, true≢false, arith}
+use Rattle.std.proofs.Common.{◌≡◌, ◌∙◌, inl, inr, ◌+◌, ◌-◌, ◌*◌, ◌<◌, ◌≤◌, ◌^◌, ℕ, List, length, take, drop, get_or, sym, ap, subst, true≢false, arith}
 use Rattle.std.proofs.lemmas.Bool.{cases_lt}
 use Rattle.std.proofs.lemmas.List.{get_or_default}
 use Rattle.math_base.specs.declared.fields.goldilocks.F.{F}
-use Rattle.math_base.specs.Elements.{number}
-use Rattle.math_restoring.specs.Restored.{item}
-use Rattle.systematic_shards.specs.Filled.{AreRunsWithin, made_word}
-use Rattle.systematic_shards.specs.Masks.{masked_number}
+use Rattle.systematic_shards.specs.Filled.{made_word}
 use Rattle.systematic_shards.specs.Shards.{mask_of_row}
 use Rattle.systematic_shards.specs.Words.{IsWithin}
 use Rattle.systematic_shards.proofs.Made.{length-run, made-run, turn}

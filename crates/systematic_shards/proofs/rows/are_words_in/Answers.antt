@@ -1,4 +1,4 @@
-use Rattle.std.proofs.Common.{◌≡◌, ◌<◌, ◌^◌, ℕ, get_or, refl, sym, subst, arith}
+use Rattle.std.proofs.Common.{◌<◌, ◌^◌, ℕ, get_or, refl, arith}
 use Rattle.std.proofs.lemmas.List.Elements.{All-from_get_or}
 use Rattle.math_numbers.specs.Goldilocks.{P}
 use Rattle.systematic_shards.specs.Masks.{IsFreeOf}

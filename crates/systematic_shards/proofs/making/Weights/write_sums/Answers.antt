@@ -5,7 +5,7 @@ use Rattle.math_theory.specs.Sums.{weighted_sum}
 use Rattle.math_base.specs.declared.fields.goldilocks.F.{F}
 use Rattle.math_base.specs.Elements.{product, residue, sum}
 use Rattle.math_transforms.proofs.WrittenRows.{row-done}
-use Rattle.systematic_shards.specs.Made.{AreSums, part_of}
+use Rattle.systematic_shards.specs.Made.{part_of}
 use Rattle.systematic_shards.proofs.Made.{length-part, turn}
 use Rattle.systematic_shards.proofs.making.Weights.write_sums.Goals as goal
 

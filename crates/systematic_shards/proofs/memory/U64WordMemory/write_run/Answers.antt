@@ -1,4 +1,4 @@
-use Rattle.std.proofs.Common.{◌≡◌, ◌+◌, ◌*◌, get_or, length, ap, subst, sym, arith}
+use Rattle.std.proofs.Common.{◌≡◌, ◌+◌, ◌*◌, get_or, length, subst, sym, arith}
 use Rattle.systematic_shards.specs.Words.{AreWritten, IsWithin}
 use Rattle.systematic_shards.proofs.Written.{next-written}
 use Rattle.systematic_shards.proofs.memory.U64WordMemory.write_run.Goals as goal

@@ -1,4 +1,4 @@
-use Rattle.std.proofs.Common.{◌≡◌, ◌∙◌, ◌+◌, ◌-◌, ◌*◌, ◌/◌, ◌<◌, [], length, take, drop, get_or, ap, arith}
+use Rattle.std.proofs.Common.{◌∙◌, ◌+◌, ◌-◌, ◌/◌, ◌<◌, [], length, take, drop, get_or, ap, arith}
 use Rattle.math_transforms.proofs.WrittenRows.{part-read}
 use Rattle.systematic_shards.proofs.Bytes.{chunk-at, word-chunk}
 use Rattle.systematic_shards.proofs.memory.U8WordMemory.read_run.Goals as goal
