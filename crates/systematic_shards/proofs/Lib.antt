@@ -4,6 +4,7 @@ pub mod Masks
 pub mod Written
 pub mod Made
 pub mod WeightedSums
+pub mod Differences
 pub mod Bytes
 pub mod Elements
 pub mod OneCodeword

@@ -1,7 +1,8 @@
 -- Rows that belong to one codeword.
 use Rattle.std.proofs.Common.{◌≡◌, ◌∙◌, ℕ, ◌+◌, ◌-◌, ◌<◌, ◌≤◌, ◌^◌, List, [], ◌∷◌, zero, suc, length, map, take, drop, get_or, sym, ap, subst, arith}
+use Rattle.std.specs.List.{All, Contains}
 use Rattle.std.specs.List.Sorted.{IsStrictlyIncreasing}
-use Rattle.std.proofs.lemmas.List.{get_or-map, get_or-take, length-map, length-take-le, take-append-drop}
+use Rattle.std.proofs.lemmas.List.{get_or-drop, get_or-map, get_or-take, get_or_default, length-drop, length-map, length-take, length-take-le, take-append-drop}
 use Rattle.std.proofs.lemmas.List.Elements.{All-append}
 use Rattle.math_base.specs.declared.fields.goldilocks.F.{F}
 use Rattle.math_base.specs.Elements.{number, same}
@@ -48,6 +49,24 @@ rising-take n total xs within h = (
       let less : get_or xs k d < total = h.1 k d (omega (arith, b, within)) in
       omega (arith, less, get_or-take n xs k d b),
 )
+
+-- what is among the first items of a list is among all
+pub contains-take : (n i : ℕ) (xs : List ℕ) → Contains (take n xs) i → Contains xs i
+contains-take n i xs (t, l, e) =
+    let b : t < n = omega (arith, l, length-take n xs) in
+    (t, omega (arith, l, length-take n xs), sym (get_or-take n xs t i b) ∙ e)
+
+-- later items of a rising list are not among the first ones
+pub rising-apart : (n m : ℕ) (xs : List ℕ) → IsStrictlyIncreasing xs → All (λ i. ¬ (Contains (take n xs) i)) (take m (drop n xs))
+rising-apart n m xs h k d l (t, b, e) =
+    let i : ℕ = get_or (take m (drop n xs)) k d in
+    let c : t < n = omega (arith, b, length-take n xs) in
+    let inside : n + k < length xs = omega (arith, l, length-take m (drop n xs), length-drop n xs) in
+    let near : k < m = omega (arith, l, length-take m (drop n xs)) in
+    let is : i ≡ get_or xs (n + k) 0 = get_or-take m (drop n xs) k d near ∙ get_or-drop n xs k d ∙ get_or_default xs (n + k) d 0 inside in
+    let there : get_or xs t 0 ≡ i = get_or_default xs t 0 i (omega (arith, c, inside)) ∙ sym (get_or-take n xs t i c) ∙ e in
+    let less : get_or xs t 0 < get_or xs (n + k) 0 = rising-before xs t (n + k) h (omega (arith, c)) inside in
+    omega (arith, less, is, there)
 
 module _ {M : Type 0} (word : List M → ℕ → ℕ) (split : Split) (mask : ℕ) (short : mask < 2 ^ 32) where
   -- the items of a column of rows that belong to a are those of a

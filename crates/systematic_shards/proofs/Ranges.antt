@@ -1,6 +1,6 @@
 -- Rows of successive indices, and room for rows one after the other.
 use Rattle.std.proofs.Common.{◌≡◌, ◌∙◌, ℕ, ◌+◌, ◌-◌, ◌*◌, ◌<◌, ◌≤◌, ◌^◌, List, [], ◌∷◌, ◌++◌, map-id, get_or, sym, ap, arith}
-use Rattle.std.specs.List.{All, range_with_len}
+use Rattle.std.specs.List.{All, Contains, range_with_len}
 use Rattle.std.proofs.lemmas.List.FromFn.{get_or-range_with_len, length-range_with_len, map-range_with_len_more}
 use Rattle.std.proofs.lemmas.Nat.{mul-le}
 use Rattle.math_base.specs.declared.fields.goldilocks.F.{F}
@@ -68,3 +68,11 @@ places-inside n most width bound places below within room k d l =
     let b : p < n = below k d l in
     let up : (p + 1) * width ≤ most * width = mul-le (p + 1) width most width (omega (arith, b, within)) (omega arith) in
     omega (arith, up, room)
+
+-- later indices are not among the first ones
+pub ranges-apart : (n m : ℕ) → All (λ i. ¬ (Contains (range_with_len 0 n) i)) (range_with_len n m)
+ranges-apart n m k d l (t, b, e) =
+    let i : ℕ = get_or (range_with_len n m) k d in
+    let c : t < n = omega (arith, b, length-range_with_len 0 n) in
+    let m_in : k < m = omega (arith, l, length-range_with_len n m) in
+    omega (arith, c, e, get_or-range_with_len 0 n t i c, get_or-range_with_len n m k d m_in)

@@ -1,10 +1,11 @@
 -- Weights by which the rows of given indices give the row of another one, column by column.
-use Rattle.std.specs.Prelude.{◌≡◌, ℕ, ◌*◌, ◌<◌, ◌≤◌, ◌^◌, List, length, take, drop, slice_index, slice_index_or, All}
+use Rattle.std.specs.Prelude.{◌≡◌, ℕ, ◌*◌, ◌<◌, ◌≤◌, ◌^◌, List, length, take, drop, slice_index, slice_index_or, All, remove}
 use Rattle.std.specs.Int.{IsNextPowerOfTwo}
 use Rattle.std.specs.List.Sorted.{IsStrictlyIncreasing}
 use Rattle.math_theory.specs.Powers.{power}
+use Rattle.math_theory.specs.RootProducts.{root_product}
 use Rattle.math_base.specs.declared.fields.goldilocks.F.{F}
-use Rattle.math_base.specs.Elements.{residue, same, product, root_of, goldilocks}
+use Rattle.math_base.specs.Elements.{residue, same, sum, negative, product, root_of, goldilocks}
 use Rattle.math_base.specs.Polynomials.{AreWeightsAt}
 use Rattle.math_restoring.specs.Restored.{item}
 use Rattle.math_transforms.specs.RootWeights.{powers_at}
@@ -32,3 +33,12 @@ pub record IsThrough (lg : ℕ) (indices : List ℕ) (column p : List F) : Type 
 -- x is the value at the index of each polynomial, so of the only one, through the items of the column
 abbrev pub IsValueThrough : ℕ → List ℕ → List F → ℕ → F → Type 0
 IsValueThrough lg indices column index x = (p : List F) → IsThrough lg indices column p → same x (value_at_index lg p index)
+
+-- the product of x - p over the points p
+abbrev pub differences : F → List F → F
+differences x points = root_product sum negative product (residue 1) x points
+
+-- each of the first n is the product of the differences of its point from the other points
+pub record AreOwnProducts (points : List F) (n : ℕ) (own : List F) : Type 0 where
+  pub count : length own ≡ n
+  pub each : (k : ℕ) → k < n → item own k ≡ differences (item points k) (remove points k)

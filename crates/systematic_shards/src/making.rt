@@ -4,7 +4,7 @@
 //! The columns are gathered once for all targets, the elements of each one behind the other. Each
 //! element that is made is the sum of the products of a column and the weights of its target.
 
-ghost use Rattle.std.specs.Prelude.{◌≡◌, ◌+◌, ◌*◌, ◌<◌, ◌≤◌, ◌^◌, ℕ, All, IfOk, length, map, slice_index};
+ghost use Rattle.std.specs.Prelude.{◌≡◌, ◌+◌, ◌*◌, ◌<◌, ◌≤◌, ◌^◌, ℕ, All, Contains, IfOk, length, map, slice_index};
 ghost use Rattle.std.specs.Int.{IsNextPowerOfTwo};
 ghost use Rattle.math_theory.specs.Sums.{weighted_sum};
 ghost use Rattle.math_base.specs.Elements.{product, residue, sum};
@@ -60,11 +60,12 @@ fn cols_at_a_time(elements: usize) -> usize
 }
 
 impl Weights {
-    /// Makes the weights. The indices rise, and there are `min` or more.
+    /// Makes the weights. The indices rise, and there are `min` or more; no target is among them.
     pub(crate) fn new(alloc: Global, indices: &[u32], targets: &[u32], code: Code) -> Mem<Weights>
         requires rising { AreRising code.split.total indices.now }
         requires enough { code.split.min ≤ length indices.now }
         requires below { All (λ i. i < code.split.total) targets.now }
+        requires missing { All (λ i. ¬ (Contains indices.now i)) targets.now }
         ensures { IfOk result (λ made. (made.code ≡ code) × (made.indices.items ≡ indices.now)
             × (made.targets.items ≡ targets.now)) }
     {

@@ -1,5 +1,5 @@
 use Rattle.std.proofs.Common.{◌≡◌, ◌∙◌, ◌-◌, ◌*◌, ◌<◌, ◌^◌, ℕ, List, length, sym, ap, subst, arith}
-use Rattle.std.specs.List.{All, range_with_len}
+use Rattle.std.specs.List.{All, Contains, range_with_len}
 use Rattle.std.proofs.lemmas.List.FromFn.{length-range_with_len}
 use Rattle.math_base.specs.declared.fields.goldilocks.F.{F}
 use Rattle.math_restoring.specs.Restored.{AreDistinct}
@@ -9,7 +9,7 @@ use Rattle.systematic_shards.specs.Filled.{AreFilled, ArePlaces, HaveRoomFor, Is
 use Rattle.systematic_shards.specs.Shards.{AreBlockRows}
 use Rattle.systematic_shards.specs.Weights.{AreRising}
 use Rattle.systematic_shards.proofs.ParityRows.{block-codeword, block-indices, encoded-shards, room-filled}
-use Rattle.systematic_shards.proofs.Ranges.{places-inside, range-distinct, range-rising}
+use Rattle.systematic_shards.proofs.Ranges.{places-inside, range-distinct, range-rising, ranges-apart}
 use Rattle.systematic_shards.proofs.encoding.encode.Goals as goal
 
 pub new-requires-clause-rising : goal.new-requires-clause-rising
@@ -95,3 +95,10 @@ returns-clause-ok g c =
     encoded-shards word split mask short block rows are targets places old new targets_are places_are
     (block-codeword word split mask short block rows are c.in_ok-mask.ensures.least.free c.in_ok-mask.ensures.fit)
     (subst (λ (k : Code). (a : ℕ → ℕ → F) → IsCodewordThrough word k.split k.mask rows a → AreFilled k.split.width places (row_word k.split k.mask a targets) k.split.width old new) c.in_ok-weights.ensures.0 c.fill.ensures)
+
+pub new-requires-clause-missing : goal.new-requires-clause-missing
+new-requires-clause-missing g c =
+    let split = c.args.split in
+    let first_are = c.deref.ensures.value ∙ c.in_ok-first.ensures ∙ ap (range_with_len 0) (let e : split.min - 0 ≡ split.min = omega arith in e) in
+    subst (λ xs. All (λ i. ¬ (Contains xs i)) c.deref-2.result.now) (sym first_are)
+    (subst (λ xs. All (λ i. ¬ (Contains (range_with_len 0 split.min) i)) xs) (sym (c.deref-2.ensures.value ∙ c.in_ok-targets.ensures)) (ranges-apart split.min (split.total - split.min)))

@@ -9,7 +9,7 @@ use Rattle.systematic_shards.specs.Filled.{IsCodewordThrough}
 use Rattle.systematic_shards.specs.Refusals.{AreElements}
 use Rattle.systematic_shards.specs.Shards.{BelongTo, IsElementIn, IsRowOf}
 use Rattle.systematic_shards.specs.Weights.{AreRising}
-use Rattle.systematic_shards.proofs.OneCodeword.{belong-parts, rising-take, through-rows}
+use Rattle.systematic_shards.proofs.OneCodeword.{belong-parts, rising-apart, rising-take, through-rows}
 use Rattle.systematic_shards.proofs.holding.are_of_one_codeword.Goals as goal
 
 pub new-requires-clause-rising : goal.new-requires-clause-rising
@@ -82,3 +82,8 @@ returns g c =
           let Q : Row g.row.M.Denot → Type 0 = λ row. IsRowOf split mask b row.index (word row.cells.now) in
           (answer b (of_b, All-take Q min rows belong_b)).1 (subst (λ xs. BelongTo word split mask xs b) (sym others) (All-drop Q min rows belong_b)),
     )
+
+pub new-requires-clause-missing : goal.new-requires-clause-missing
+new-requires-clause-missing g c =
+    let min : ℕ = c.args.code.split.min in
+    rising-apart min (length c.args.indices.now - min) c.args.indices.now c.requires.rising.0

@@ -1,5 +1,5 @@
 use Rattle.std.proofs.Common.{◌≡◌, ◌∙◌, ◌↔◌, ◌*◌, ◌<◌, ◌≤◌, ◌^◌, ℕ, List, length, map, take, get_or, true, refl, ap, ap₂, sym, subst, arith}
-use Rattle.std.specs.List.{All}
+use Rattle.std.specs.List.{All, Contains}
 use Rattle.std.proofs.lemmas.Bool.{false≢true}
 use Rattle.std.proofs.lemmas.List.{get_or_default, length-map, length-take-le, take-map}
 use Rattle.std.proofs.lemmas.List.Elements.{All-take}
@@ -10,7 +10,7 @@ use Rattle.systematic_shards.specs.Filled.{AreFilled, ArePlaces, AreWithinRoom, 
 use Rattle.systematic_shards.specs.Shards.{IsElementIn, IsRowOf}
 use Rattle.systematic_shards.specs.Wanted.{AreCopied, AreCopiesWithin, AreLost}
 use Rattle.systematic_shards.specs.Weights.{AreRising}
-use Rattle.systematic_shards.proofs.OneCodeword.{rising-distinct, rising-take, through-rows}
+use Rattle.systematic_shards.proofs.OneCodeword.{contains-take, rising-distinct, rising-take, through-rows}
 use Rattle.systematic_shards.proofs.Ranges.{places-inside}
 use Rattle.systematic_shards.proofs.Wanted.{lost-within, wanted-rows}
 use Rattle.systematic_shards.proofs.planning.write_wanted.Goals as goal
@@ -184,3 +184,15 @@ write_copies-requires-clause-fits g c =
     subst (λ n. AreCopiesWithin n word width c.deref-8.result.now c.deref-9.result.now wanted (length wanted)) (ap (λ b. b * out) c.BYTES.ensures)
     (subst (λ is. AreCopiesWithin room word width is c.deref-9.result.now wanted (length wanted)) (c.deref-4.ensures.value ∙ sym c.deref-8.ensures.value)
     (subst (λ rs. AreCopiesWithin room word width c.deref-4.result.now rs wanted (length wanted)) (c.deref-5.ensures.value ∙ sym c.deref-9.ensures.value) (c.are_copies_within.ensures.0 c.if-not-are_copies_within.false)))
+
+pub new-requires-clause-missing : goal.new-requires-clause-missing
+new-requires-clause-missing g c =
+    let min : ℕ = c.args.code.split.min in
+    let indices : List ℕ = c.args.held.now.indices.items in
+    let lost : List ℕ = c.in_ok-lost.lost.indices.items in
+    let L = c.in_ok-lost.ensures in
+    subst (λ xs. All (λ i. ¬ (Contains (take min c.deref-2.result.now) i)) xs) (sym c.deref-3.ensures.value)
+    (λ j d l there.
+    let b : j < length c.in_ok-lost.lost.places.items = omega (arith, l, L.count) in
+    let among : Contains c.deref-2.result.now (get_or lost j d) = contains-take min (get_or lost j d) c.deref-2.result.now there in
+    L.missing j b (subst (λ is. Contains is (get_or lost j 0)) (c.deref-2.ensures.value ∙ sym c.deref.ensures.value) (subst (Contains c.deref-2.result.now) (get_or_default lost j d 0 l) among)))

@@ -1,16 +1,21 @@
-use Rattle.std.proofs.Common.{◌∙◌, ◌+◌, ◌^◌, ◌++◌, ap, sym, subst, arith}
-use Rattle.std.specs.Int.{IsNextPowerOfTwo}
-use Rattle.systematic_shards.specs.Weights.{AreWeightRows}
-use Rattle.systematic_shards.proofs.WeightedSums.{weights-more}
+use Rattle.std.proofs.Common.{◌<◌, IfOk, length, sym, subst}
+use Rattle.std.specs.List.{All}
+use Rattle.systematic_shards.specs.Weights.{AreRising, AreWeightRows}
 use Rattle.systematic_shards.proofs.weights.weight_rows.Goals as goal
 
-pub loop-j-preserved : goal.loop-j-preserved
-loop-j-preserved c =
-    let total = c.args.total in
-    let indices = c.args.indices.now in
-    let wanted = c.args.wanted.now in
-    let pushed = c.in_ok-extend_from_slice.ensures.items ∙ ap (λ xs. c.loop-j.out.items ++ xs) c.deref.ensures.value in
-    subst (AreWeightRows total indices wanted (c.loop-j.j + 1)) (sym pushed)
-    (weights-more total c.loop-j.j indices wanted c.loop-j.out.items c.in_ok-row.row.items c.requires.some (omega arith)
-    (λ lg next. c.in_ok-row.ensures lg (subst (λ n. IsNextPowerOfTwo n (2 ^ lg)) (sym c.in-Some.ensures) next))
-    c.loop-j.invariant)
+pub weights_by_points-requires-clause-rising : goal.weights_by_points-requires-clause-rising
+weights_by_points-requires-clause-rising c = subst (λ n. AreRising n c.args.indices.now) (sym c.in-Some.ensures) c.requires.rising
+
+pub weights_by_points-requires-clause-below : goal.weights_by_points-requires-clause-below
+weights_by_points-requires-clause-below c = subst (λ n. All (λ i. i < n) c.args.wanted.now) (sym c.in-Some.ensures) c.requires.below
+
+pub weights_by_transforms-requires : goal.weights_by_transforms-requires
+weights_by_transforms-requires c = record { rising = subst (λ n. AreRising n c.args.indices.now) (sym c.in-Some.ensures) c.requires.rising }
+
+pub returns-then-are_few : goal.returns-then-are_few
+returns-then-are_few c =
+    subst (λ n. IfOk c.weights_by_points.result (λ w. AreWeightRows n c.args.indices.now c.args.wanted.now (length c.args.wanted.now) w.items)) c.in-Some.ensures c.weights_by_points.ensures
+
+pub returns : goal.returns
+returns c =
+    subst (λ n. IfOk c.weights_by_transforms.result (λ w. AreWeightRows n c.args.indices.now c.args.wanted.now (length c.args.wanted.now) w.items)) c.in-Some.ensures c.weights_by_transforms.ensures
