@@ -1,5 +1,5 @@
-//! Elements of the rows of some indices, the targets, from rows in hand: by weights, some columns at
-//! a time.
+//! Elements of the rows of some indices, the targets, from rows in hand: by weights, for some
+//! columns at a time.
 //!
 //! The columns are gathered once for all targets, the elements of each one behind the other. Each
 //! element that is made is the sum of the products of a column and the weights of its target.

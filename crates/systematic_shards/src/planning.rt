@@ -188,7 +188,8 @@ fn are_made_within(
     requires within { from + cols ≤ weights.now.code.split.width }
     requires places { ArePlaces weights.now.code.split.width weights.now.targets.items places.now }
     ensures { let code = weights.now.code in IsTrue result ↔ AreRunsWithin size code.split.width
-        from cols places.now (made_word code.split code.mask weights.now.targets.items cols made.now)
+        from cols places.now
+        (made_word code.split code.mask weights.now.targets.items cols made.now)
         (length places.now) }
 {
     let code = weights.code;

@@ -36,9 +36,9 @@ use std::alloc::Global;
 /// - rows of no codeword, with `Inconsistent`.
 ///
 /// It takes memory for the indices and addresses of the rows, for `min` weights for each row past
-/// the first `min` and for each that is lost, for a few times N elements while these are made, where
-/// N is `total` rounded up to a power of two, and for a column of all rows or 32 KiB. If it refuses,
-/// it writes nothing.
+/// the first `min` and for each that is lost, for a few times N elements while these are made,
+/// where N is `total` rounded up to a power of two, and for a column of all rows or 32 KiB. If it
+/// refuses, it writes nothing.
 ///
 /// ```
 /// use systematic_shards::{Code, Row, Split, rebuild};

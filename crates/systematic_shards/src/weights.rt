@@ -1,7 +1,7 @@
 //! Weights by which rows of given indices give the rows of others.
 //!
-//! The weight of index t for the value at x is A(x) / ((x - x_t) D_t), where x_t is its point, A the
-//! product of X minus each point, and D_t the product of the differences of x_t from the other
+//! The weight of index t for the value at x is A(x) / ((x - x_t) D_t), where x_t is its point, A
+//! the product of X minus each point, and D_t the product of the differences of x_t from the other
 //! points. The products D_t serve all rows that are wanted, and one inversion serves all weights of
 //! a row. Of many points a transform gives the weights of a row in less time.
 
