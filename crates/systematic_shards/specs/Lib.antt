@@ -12,3 +12,4 @@ pub mod Held
 pub mod Wanted
 pub mod Correcting
 pub mod Transforms
+pub mod Interpolations

@@ -6,7 +6,7 @@ ghost use Rattle.systematic_shards.specs.Masks.{IsLeastMask};
 ghost use Rattle.systematic_shards.specs.Shards.{AreBlockRows, AreShards};
 
 use crate::filling::fill;
-use crate::making::Weights;
+use crate::interpolation::Interpolation;
 use crate::mask::least_mask;
 use crate::memory::WordMemory;
 use crate::rows::Row;
@@ -77,8 +77,8 @@ pub fn encode<M: WordMemory>(alloc: Global, split: Split, block: &[M], parity: &
     let first = indices_between(alloc, 0, split.min)?;
     let targets = indices_between(alloc, split.min, split.total)?;
     let places = places_below(alloc, targets.len())?;
-    let weights = Weights::new(alloc, &first, &targets, Code { split, mask })?;
-    let mut room = weights.room(alloc)?;
-    fill(&rows, &weights, &places, &mut room, parity);
+    let interpolation = Interpolation::new(alloc, &first, &targets, Code { split, mask })?;
+    let mut room = interpolation.room(alloc)?;
+    fill(&rows, &interpolation, &places, &mut room, parity);
     Ok(mask)
 }

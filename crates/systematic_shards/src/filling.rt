@@ -13,7 +13,7 @@ ghost use Rattle.systematic_shards.specs.Refusals.{AreElements};
 ghost use Rattle.systematic_shards.specs.Shards.{BelongTo};
 ghost use Rattle.systematic_shards.specs.Words.{AreWritten, IsWithin};
 
-use crate::making::Weights;
+use crate::interpolation::Interpolation;
 use crate::mask::{element_of, word_of};
 use crate::memory::{RUN, WordMemory, run_of};
 use crate::rows::{Row, row_mask};
@@ -51,27 +51,28 @@ fn write_elements<M: WordMemory>(elements: &[F], mask: u32, at: usize, out: &mut
 /// of each row in its place.
 fn write_made<M: WordMemory>(
     made: &[F],
-    weights: &Weights,
+    interpolation: &Interpolation,
     places: &[usize],
     from: usize,
     cols: usize,
     out: &mut [M],
 )
-    requires room { length weights.now.targets.items * cols ≤ length made.now }
+    requires room { length interpolation.now.targets.items * cols ≤ length made.now }
     requires few { cols ≤ 64 }
-    requires within { from + cols ≤ weights.now.code.split.width }
-    requires places { ArePlaces weights.now.code.split.width weights.now.targets.items places.now }
-    requires fits { let code = weights.now.code in AreRunsWithin (M.BYTES * length out.old)
+    requires within { from + cols ≤ interpolation.now.code.split.width }
+    requires places { ArePlaces interpolation.now.code.split.width
+        interpolation.now.targets.items places.now }
+    requires fits { let code = interpolation.now.code in AreRunsWithin (M.BYTES * length out.old)
         code.split.width from cols places.now
-        (made_word code.split code.mask weights.now.targets.items cols made.now)
+        (made_word code.split code.mask interpolation.now.targets.items cols made.now)
         (length places.now) }
-    ensures { let code = weights.now.code in AreRunsFilled code.split.width from cols places.now
-        (made_word code.split code.mask weights.now.targets.items cols made.now)
+    ensures { let code = interpolation.now.code in AreRunsFilled code.split.width from cols places.now
+        (made_word code.split code.mask interpolation.now.targets.items cols made.now)
         (length places.now) (M.word out.old) (M.word out.new) }
 {
-    let code = weights.code;
+    let code = interpolation.code;
     for j in 0..places.len() {
-        let mask = row_mask(code, weights.targets[j]);
+        let mask = row_mask(code, interpolation.targets[j]);
         let at = places[j] * code.split.width + from;
         write_elements(&made[j * cols..(j + 1) * cols], mask, at, out);
     }
@@ -80,29 +81,30 @@ fn write_made<M: WordMemory>(
 /// Makes the rows of the targets, and writes each in its place. The rows are those of the indices.
 pub(crate) fn fill<M: WordMemory>(
     rows: &[Row<'_, M>],
-    weights: &Weights,
+    interpolation: &Interpolation,
     places: &[usize],
     room: &mut [F],
     out: &mut [M],
 )
-    requires rows { weights.now.indices.items ≡ map (λ row. row.index) rows.now }
-    requires places { ArePlaces weights.now.code.split.width weights.now.targets.items places.now }
-    requires room { (length weights.now.indices.items + length weights.now.targets.items)
-        * weights.now.cols ≤ length room.old }
-    requires fits { HaveRoomFor M.word (M.BYTES * length out.old) weights.now.code.split
-        weights.now.code.mask rows.now weights.now.targets.items places.now }
-    ensures { (a : ℕ → ℕ → F) → let code = weights.now.code in
+    requires rows { interpolation.now.indices.items ≡ map (λ row. row.index) rows.now }
+    requires places { ArePlaces interpolation.now.code.split.width
+        interpolation.now.targets.items places.now }
+    requires room { (interpolation.now.height + length interpolation.now.targets.items)
+        * interpolation.now.cols ≤ length room.old }
+    requires fits { HaveRoomFor M.word (M.BYTES * length out.old) interpolation.now.code.split
+        interpolation.now.code.mask rows.now interpolation.now.targets.items places.now }
+    ensures { (a : ℕ → ℕ → F) → let code = interpolation.now.code in
         IsCodewordThrough M.word code.split code.mask rows.now a
         → AreFilled code.split.width places.now
-        (row_word code.split code.mask a weights.now.targets.items) code.split.width
+        (row_word code.split code.mask a interpolation.now.targets.items) code.split.width
         (M.word out.old) (M.word out.new) }
 {
-    let width = weights.code.split.width;
+    let width = interpolation.code.split.width;
     let mut from = 0;
     while from < width {
-        let cols = weights.cols.min(width - from);
-        weights.make(rows, from, cols, room);
-        write_made(room, weights, places, from, cols, out);
+        let cols = interpolation.cols.min(width - from);
+        interpolation.make(rows, from, cols, room);
+        write_made(room, interpolation, places, from, cols, out);
         from += cols;
     }
 }
@@ -167,24 +169,24 @@ fn have_elements<M: WordMemory>(
 pub(crate) fn have_made<M: WordMemory>(
     rows: &[Row<'_, M>],
     further: &[Row<'_, M>],
-    weights: &Weights,
+    interpolation: &Interpolation,
     room: &mut [F],
 ) -> bool
-    requires rows { weights.now.indices.items ≡ map (λ row. row.index) rows.now }
-    requires further { weights.now.targets.items ≡ map (λ row. row.index) further.now }
-    requires room { (length weights.now.indices.items + length weights.now.targets.items)
-        * weights.now.cols ≤ length room.old }
-    requires elements { AreElements M.word weights.now.code.split weights.now.code.mask
+    requires rows { interpolation.now.indices.items ≡ map (λ row. row.index) rows.now }
+    requires further { interpolation.now.targets.items ≡ map (λ row. row.index) further.now }
+    requires room { (interpolation.now.height + length interpolation.now.targets.items)
+        * interpolation.now.cols ≤ length room.old }
+    requires elements { AreElements M.word interpolation.now.code.split interpolation.now.code.mask
         further.now }
-    ensures { (a : ℕ → ℕ → F) → let code = weights.now.code in
+    ensures { (a : ℕ → ℕ → F) → let code = interpolation.now.code in
         IsCodewordThrough M.word code.split code.mask rows.now a
         → (IsTrue result ↔ BelongTo M.word code.split code.mask further.now a) }
 {
-    let code = weights.code;
+    let code = interpolation.code;
     let mut from = 0;
     while from < code.split.width {
-        let cols = weights.cols.min(code.split.width - from);
-        weights.make(rows, from, cols, room);
+        let cols = interpolation.cols.min(code.split.width - from);
+        interpolation.make(rows, from, cols, room);
         if !have_elements(further, code, from, cols, room) {
             return false;
         }

@@ -12,7 +12,7 @@ ghost use Rattle.systematic_shards.specs.declared.Error.TheVariants.{Conflict};
 
 use crate::Error;
 use crate::filling::have_made;
-use crate::making::Weights;
+use crate::interpolation::Interpolation;
 use crate::memory::WordMemory;
 use crate::rows::{Row, are_elements, first_difference};
 use crate::split::Code;
@@ -107,9 +107,9 @@ fn are_of_one_codeword<M: WordMemory>(
         (λ answer. IsTrue answer ↔ HaveCodewordOf M.word code.split code.mask rows.now) }
 {
     let min = code.split.min as usize;
-    let weights = Weights::new(alloc, &indices[..min], &indices[min..], code)?;
-    let mut room = weights.room(alloc)?;
-    let answer = have_made(&rows[..min], &rows[min..], &weights, &mut room);
+    let interpolation = Interpolation::new(alloc, &indices[..min], &indices[min..], code)?;
+    let mut room = interpolation.room(alloc)?;
+    let answer = have_made(&rows[..min], &rows[min..], &interpolation, &mut room);
     Ok(answer)
 }
 

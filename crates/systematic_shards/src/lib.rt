@@ -22,6 +22,7 @@ mod decoding;
 mod encoding;
 mod filling;
 mod holding;
+mod interpolation;
 pub mod laws;
 mod making;
 mod mask;

@@ -18,7 +18,7 @@ ghost use Rattle.systematic_shards.specs.Words.{IsWithin};
 
 use crate::filling::{copy_row, fill};
 use crate::holding::Held;
-use crate::making::Weights;
+use crate::interpolation::Interpolation;
 use crate::mask::word_of;
 use crate::memory::WordMemory;
 use crate::rows::{Row, row_mask};
@@ -178,23 +178,24 @@ fn is_run_within(elements: &[F], mask: u32, at: usize, size: usize) -> bool
 /// from column `from` on.
 fn are_made_within(
     made: &[F],
-    weights: &Weights,
+    interpolation: &Interpolation,
     places: &[usize],
     from: usize,
     cols: usize,
     size: usize,
 ) -> bool
-    requires room { length weights.now.targets.items * cols ≤ length made.now }
-    requires within { from + cols ≤ weights.now.code.split.width }
-    requires places { ArePlaces weights.now.code.split.width weights.now.targets.items places.now }
-    ensures { let code = weights.now.code in IsTrue result ↔ AreRunsWithin size code.split.width
+    requires room { length interpolation.now.targets.items * cols ≤ length made.now }
+    requires within { from + cols ≤ interpolation.now.code.split.width }
+    requires places { ArePlaces interpolation.now.code.split.width
+        interpolation.now.targets.items places.now }
+    ensures { let code = interpolation.now.code in IsTrue result ↔ AreRunsWithin size code.split.width
         from cols places.now
-        (made_word code.split code.mask weights.now.targets.items cols made.now)
+        (made_word code.split code.mask interpolation.now.targets.items cols made.now)
         (length places.now) }
 {
-    let code = weights.code;
+    let code = interpolation.code;
     for j in 0..places.len() {
-        let mask = row_mask(code, weights.targets[j]);
+        let mask = row_mask(code, interpolation.targets[j]);
         let at = places[j] * code.split.width + from;
         if !is_run_within(&made[j * cols..(j + 1) * cols], mask, at, size) {
             return false;
@@ -207,29 +208,30 @@ fn are_made_within(
 /// behind `last`.
 fn are_lost_within<M: WordMemory>(
     rows: &[Row<'_, M>],
-    weights: &Weights,
+    interpolation: &Interpolation,
     places: &[usize],
     last: usize,
     room: &mut [F],
     size: usize,
 ) -> bool
-    requires rows { weights.now.indices.items ≡ map (λ row. row.index) rows.now }
-    requires places { ArePlaces weights.now.code.split.width weights.now.targets.items places.now }
-    requires room { (length weights.now.indices.items + length weights.now.targets.items)
-        * weights.now.cols ≤ length room.old }
-    requires last { (last + 1) * weights.now.code.split.width ≤ 2 ^ 61 }
+    requires rows { interpolation.now.indices.items ≡ map (λ row. row.index) rows.now }
+    requires places { ArePlaces interpolation.now.code.split.width
+        interpolation.now.targets.items places.now }
+    requires room { (interpolation.now.height + length interpolation.now.targets.items)
+        * interpolation.now.cols ≤ length room.old }
+    requires last { (last + 1) * interpolation.now.code.split.width ≤ 2 ^ 61 }
     requires behind { All (λ p. p ≤ last) places.now }
-    ensures { (a : ℕ → ℕ → F) → let code = weights.now.code in
+    ensures { (a : ℕ → ℕ → F) → let code = interpolation.now.code in
         IsCodewordThrough M.word code.split code.mask rows.now a
         → (IsTrue result ↔ AreWithinRoom size code.split.width places.now
-        (row_word code.split code.mask a weights.now.targets.items)) }
+        (row_word code.split code.mask a interpolation.now.targets.items)) }
 {
-    let width = weights.code.split.width;
+    let width = interpolation.code.split.width;
     let mut from = first_past(size, width, last);
     while from < width {
-        let cols = weights.cols.min(width - from);
-        weights.make(rows, from, cols, room);
-        if !are_made_within(room, weights, places, from, cols, size) {
+        let cols = interpolation.cols.min(width - from);
+        interpolation.make(rows, from, cols, room);
+        if !are_made_within(room, interpolation, places, from, cols, size) {
             return false;
         }
         from += cols;
@@ -266,17 +268,17 @@ pub(crate) fn write_wanted<M: WordMemory>(
     let width = code.split.width;
     let size = M::BYTES * out.len();
     let lost = lost_rows(alloc, &held.indices, wanted)?;
-    let weights = Weights::new(alloc, &held.indices[..min], &lost.indices, code)?;
-    let mut room = weights.room(alloc)?;
+    let interpolation = Interpolation::new(alloc, &held.indices[..min], &lost.indices, code)?;
+    let mut room = interpolation.room(alloc)?;
     if !are_copies_within(&held.indices, &held.rows, wanted, width, size) {
         return Ok(false);
     }
     let chosen = &held.rows[..min];
     let last = wanted.len().saturating_sub(1);
-    if !are_lost_within(chosen, &weights, &lost.places, last, &mut room, size) {
+    if !are_lost_within(chosen, &interpolation, &lost.places, last, &mut room, size) {
         return Ok(false);
     }
     write_copies(&held.indices, &held.rows, wanted, width, out);
-    fill(chosen, &weights, &lost.places, &mut room, out);
+    fill(chosen, &interpolation, &lost.places, &mut room, out);
     Ok(true)
 }

@@ -21,7 +21,7 @@ ghost use Rattle.systematic_shards.specs.Shards.{column_of_rows, element_in};
 ghost use Rattle.systematic_shards.specs.Weights.{AreRising};
 
 use crate::mask::element_of;
-use crate::memory::WordMemory;
+use crate::memory::{RUN, WordMemory};
 use crate::rows::{Row, row_mask};
 use crate::split::Code;
 use crate::weights::lg_above;
@@ -31,7 +31,7 @@ use math_restoring::restoring::Restorer;
 use math_transforms::transform::order::reversed_row;
 use math_transforms::transform::{evaluate_few, evaluation_table, size_of};
 use math_transforms::work::Work;
-use math_values::strips::{most_cols, strip_room};
+use math_values::strips::most_cols;
 use std::alloc::Global;
 
 /// How many cells a strip has at most, where eight columns have no more: 128 KiB.
@@ -79,6 +79,7 @@ pub(crate) struct Transforms {
     ghost below: { All (λ i. i < code.split.total) targets.items },
     ghost is_tree: { IsTreeOf goldilocks root_of (residue 1) lg table.items },
     ghost some: { 1 ≤ cols },
+    ghost few: { cols ≤ 64 },
 }
 
 impl Transforms {
@@ -107,7 +108,7 @@ impl Transforms {
         let restorer = Restorer::new(alloc, indices, lg, part)?;
         let targets = Vec::from_slice(alloc, targets)?;
         let table = evaluation_table::<F>(alloc, lg)?;
-        let cols = most_cols(STRIP_CELLS, lg, code.split.width);
+        let cols = most_cols(STRIP_CELLS, lg, code.split.width).min(RUN);
         Ok(Transforms {
             alloc,
             code,
@@ -124,15 +125,16 @@ impl Transforms {
     pub(crate) fn cols(&self) -> usize
         ensures value { result ≡ cols_of self.now }
         ensures some { 1 ≤ result }
+        ensures few { result ≤ 64 }
     {
         self.cols
     }
 
-    /// Makes room for a strip.
-    pub(crate) fn room(&self, alloc: Global) -> Mem<Vec<F>>
-        ensures { IfOk result (λ room. length room.items ≡ room_of self.now) }
+    /// Returns how many rows a strip has.
+    pub(crate) fn height(&self) -> usize
+        ensures { room_of self.now ≡ result * cols_of self.now }
     {
-        strip_room(alloc, size_of(self.lg), self.cols)
+        size_of(self.lg)
     }
 
     /// Writes over the strip zeros, and the elements of each row in `cols` columns, from column

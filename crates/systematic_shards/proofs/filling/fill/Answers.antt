@@ -7,7 +7,7 @@ use Rattle.systematic_shards.proofs.filling.fill.Goals as goal
 
 pub loop-from-init : goal.loop-from-init
 loop-from-init g c =
-    let w = c.args.weights.now in
+    let w = c.args.interpolation.now in
     record {
       within = omega arith;
       filled = λ a through. filled-none w.code.split.width c.args.places.now (row_word w.code.split w.code.mask a w.targets.items) (g.M.WordMemory.word c.args.out.now);
@@ -15,8 +15,8 @@ loop-from-init g c =
 
 pub write_made-requires-clause-room : goal.write_made-requires-clause-room
 write_made-requires-clause-room g c =
-    let w = c.args.weights.now in
-    let n : ℕ = length w.indices.items in
+    let w = c.args.interpolation.now in
+    let n : ℕ = w.height in
     let m : ℕ = length w.targets.items in
     let cols : ℕ = c.min-cols.result in
     let up : m * cols ≤ (n + m) * w.cols = mul-le m cols (n + m) w.cols (omega arith) (omega (arith, c.min-cols.ensures)) in
@@ -24,7 +24,7 @@ write_made-requires-clause-room g c =
 
 pub write_made-requires-clause-fits : goal.write_made-requires-clause-fits
 write_made-requires-clause-fits g c =
-    let w = c.args.weights.now in
+    let w = c.args.interpolation.now in
     let split = w.code.split in
     let mask = w.code.mask in
     let (a, through, room) = c.requires.fits in
@@ -36,7 +36,7 @@ write_made-requires-clause-fits g c =
 
 pub loop-from-preserved : goal.loop-from-preserved
 loop-from-preserved g c =
-    let w = c.args.weights.now in
+    let w = c.args.interpolation.now in
     let split = w.code.split in
     let word = g.M.WordMemory.word in
     let cols : ℕ = c.min-cols.result in
@@ -50,7 +50,7 @@ loop-from-preserved g c =
 
 pub returns : goal.returns
 returns g c = λ a through.
-    let w = c.args.weights.now in
+    let w = c.args.interpolation.now in
     let width : ℕ = w.code.split.width in
     let all : c.loop-from.from ≡ width = omega (arith, c.loop-from-test.false, c.loop-from.invariant.within) in
     subst (λ n. AreFilled width c.args.places.now (row_word w.code.split w.code.mask a w.targets.items) n (g.M.WordMemory.word c.args.out.now) (g.M.WordMemory.word c.loop-from.out)) all (c.loop-from.invariant.filled a through)

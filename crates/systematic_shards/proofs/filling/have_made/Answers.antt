@@ -9,8 +9,8 @@ use Rattle.systematic_shards.proofs.filling.have_made.Goals as goal
 
 pub have_elements-requires-clause-room : goal.have_elements-requires-clause-room
 have_elements-requires-clause-room g c =
-    let w = c.args.weights.now in
-    let n : ℕ = length w.indices.items in
+    let w = c.args.interpolation.now in
+    let n : ℕ = w.height in
     let m : ℕ = length w.targets.items in
     let cols : ℕ = c.min-cols.result in
     let many : m * cols ≡ length c.args.further.now * cols = ap (λ i. i * cols) (ap length c.requires.further ∙ length-map c.args.further.now (λ row. row.index)) in
@@ -19,7 +19,7 @@ have_elements-requires-clause-room g c =
 
 pub loop-from-preserved : goal.loop-from-preserved
 loop-from-preserved g c =
-    let w = c.args.weights.now in
+    let w = c.args.interpolation.now in
     let split = w.code.split in
     let mask = w.code.mask in
     let word = g.M.WordMemory.word in
@@ -39,7 +39,7 @@ loop-from-preserved g c =
 
 pub returns-then-not-have_elements : goal.returns-then-not-have_elements
 returns-then-not-have_elements g c = λ a through.
-    let w = c.args.weights.now in
+    let w = c.args.interpolation.now in
     let cols : ℕ = c.min-cols.result in
     let within : c.loop-from.from + cols ≤ w.code.split.width = omega (arith, c.loop-from.invariant.within, c.min-cols.ensures) in (
       λ f. absurd (true≢false (sym f)),

@@ -9,7 +9,7 @@ use Rattle.systematic_shards.proofs.filling.have_made.Given as goal
 abbrev pub invariant-loop-from : goal.invariant-loop-from
 invariant-loop-from g l =
     let word = g.M.WordMemory.word in
-    let code = l.weights.code in
+    let code = l.interpolation.code in
     record {
       within : l.from ≤ code.split.width;
       words : (a : ℕ → ℕ → F) → IsCodewordThrough word code.split code.mask l.rows a → (k j : ℕ) (d : Row g.row.M.Denot) → k < l.from → j < length l.further
@@ -17,4 +17,4 @@ invariant-loop-from g l =
     }
 
 abbrev pub decreases-loop-from : goal.decreases-loop-from
-decreases-loop-from g l = l.weights.code.split.width - l.from
+decreases-loop-from g l = l.interpolation.code.split.width - l.from

@@ -13,13 +13,13 @@ use Rattle.systematic_shards.proofs.Written.{same-run}
 use Rattle.systematic_shards.proofs.filling.write_made.Goals as goal
 
 pub index-requires : goal.index-requires
-index-requires g c = omega (arith, c.loop-j-test.true, c.requires.places.count, c.args.weights.now.targets.ok.0)
+index-requires g c = omega (arith, c.loop-j-test.true, c.requires.places.count, c.args.interpolation.now.targets.ok.0)
 
 pub write_elements-requires-clause-few : goal.write_elements-requires-clause-few
 write_elements-requires-clause-few g c =
     let cols : ℕ = c.args.cols in
     let j : ℕ = c.loop-j.j in
-    let m : ℕ = length c.args.weights.now.targets.items in
+    let m : ℕ = length c.args.interpolation.now.targets.items in
     let l : j < m = omega (arith, c.loop-j-test.true, c.requires.places.count) in
     let e = turn j cols in
     omega (arith, c.requires.few, length-run cols j ((j + 1) * cols - j * cols) m c.args.made.now e l c.requires.room)
@@ -29,8 +29,8 @@ write_elements-requires-clause-place g c =
     let cols : ℕ = c.args.cols in
     let j : ℕ = c.loop-j.j in
     let p : ℕ = get_or c.args.places.now j 0 in
-    let width : ℕ = c.args.weights.now.code.split.width in
-    let m : ℕ = length c.args.weights.now.targets.items in
+    let width : ℕ = c.args.interpolation.now.code.split.width in
+    let m : ℕ = length c.args.interpolation.now.targets.items in
     let l : j < m = omega (arith, c.loop-j-test.true, c.requires.places.count) in
     let long : length (take ((j + 1) * cols - j * cols) (drop (j * cols) c.args.made.now)) ≡ cols = length-run cols j ((j + 1) * cols - j * cols) m c.args.made.now (turn j cols) l c.requires.room in
     let inside : (p + 1) * width ≤ 2 ^ 61 = c.requires.places.inside j 0 c.loop-j-test.true in
@@ -39,7 +39,7 @@ write_elements-requires-clause-place g c =
 
 pub write_elements-requires-clause-fits : goal.write_elements-requires-clause-fits
 write_elements-requires-clause-fits g c = λ k b.
-    let w = c.args.weights.now in
+    let w = c.args.interpolation.now in
     let split = w.code.split in
     let mask = w.code.mask in
     let targets = w.targets.items in
@@ -60,7 +60,7 @@ write_elements-requires-clause-fits g c = λ k b.
 
 pub loop-j-preserved : goal.loop-j-preserved
 loop-j-preserved g c =
-    let w = c.args.weights.now in
+    let w = c.args.interpolation.now in
     let split = w.code.split in
     let mask = w.code.mask in
     let targets = w.targets.items in

@@ -17,8 +17,8 @@ new-requires-clause-rising g c =
     let many : length c.args.indices.now ≡ length c.args.rows.now = ap length c.requires.indices ∙ length-map c.args.rows.now (λ row. row.index) in
     rising-take c.args.code.split.min c.args.code.split.total c.args.indices.now (omega (arith, many, c.requires.enough)) c.requires.rising
 
-pub new-requires-clause-enough : goal.new-requires-clause-enough
-new-requires-clause-enough g c =
+pub new-requires-clause-count : goal.new-requires-clause-count
+new-requires-clause-count g c =
     let min : ℕ = c.args.code.split.min in
     let many : length c.args.indices.now ≡ length c.args.rows.now = ap length c.requires.indices ∙ length-map c.args.rows.now (λ row. row.index) in
     omega (arith, length-take-le min c.args.indices.now (omega (arith, many, c.requires.enough)))
@@ -32,14 +32,14 @@ new-requires-clause-below g c =
 pub have_made-answer-requires-clause-rows : goal.have_made-answer-requires-clause-rows
 have_made-answer-requires-clause-rows g c =
     let min : ℕ = c.args.code.split.min in
-    c.in_ok-weights.ensures.1 ∙ ap (take min) c.requires.indices ∙ take-map (λ row. row.index) min c.args.rows.now
+    c.in_ok-interpolation.ensures.1 ∙ ap (take min) c.requires.indices ∙ take-map (λ row. row.index) min c.args.rows.now
 
 pub have_made-answer-requires-clause-further : goal.have_made-answer-requires-clause-further
 have_made-answer-requires-clause-further g c =
     let min : ℕ = c.args.code.split.min in
     let rows : List (Row g.row.M.Denot) = c.args.rows.now in
     let many : length c.args.indices.now ≡ length rows = ap length c.requires.indices ∙ length-map rows (λ row. row.index) in
-    c.in_ok-weights.ensures.2
+    c.in_ok-interpolation.ensures.2
     ∙ ap (λ n. take (n - min) (drop min c.args.indices.now)) many
     ∙ ap (λ xs. take (length rows - min) (drop min xs)) c.requires.indices
     ∙ ap (take (length rows - min)) (drop-map (λ row. row.index) min rows)
@@ -52,7 +52,7 @@ have_made-answer-requires-clause-elements g c =
     let min : ℕ = code.split.min in
     let rows : List (Row g.row.M.Denot) = c.args.rows.now in
     let P : Row g.row.M.Denot → Type 0 = λ row. (k : ℕ) → k < code.split.width → IsElementIn code.split.min code.mask row.index (word row.cells.now k) in
-    subst (λ (k : Code). AreElements word k.split k.mask (take (length rows - min) (drop min rows))) (sym c.in_ok-weights.ensures.0)
+    subst (λ (k : Code). AreElements word k.split k.mask (take (length rows - min) (drop min rows))) (sym c.in_ok-interpolation.ensures.0)
     (All-take P (length rows - min) (drop min rows) (All-drop P min rows c.requires.elements))
 
 pub returns : goal.returns
@@ -75,7 +75,7 @@ returns g c =
     let answer : (b : ℕ → ℕ → F) → IsCodewordThrough word split mask (take min rows) b → (c.have_made-answer.result ≡ true ↔ BelongTo word split mask (take (length rows - min) (drop min rows)) b) =
     subst
     (λ (k : Code). (b : ℕ → ℕ → F) → IsCodewordThrough word k.split k.mask (take min rows) b
-    → (c.have_made-answer.result ≡ true ↔ BelongTo word k.split k.mask (take (length rows - min) (drop min rows)) b)) c.in_ok-weights.ensures.0 c.have_made-answer.ensures in (
+    → (c.have_made-answer.result ≡ true ↔ BelongTo word k.split k.mask (take (length rows - min) (drop min rows)) b)) c.in_ok-interpolation.ensures.0 c.have_made-answer.ensures in (
       λ yes. (a, of_code, belong-parts word split mask code.short min rows a belong (subst (λ xs. BelongTo word split mask xs a) others ((answer a (of_code, belong)).0 yes))),
       λ found.
           let (b, of_b, belong_b) = found in

@@ -10,7 +10,7 @@ use Rattle.systematic_shards.proofs.planning.are_lost_within.Goals as goal
 
 pub loop-from-init : goal.loop-from-init
 loop-from-init g c = λ a through k j b l.
-    let w = c.args.weights.now in
+    let w = c.args.interpolation.now in
     let split = w.code.split in
     let p : ℕ = get_or c.args.places.now j 0 in
     let up : p * split.width ≤ c.args.last * split.width = mul-le p split.width c.args.last split.width (c.requires.behind j 0 l) (omega arith) in
@@ -20,8 +20,8 @@ loop-from-init g c = λ a through k j b l.
 
 pub are_made_within-requires-clause-room : goal.are_made_within-requires-clause-room
 are_made_within-requires-clause-room g c =
-    let w = c.args.weights.now in
-    let n : ℕ = length w.indices.items in
+    let w = c.args.interpolation.now in
+    let n : ℕ = w.height in
     let m : ℕ = length w.targets.items in
     let cols : ℕ = c.min-cols.result in
     let up : m * cols ≤ (n + m) * w.cols = mul-le m cols (n + m) w.cols (omega arith) (omega (arith, c.min-cols.ensures)) in
@@ -29,7 +29,7 @@ are_made_within-requires-clause-room g c =
 
 pub loop-from-preserved : goal.loop-from-preserved
 loop-from-preserved g c = λ a through k j b l.
-    let w = c.args.weights.now in
+    let w = c.args.interpolation.now in
     let split = w.code.split in
     let p : ℕ = get_or c.args.places.now j 0 in
     let from : ℕ = c.loop-from.from in
@@ -43,7 +43,7 @@ loop-from-preserved g c = λ a through k j b l.
 
 pub returns-then-not-are_made_within : goal.returns-then-not-are_made_within
 returns-then-not-are_made_within g c = λ a through.
-    let w = c.args.weights.now in
+    let w = c.args.interpolation.now in
     let split = w.code.split in
     let cols : ℕ = c.min-cols.result in
     let within : c.loop-from.from + cols ≤ split.width = omega (arith, c.loop-from-test.true, c.min-cols.ensures) in (

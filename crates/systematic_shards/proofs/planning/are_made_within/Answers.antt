@@ -9,15 +9,15 @@ use Rattle.systematic_shards.proofs.Made.{length-run, made-run, turn}
 use Rattle.systematic_shards.proofs.planning.are_made_within.Goals as goal
 
 pub index-requires : goal.index-requires
-index-requires c = omega (arith, c.loop-j-test.true, c.requires.places.count, c.args.weights.now.targets.ok.0)
+index-requires c = omega (arith, c.loop-j-test.true, c.requires.places.count, c.args.interpolation.now.targets.ok.0)
 
 pub is_run_within-requires : goal.is_run_within-requires
 is_run_within-requires c =
     let cols : ℕ = c.args.cols in
     let j : ℕ = c.loop-j.j in
     let p : ℕ = get_or c.args.places.now j 0 in
-    let width : ℕ = c.args.weights.now.code.split.width in
-    let m : ℕ = length c.args.weights.now.targets.items in
+    let width : ℕ = c.args.interpolation.now.code.split.width in
+    let m : ℕ = length c.args.interpolation.now.targets.items in
     let l : j < m = omega (arith, c.loop-j-test.true, c.requires.places.count) in
     let long : length (take ((j + 1) * cols - j * cols) (drop (j * cols) c.args.made.now)) ≡ cols = length-run cols j ((j + 1) * cols - j * cols) m c.args.made.now (turn j cols) l c.requires.room in
     let inside : (p + 1) * width ≤ 2 ^ 61 = c.requires.places.inside j 0 c.loop-j-test.true in
@@ -26,7 +26,7 @@ is_run_within-requires c =
 
 pub loop-j-preserved : goal.loop-j-preserved
 loop-j-preserved c = λ i k b m.
-    let w = c.args.weights.now in
+    let w = c.args.interpolation.now in
     let split = w.code.split in
     let mask = w.code.mask in
     let targets = w.targets.items in
@@ -52,7 +52,7 @@ loop-j-preserved c = λ i k b m.
 
 pub returns-then-not-is_run_within : goal.returns-then-not-is_run_within
 returns-then-not-is_run_within c =
-    let w = c.args.weights.now in
+    let w = c.args.interpolation.now in
     let split = w.code.split in
     let mask = w.code.mask in
     let targets = w.targets.items in

@@ -32,8 +32,8 @@ new-requires-clause-rising g c =
     let many : length indices ≡ length c.args.held.now.rows.items = ap length c.requires.indexed.are ∙ length-map c.args.held.now.rows.items (λ row. row.index) in
     subst (λ is. AreRising split.total (take split.min is)) (sym c.deref-2.ensures.value) (rising-take split.min split.total indices (omega (arith, many, c.requires.indexed.enough)) c.requires.indexed.rising)
 
-pub new-requires-clause-enough : goal.new-requires-clause-enough
-new-requires-clause-enough g c =
+pub new-requires-clause-count : goal.new-requires-clause-count
+new-requires-clause-count g c =
     let split = c.args.code.split in
     let indices : List ℕ = c.args.held.now.indices.items in
     let many : length indices ≡ length c.args.held.now.rows.items = ap length c.requires.indexed.are ∙ length-map c.args.held.now.rows.items (λ row. row.index) in
@@ -53,32 +53,32 @@ new-requires-clause-below g c =
 pub are_lost_within-requires-clause-rows : goal.are_lost_within-requires-clause-rows
 are_lost_within-requires-clause-rows g c =
     let min : ℕ = c.args.code.split.min in
-    c.in_ok-weights.ensures.1 ∙ ap (take min) (c.deref-2.ensures.value ∙ c.requires.indexed.are ∙ sym (ap (map (λ row. row.index)) c.deref-6.ensures.value)) ∙ take-map (λ row. row.index) min c.deref-6.result.now
+    c.in_ok-interpolation.ensures.1 ∙ ap (take min) (c.deref-2.ensures.value ∙ c.requires.indexed.are ∙ sym (ap (map (λ row. row.index)) c.deref-6.ensures.value)) ∙ take-map (λ row. row.index) min c.deref-6.result.now
 
 pub are_lost_within-requires-clause-places : goal.are_lost_within-requires-clause-places
 are_lost_within-requires-clause-places g c =
     let width = c.args.code.split.width in
-    let targets : List ℕ = c.in_ok-weights.weights.targets.items in
+    let targets : List ℕ = c.in_ok-interpolation.interpolation.targets.items in
     let at_code : ArePlaces width targets c.deref-7.result.now =
     subst (ArePlaces width targets) (sym c.deref-7.ensures.value)
     (lost-places width (length c.args.wanted.now) c.deref.result.now c.args.wanted.now c.in_ok-lost.lost.indices.items c.in_ok-lost.lost.places.items targets refl c.requires.inside c.in_ok-lost.ensures
-    (c.in_ok-weights.ensures.2 ∙ c.deref-3.ensures.value)) in
-    subst (λ (k : Code). ArePlaces k.split.width targets c.deref-7.result.now) (sym c.in_ok-weights.ensures.0) at_code
+    (c.in_ok-interpolation.ensures.2 ∙ c.deref-3.ensures.value)) in
+    subst (λ (k : Code). ArePlaces k.split.width targets c.deref-7.result.now) (sym c.in_ok-interpolation.ensures.0) at_code
 
 pub fill-requires-clause-rows : goal.fill-requires-clause-rows
 fill-requires-clause-rows g c =
     let min : ℕ = c.args.code.split.min in
-    c.in_ok-weights.ensures.1 ∙ ap (take min) (c.deref-2.ensures.value ∙ c.requires.indexed.are ∙ sym (ap (map (λ row. row.index)) c.deref-6.ensures.value)) ∙ take-map (λ row. row.index) min c.deref-6.result.now
+    c.in_ok-interpolation.ensures.1 ∙ ap (take min) (c.deref-2.ensures.value ∙ c.requires.indexed.are ∙ sym (ap (map (λ row. row.index)) c.deref-6.ensures.value)) ∙ take-map (λ row. row.index) min c.deref-6.result.now
 
 pub fill-requires-clause-places : goal.fill-requires-clause-places
 fill-requires-clause-places g c =
     let width = c.args.code.split.width in
-    let targets : List ℕ = c.in_ok-weights.weights.targets.items in
+    let targets : List ℕ = c.in_ok-interpolation.interpolation.targets.items in
     let at_code : ArePlaces width targets c.deref-10.result.now =
     subst (ArePlaces width targets) (sym c.deref-10.ensures.value)
     (lost-places width (length c.args.wanted.now) c.deref.result.now c.args.wanted.now c.in_ok-lost.lost.indices.items c.in_ok-lost.lost.places.items targets refl c.requires.inside c.in_ok-lost.ensures
-    (c.in_ok-weights.ensures.2 ∙ c.deref-3.ensures.value)) in
-    subst (λ (k : Code). ArePlaces k.split.width targets c.deref-10.result.now) (sym c.in_ok-weights.ensures.0) at_code
+    (c.in_ok-interpolation.ensures.2 ∙ c.deref-3.ensures.value)) in
+    subst (λ (k : Code). ArePlaces k.split.width targets c.deref-10.result.now) (sym c.in_ok-interpolation.ensures.0) at_code
 
 pub fill-requires-clause-fits : goal.fill-requires-clause-fits
 fill-requires-clause-fits g c =
@@ -90,7 +90,7 @@ fill-requires-clause-fits g c =
     let indices : List ℕ = c.args.held.now.indices.items in
     let held : List (Row g.row.M.Denot) = c.args.held.now.rows.items in
     let rows : List (Row g.row.M.Denot) = take min c.deref-6.result.now in
-    let targets : List ℕ = c.in_ok-weights.weights.targets.items in
+    let targets : List ℕ = c.in_ok-interpolation.interpolation.targets.items in
     let size : ℕ = g.M.WordMemory.BYTES * length c.args.out.now in
     let rows_are : take min held ≡ rows = ap (take min) (sym c.deref-6.ensures.value) in
     let many : length indices ≡ length held = ap length c.requires.indexed.are ∙ length-map held (λ row. row.index) in
@@ -102,12 +102,12 @@ fill-requires-clause-fits g c =
     (subst (λ xs. All P xs) rows_are (All-take P min held c.requires.elements)) in
     let within : AreWithinRoom (c.BYTES.result * length c.args.out.now) split.width c.deref-7.result.now (row_word split mask a targets) =
     (subst (λ (k : Code). (b : ℕ → ℕ → F) → IsCodewordThrough word k.split k.mask rows b → (c.are_lost_within.result ≡ true ↔ AreWithinRoom (c.BYTES.result * length c.args.out.now) k.split.width c.deref-7.result.now (row_word k.split k.mask b targets)))
-    c.in_ok-weights.ensures.0 c.are_lost_within.ensures a (of_code, belong)).0 c.if-not-are_lost_within.false in
+    c.in_ok-interpolation.ensures.0 c.are_lost_within.ensures a (of_code, belong)).0 c.if-not-are_lost_within.false in
     let same : c.BYTES.result * length c.args.out.now ≡ g.M.WordMemory.BYTES * length c.write_copies.new.out = ap₂ (λ b n. b * n) c.BYTES.ensures (sym c.write_copies.auto.out) in
     let here : AreWithinRoom (g.M.WordMemory.BYTES * length c.write_copies.new.out) split.width c.deref-10.result.now (row_word split mask a targets) =
     subst (λ n. AreWithinRoom n split.width c.deref-10.result.now (row_word split mask a targets)) same
     (subst (λ ps. AreWithinRoom (c.BYTES.result * length c.args.out.now) split.width ps (row_word split mask a targets)) (c.deref-7.ensures.value ∙ sym c.deref-10.ensures.value) within) in
-    subst (λ (k : Code). HaveRoomFor word (g.M.WordMemory.BYTES * length c.write_copies.new.out) k.split k.mask rows targets c.deref-10.result.now) (sym c.in_ok-weights.ensures.0) (a, (of_code, belong), here)
+    subst (λ (k : Code). HaveRoomFor word (g.M.WordMemory.BYTES * length c.write_copies.new.out) k.split k.mask rows targets c.deref-10.result.now) (sym c.in_ok-interpolation.ensures.0) (a, (of_code, belong), here)
 
 pub returns-then-not-are_lost_within-clause-no : goal.returns-then-not-are_lost_within-clause-no
 returns-then-not-are_lost_within-clause-no g c = λ no a of_code belong within.
@@ -122,13 +122,13 @@ returns-then-not-are_lost_within-clause-no g c = λ no a of_code belong within.
     let lost : List ℕ = c.in_ok-lost.lost.indices.items in
     let places : List ℕ = c.in_ok-lost.lost.places.items in
     let rows : List (Row g.row.M.Denot) = take min c.deref-6.result.now in
-    let targets : List ℕ = c.in_ok-weights.weights.targets.items in
+    let targets : List ℕ = c.in_ok-interpolation.interpolation.targets.items in
     let size : ℕ = g.M.WordMemory.BYTES * length c.args.out.now in
     let room : ℕ = c.BYTES.result * length c.args.out.now in
     let L : AreLost indices wanted (length wanted) lost places = subst (λ is. AreLost is wanted (length wanted) lost places) c.deref.ensures.value c.in_ok-lost.ensures in
     let Q : Row g.row.M.Denot → Type 0 = λ row. IsRowOf split mask a row.index (word row.cells.now) in
     let of_rows : All Q rows = subst (λ xs. All Q xs) (ap (take min) (sym c.deref-6.ensures.value)) (All-take Q min held belong) in
-    let targets_are : targets ≡ lost = c.in_ok-weights.ensures.2 ∙ c.deref-3.ensures.value in
+    let targets_are : targets ≡ lost = c.in_ok-interpolation.ensures.2 ∙ c.deref-3.ensures.value in
     let fit : AreWithinRoom room split.width c.deref-7.result.now (row_word split mask a targets) =
     subst (λ n. AreWithinRoom n split.width c.deref-7.result.now (row_word split mask a targets)) (ap (λ b. b * length c.args.out.now) (sym c.BYTES.ensures))
     (subst (λ ps. AreWithinRoom size split.width ps (row_word split mask a targets)) (sym c.deref-7.ensures.value)
@@ -136,7 +136,7 @@ returns-then-not-are_lost_within-clause-no g c = λ no a of_code belong within.
     false≢true
     (sym c.if-not-are_lost_within.true
     ∙ (subst (λ (k : Code). (b : ℕ → ℕ → F) → IsCodewordThrough word k.split k.mask rows b → (c.are_lost_within.result ≡ true ↔ AreWithinRoom room k.split.width c.deref-7.result.now (row_word k.split k.mask b targets)))
-    c.in_ok-weights.ensures.0 c.are_lost_within.ensures a (of_code, of_rows)).1 fit)
+    c.in_ok-interpolation.ensures.0 c.are_lost_within.ensures a (of_code, of_rows)).1 fit)
 
 pub returns-clause-yes : goal.returns-clause-yes
 returns-clause-yes g c = λ yes a of_code belong.
@@ -151,7 +151,7 @@ returns-clause-yes g c = λ yes a of_code belong.
     let lost : List ℕ = c.in_ok-lost.lost.indices.items in
     let places : List ℕ = c.in_ok-lost.lost.places.items in
     let rows : List (Row g.row.M.Denot) = take min c.deref-6.result.now in
-    let targets : List ℕ = c.in_ok-weights.weights.targets.items in
+    let targets : List ℕ = c.in_ok-interpolation.interpolation.targets.items in
     let mid = word c.write_copies.new.out in
     let new = word c.fill.new.out in
     let L : AreLost indices wanted (length wanted) lost places = subst (λ is. AreLost is wanted (length wanted) lost places) c.deref.ensures.value c.in_ok-lost.ensures in
@@ -161,9 +161,9 @@ returns-clause-yes g c = λ yes a of_code belong.
     subst (λ is. AreCopied word split.width is held wanted (length wanted) mid) c.deref-8.ensures.value
     (subst (λ rs. AreCopied word split.width c.deref-8.result.now rs wanted (length wanted) mid) c.deref-9.ensures.value c.write_copies.ensures) in
     let filled : AreFilled split.width places (row_word split mask a lost) split.width mid new =
-    subst (λ ts. AreFilled split.width places (row_word split mask a ts) split.width mid new) (c.in_ok-weights.ensures.2 ∙ c.deref-3.ensures.value)
+    subst (λ ts. AreFilled split.width places (row_word split mask a ts) split.width mid new) (c.in_ok-interpolation.ensures.2 ∙ c.deref-3.ensures.value)
     (subst (λ ps. AreFilled split.width ps (row_word split mask a targets) split.width mid new) c.deref-10.ensures.value
-    (subst (λ (k : Code). (b : ℕ → ℕ → F) → IsCodewordThrough word k.split k.mask rows b → AreFilled k.split.width c.deref-10.result.now (row_word k.split k.mask b targets) k.split.width mid new) c.in_ok-weights.ensures.0 c.fill.ensures
+    (subst (λ (k : Code). (b : ℕ → ℕ → F) → IsCodewordThrough word k.split k.mask rows b → AreFilled k.split.width c.deref-10.result.now (row_word k.split k.mask b targets) k.split.width mid new) c.in_ok-interpolation.ensures.0 c.fill.ensures
     a (of_code, of_rows))) in
     wanted-rows word split mask indices held c.requires.indexed wanted lost places L a belong mid new copied filled
 

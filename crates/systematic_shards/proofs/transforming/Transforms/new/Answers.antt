@@ -37,5 +37,6 @@ invariant_of-result c =
       rising = subst (AreRising split.total) (sym made.indices) c.requires.rising;
       below = subst (All (λ i. i < split.total)) (sym c.in_ok-targets.ensures.items) c.requires.below;
       is_tree = c.in_ok-table.ensures;
-      some = c.most_cols-cols.ensures;
+      some = omega (arith, c.most_cols.ensures, c.min-cols.ensures);
+      few = omega (arith, c.min-cols.ensures);
     }
