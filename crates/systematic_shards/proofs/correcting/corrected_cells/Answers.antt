@@ -1,5 +1,4 @@
-use Rattle.std.proofs.Common.{◌≡◌, ◌∙◌, ◌<◌, ◌^◌, ap, length, sym, subst, arith}
-use Rattle.std.specs.List.{All}
+use Rattle.std.proofs.Common.{◌∙◌, ◌^◌, ap, sym, subst}
 use Rattle.math_transforms.proofs.PresentIndices.{domain-of}
 use Rattle.systematic_shards.specs.Correcting.{HoldsNear}
 use Rattle.systematic_shards.proofs.Corrected.{domain-small, found-near, within-radius}

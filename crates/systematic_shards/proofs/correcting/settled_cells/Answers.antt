@@ -1,7 +1,6 @@
-use Rattle.std.proofs.Common.{◌≡◌, ◌∙◌, ◌+◌, ◌*◌, ◌<◌, ◌≤◌, ◌^◌, ap, length, sym, subst, arith}
+use Rattle.std.proofs.Common.{◌∙◌, ◌+◌, ◌*◌, ◌^◌, ap, sym, subst}
 use Rattle.std.proofs.lemmas.Bool.{false≢true}
 use Rattle.std.proofs.lemmas.List.{with_items_is}
-use Rattle.std.proofs.lemmas.Nat.{mul-le}
 use Rattle.systematic_shards.proofs.Settled.{AreWrittenBefore, written-more, written-none, written-passed}
 use Rattle.systematic_shards.proofs.correcting.settled_cells.Goals as goal
 use Rattle.systematic_shards.proofs.correcting.settled_cells.Goals.{then-has_elements, else-has_elements}

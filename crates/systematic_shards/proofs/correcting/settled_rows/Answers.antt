@@ -1,4 +1,4 @@
-use Rattle.std.proofs.Common.{◌≡◌, ◌∙◌, ◌*◌, ◌^◌, ap, inr, refl, sym, subst, arith}
+use Rattle.std.proofs.Common.{◌∙◌, ◌*◌, ◌^◌, ap, inr, refl, sym, subst, arith}
 use Rattle.std.specs.List.{All}
 use Rattle.math_transforms.specs.Matrices.{IsOfSize}
 use Rattle.systematic_shards.specs.Correcting.{AreMarked, HasCells, IsSettled}

@@ -1,4 +1,3 @@
-use Rattle.std.proofs.Common.{◌+◌, ◌*◌, ◌<◌, get_or, subst, arith}
 use Rattle.systematic_shards.specs.Correcting.{cells_at}
 use Rattle.systematic_shards.proofs.Positions.{rows-more}
 use Rattle.systematic_shards.proofs.correcting.write_rows.Goals as goal
