@@ -4,7 +4,8 @@
 //! with zeros behind the last byte. Parity rows make them `total` rows. Column by column the words
 //! of the rows are values of one polynomial of at most `min` coefficients: row i has its value at
 //! power i of the root of unity of order N, the least power of two that is `total` or more. So any
-//! `min` rows give back all others. This is Reed and Solomon's code in its systematic form.
+//! `min` rows give back all others, and of m rows up to (m - `min`) / 2 may be wrong. This is Reed
+//! and Solomon's code in its systematic form.
 //!
 //! A word can be P or more, and is then no element of the field. So the high half of each word of
 //! the data is xored with a mask before it is taken as an element: the least mask that leaves no
@@ -50,7 +51,8 @@ pub enum Error {
     /// Memory ran out.
     #[error("out of memory")]
     Memory(AllocError),
-    /// There is no row, or there are fewer than `min` distinct indices.
+    /// There is no row, or there are fewer than `min` distinct indices. `rebuild_corrected` counts
+    /// an index only if rows of it have words of elements, and these rows are equal.
     #[error("too few rows")]
     TooFew,
     /// Not 1 <= `min` <= `total`, or a row has another length than the split says.
