@@ -50,10 +50,10 @@ fn places_below(alloc: Global, count: usize) -> Mem<Vec<usize>>
 /// of a codeword, and what is written are its parity rows; there are no others.
 ///
 /// The block has as many bytes as the split says, and `parity` as many as the parity rows. If `min`
-/// is `total`, or there are no bytes, only the mask is found. It takes memory for `min` weights for
-/// each parity row, for a few times N elements while these are made, where N is `total` rounded up
-/// to a power of two, for a column of all rows or 32 KiB, and, where the mask is not 0, for a flag
-/// for each word. If that is refused, it writes nothing.
+/// is `total`, or there are no bytes, only the mask is found. It takes memory for some columns of
+/// all rows, and, where the mask is not 0, for a flag for each word. Let N be `total` rounded up to
+/// a power of two: few parity rows are made by `min` weights each, and many by transforms, in
+/// tables and a strip of some times N elements. If memory is refused, it writes nothing.
 ///
 /// ```
 /// use systematic_shards::{Split, encode};

@@ -35,10 +35,10 @@ use std::alloc::Global;
 /// - fewer than `min` distinct indices, with `TooFew`;
 /// - rows of no codeword, with `Inconsistent`.
 ///
-/// It takes memory for the indices and addresses of the rows, for `min` weights for each row past
-/// the first `min` and for each that is lost, for a few times N elements while these are made,
-/// where N is `total` rounded up to a power of two, and for a column of all rows or 32 KiB. If it
-/// refuses, it writes nothing.
+/// It takes memory for the indices and addresses of the rows, and for some columns of all rows. Let
+/// N be `total` rounded up to a power of two: few rows past the first `min`, and few that are lost,
+/// are made by `min` weights each, and many by transforms, in tables and a strip of some times N
+/// elements. If it refuses, it writes nothing.
 ///
 /// ```
 /// use systematic_shards::{Code, Row, Split, rebuild};
