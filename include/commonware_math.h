@@ -257,8 +257,8 @@ CWM_MUST_USE uint32_t cwm_join_bytes_corrected(const uint32_t *indices, size_t k
                                                size_t *left_out, size_t room, size_t *many);
 
 /* Systematic shards: the data as they are, and parity rows. Of the two kinds of shards take these for bytes that are mostly
- * read whole: if no data row is lost, the data are there and nothing has to be computed. Take cwm_split_bytes if the shards
- * have to be those that the Rust crate makes.
+ * read whole: if no data row is lost, the data are there and nothing has to be computed. Take cwm_split_bytes where the data
+ * are to be packed into elements as the Rust crate packs words.
  *
  * `size` bytes of data, any number, fill `min` data rows: row i begins at byte i times the size of a row, and zeros stand
  * behind the last byte. Parity rows make them `total` rows, and any `min` rows give all others back. Data rows have the indices
@@ -305,6 +305,21 @@ CWM_MUST_USE uint32_t cwm_systematic_encode(const uint8_t *data, size_t size, ui
 CWM_MUST_USE uint32_t cwm_systematic_rebuild(const uint32_t *indices, size_t k, const uint8_t *rows, size_t n, size_t size,
                                              uint32_t min, uint32_t total, uint32_t mask, const uint32_t *wanted, size_t w,
                                              uint8_t *out, size_t m);
+
+/* Does what cwm_systematic_rebuild does though some of the rows are wrong, and says which. A row with a word that is no
+ * element counts as missing, and so does an index whose other rows are unequal. Let i distinct indices remain. The call finds
+ * the only data that at most (i - min) / 2 of them, rounded down, contradict, and writes their rows of the wanted indices.
+ * Writes the positions of the rows in hand that are not rows of the data, rising, over the first of the `room` places of
+ * `left_out`, and how many they are into *many. The position of a row is its place among the k. If more rows are wrong than
+ * that, they may have other data, and the call then gives rows of these.
+ * n and m are as for cwm_systematic_rebuild, and room is k or more, else CWM_WRONG_SIZE. The other statuses are those of
+ * cwm_systematic_rebuild, in the same order; but there is no CWM_OUT_OF_RANGE and no CWM_CONFLICT, CWM_TOO_FEW says that i is
+ * below min, and CWM_INCONSISTENT that there are no such data. Time grows with k^2 and with the number of wrong rows. Takes
+ * memory for several times N rows, whether a row is wrong or not: limit `total` and k. */
+CWM_MUST_USE uint32_t cwm_systematic_rebuild_corrected(const uint32_t *indices, size_t k, const uint8_t *rows, size_t n,
+                                                       size_t size, uint32_t min, uint32_t total, uint32_t mask,
+                                                       const uint32_t *wanted, size_t w, uint8_t *out, size_t m,
+                                                       size_t *left_out, size_t room, size_t *many);
 
 /* Writes the `size` bytes of data that k rows give back. The rows are handed in as for cwm_systematic_rebuild, and data rows in
  * hand are copied.

@@ -286,7 +286,7 @@ rising_above xs h (suc k) l =
     let step : get_or xs k 0 < get_or xs (suc k) 0 = subst (λ m. get_or xs k 0 < get_or xs m 0) next (h k (omega (arith, l))) in
     omega (arith, rising_above xs h k (omega (arith, l)), step)
 
-rising_few : (xs : List ℕ) (n : ℕ) → IsStrictlyIncreasing xs → All (λ i. i < n) xs → length xs ≤ n
+pub rising_few : (xs : List ℕ) (n : ℕ) → IsStrictlyIncreasing xs → All (λ i. i < n) xs → length xs ≤ n
 rising_few [] n h b = omega arith
 rising_few (x ∷ xs) n h b =
     let last = length xs in

@@ -8,12 +8,13 @@ use Rattle.systematic_shards.specs.declared.Error.TheVariants.{Memory, TooFew, M
 use Rattle.systematic_shards.specs.declared.rows.Row.{Row}
 use Rattle.systematic_shards.specs.declared.split.Code.{Code}
 use Rattle.systematic_shards.specs.declared.split.Split.{Split}
+use Rattle.systematic_shards.specs.Correcting.{IsCorrectingDue}
 use Rattle.systematic_shards.specs.Errors.{IsMemory, IsSplitDue}
 use Rattle.systematic_shards.specs.Refusals.{HasLength}
 use Rattle.systematic_shards.proofs.OneCodeword.{some_item}
 use Rattle.c_calls.specs.declared.systematic.in_hand.RowsInHand.{RowsInHand}
 use Rattle.c_calls.specs.Statuses.{status_of_rows}
-use Rattle.c_calls.specs.SystematicRows.{AreInHand, AreRowsIn, AreRowsOf, GivenRows, HaveRoom, HaveRowsFor, IsDecodeDueTo, IsDueTo, IsMemoryOrDue, IsSplitOf, IsStatusWhere, TellsOfRows, width_of}
+use Rattle.c_calls.specs.SystematicRows.{AreInHand, AreRowsIn, AreRowsOf, GivenRows, HaveRoom, HaveRowsFor, IsDecodeDueTo, IsDueTo, IsMemoryOrDue, IsSplitOf, IsStatusWhere, TellsOfRows, width_of, word_of_bytes}
 use Rattle.c_calls.specs.WordShards.{IsSplit}
 
 -- a split of these numbers is that of so many bytes
@@ -97,6 +98,17 @@ not-of-decoded held rows e lie (inr due) = other e due.0
   where
     other : (f : Error) → f ≡ Inconsistent → (f ≢ Mismatch) × (f ≢ Sizes)
     other f is = grind (arith, is)
+
+-- nor are they where some may be wrong
+pub not-of-corrected : (held : RowsInHand) (rows : List (Row ℕ)) (wanted : List ℕ) (e : Error) → AreRowsOf held rows
+    → IsCorrectingDue 1 word_of_bytes held.code.split held.code.mask rows wanted e → (e ≢ Mismatch) × (e ≢ Sizes)
+not-of-corrected held rows wanted e lie due = (
+  λ is.
+      let h = subst (IsCorrectingDue 1 word_of_bytes held.code.split held.code.mask rows wanted) is due in
+      let d = some_item rows h.place h.inside in
+      h.fault d (row-length held rows lie h.place d h.inside),
+  λ is. subst (IsCorrectingDue 1 word_of_bytes held.code.split held.code.mask rows wanted) is due,
+)
 
 -- what a call was given are the rows in hand, so what holds of these holds of it
 pub given-with : (size least total mask : ℕ) (indices bytes : List ℕ) (held : RowsInHand) (rows : List (Row ℕ)) (P : Code → List (Row ℕ) → Type 0)

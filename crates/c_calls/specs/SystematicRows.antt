@@ -2,9 +2,11 @@
 use Rattle.std.specs.Prelude.{◌≡◌, ℕ, ◌*◌, ◌<◌, ◌≤◌, ◌⊎◌, List, [], length, take, drop, slice_index, slice_index_or}
 use Rattle.math_base.specs.declared.fields.goldilocks.F.{F}
 use Rattle.systematic_shards.specs.declared.Error.{Error}
+use Rattle.systematic_shards.specs.declared.Error.TheVariants.{Inconsistent}
 use Rattle.systematic_shards.specs.declared.rows.Row.{Row}
 use Rattle.systematic_shards.specs.declared.split.Code.{Code}
 use Rattle.systematic_shards.specs.declared.split.Split.{Split}
+use Rattle.systematic_shards.specs.Correcting.{AreCorrectedTo, HaveSettled, IsCorrectingDue, IsNear}
 use Rattle.systematic_shards.specs.Errors.{IsMemory}
 use Rattle.systematic_shards.specs.Masks.{IsLeastMask}
 use Rattle.systematic_shards.specs.Refusals.{AreAsked, AreElements, HaveCodewordOf, HaveConflict, HaveEnough, IsDecodeDue, IsDue}
@@ -77,6 +79,20 @@ pub record AreDecoded (code : Code) (rows : List (Row ℕ)) (block : List ℕ) :
   pub belong : BelongTo word_of_bytes code.split code.mask rows codeword
   pub written : AreDataOf code.split code.mask codeword (word_of_bytes block)
 
+-- the bytes are the rows of the wanted indices of a codeword near the rows, and the positions are those of the rows that are not its rows
+pub record AreCorrected (code : Code) (rows : List (Row ℕ)) (wanted positions bytes : List ℕ) : Type 0 where
+  pub asked : AreAsked 1 code.split rows wanted
+  pub enough : HaveSettled word_of_bytes code.split code.mask code.split.min rows
+  pub codeword : ℕ → ℕ → F
+  pub corrected : AreCorrectedTo word_of_bytes code.split code.mask rows positions codeword
+  pub written : AreRowsAt code.split code.mask codeword wanted (word_of_bytes bytes)
+
+-- enough indices of the rows are settled, and no codeword is near the rows
+pub record HaveNoneNear (code : Code) (rows : List (Row ℕ)) (wanted : List ℕ) : Type 0 where
+  pub asked : AreAsked 1 code.split rows wanted
+  pub enough : HaveSettled word_of_bytes code.split code.mask code.split.min rows
+  pub none : (a : ℕ → ℕ → F) → IsCodewordOf code.split a → ¬ (IsNear word_of_bytes code.split code.mask rows a)
+
 -- the number is 1 where the rows, which are sound and of elements, belong to one codeword, and 0 where they do not
 pub record IsVerified (code : Code) (rows : List (Row ℕ)) (belong : ℕ) : Type 0 where
   pub asked : AreAsked 1 code.split rows []
@@ -92,6 +108,11 @@ IsDueTo code wanted rows e = IsDue 1 word_of_bytes code.split code.mask rows wan
 -- which refusal is due to rows of a code that are decoded
 abbrev pub IsDecodeDueTo : Code → List (Row ℕ) → Error → Type 0
 IsDecodeDueTo code rows e = IsDecodeDue 1 word_of_bytes code.split code.mask rows e
+
+-- which refusal is due to rows of a code of which some may be wrong
+abbrev pub IsCorrectingDueTo : Code → List ℕ → List (Row ℕ) → Error → Type 0
+IsCorrectingDueTo code wanted rows e =
+    IsCorrectingDue 1 word_of_bytes code.split code.mask rows wanted e ⊎ ((e ≡ Inconsistent) × HaveNoneNear code rows wanted)
 
 -- the error says that memory ran out, or P holds of the rows in hand and it
 abbrev pub IsMemoryOrDue : (List (Row ℕ) → Error → Type 0) → RowsInHand → Error → Type 0

@@ -1,15 +1,16 @@
 //! Systematic shards of a block of bytes, as bytes, a row after the other.
 
-ghost use Rattle.std.specs.Prelude.{◌≡◌, ◌≢◌, ◌↔◌, ◌-◌, ◌*◌, ℕ, [], List, length};
+ghost use Rattle.std.specs.Prelude.{◌≡◌, ◌≢◌, ◌↔◌, ◌≤◌, ◌-◌, ◌*◌, ℕ, [], List, length};
 ghost use Rattle.std.specs.Prelude.{IsTrue, IfOk, IfErr, IfSome, IfNone, OnOk, OnErr};
 ghost use Rattle.systematic_shards.specs.declared.Error.TheVariants.{Conflict, Inconsistent};
-ghost use Rattle.systematic_shards.specs.declared.Error.TheVariants.{Mismatch, Sizes};
+ghost use Rattle.systematic_shards.specs.declared.Error.TheVariants.{Mismatch, Sizes, Word};
 ghost use Rattle.systematic_shards.specs.declared.rows.Row.{Row};
 ghost use Rattle.systematic_shards.specs.declared.split.Split.{Split};
-ghost use Rattle.c_calls.specs.SystematicRows.{AreDecoded, AreEncoded, AreInHand, AreRebuilt};
-ghost use Rattle.c_calls.specs.SystematicRows.{AreRowsOf, HaveRoom, HaveRowsFor, IsDecodeDueTo};
-ghost use Rattle.c_calls.specs.SystematicRows.{IsDueTo, IsMemoryOrDue, IsSplitOf, IsVerified};
-ghost use Rattle.c_calls.specs.SystematicRows.{width_of};
+ghost use Rattle.c_calls.specs.SystematicRows.{AreCorrected, AreDecoded, AreEncoded, AreInHand};
+ghost use Rattle.c_calls.specs.SystematicRows.{AreRebuilt, AreRowsOf, HaveRoom, HaveRowsFor};
+ghost use Rattle.c_calls.specs.SystematicRows.{IsCorrectingDueTo, IsDecodeDueTo, IsDueTo};
+ghost use Rattle.c_calls.specs.SystematicRows.{IsMemoryOrDue, IsSplitOf, IsVerified, width_of};
+ghost use Rattle.c_calls.specs.WordEncodings.{StandInFront};
 ghost use Rattle.c_calls.specs.WordShards.{IsSplit};
 
 mod in_hand;
@@ -17,7 +18,9 @@ mod in_hand;
 use commonware_math::algebra::Mem;
 pub use in_hand::RowsInHand;
 use std::alloc::Global;
-use systematic_shards::{Code, Error, Row, Split, decode, encode, rebuild, verify};
+use systematic_shards::{
+    Code, Error, Row, Split, decode, encode, rebuild, rebuild_corrected, verify,
+};
 
 /// The split of so many bytes: `None` where its rows have too many words.
 pub fn split_for(size: usize, min: u32, total: u32) -> Option<Split>
@@ -134,6 +137,38 @@ pub fn write_rows(
     let rows = rows_of(alloc, held)?;
     rebuild(alloc, held.code, &rows, wanted, out)?;
     Ok(())
+}
+
+/// Writes the rows of the wanted indices, row after row, though some rows in hand are wrong, and the
+/// positions of these over the first items of `left_out`, and gives their number.
+///
+/// It refuses as `rebuild_corrected` does, and with `Inconsistent` where that finds no codeword.
+pub fn write_corrected_rows(
+    alloc: Global,
+    held: &RowsInHand<'_>,
+    wanted: &[u32],
+    out: &mut [u8],
+    left_out: &mut [usize],
+) -> Result<usize, Error>
+    requires rows { length out.old ≡ length wanted.now * (8 * held.now.code.split.width) }
+    requires room { length held.now.indices.now ≤ length left_out.old }
+    ensures ok { IfOk result (λ many. (rows : List (Row ℕ)) × AreRowsOf held.now rows
+        × ((positions : List ℕ)
+        × AreCorrected held.now.code rows wanted.now positions out.new
+        × (many ≡ length positions) × StandInFront positions left_out.old left_out.new)) }
+    ensures due { IfErr result
+        (IsMemoryOrDue (IsCorrectingDueTo held.now.code wanted.now) held.now) }
+    ensures others { IfErr result (λ e. (e ≢ Mismatch) × (e ≢ Sizes)) }
+    ensures of_sound { IfErr result (λ e. (e ≢ Word) × (e ≢ Conflict)) }
+    ensures err { OnErr result ((out.new ≡ out.old) × (left_out.new ≡ left_out.old)) }
+{
+    let rows = rows_of(alloc, held)?;
+    let Some(found) = rebuild_corrected(alloc, held.code, &rows, wanted, out)? else {
+        return Err(Error::Inconsistent);
+    };
+    let many = found.len();
+    left_out[..many].copy_from_slice(&found);
+    Ok(many)
 }
 
 /// Writes the block that the rows in hand give back. It refuses as `decode` does.

@@ -1,13 +1,15 @@
 //! Systematic shards of bytes: the data as they are, and parity rows.
 
-ghost use Rattle.std.specs.Prelude.{◌≡◌, ◌≢◌, ◌↔◌, ◌<◌, ◌≤◌, ◌-◌, ◌*◌, ◌⊎◌, [], length};
+ghost use Rattle.std.specs.Prelude.{◌≡◌, ◌≢◌, ◌↔◌, ◌<◌, ◌≤◌, ◌-◌, ◌*◌, ◌⊎◌, ℕ, [], List, length};
 ghost use Rattle.systematic_shards.specs.declared.split.Split.{Split};
-ghost use Rattle.c_calls.specs.Statuses.{done, inconsistent, mismatch, out_of_memory};
-ghost use Rattle.c_calls.specs.Statuses.{wrong_index, wrong_size};
-ghost use Rattle.c_calls.specs.SystematicRows.{AreDecoded, AreEncoded, AreRebuilt, GivenRows};
-ghost use Rattle.c_calls.specs.SystematicRows.{HaveRoom, HaveRowsFor, IsDecodeDueTo, IsDueTo};
+ghost use Rattle.c_calls.specs.Statuses.{conflict, done, inconsistent, mismatch, out_of_memory};
+ghost use Rattle.c_calls.specs.Statuses.{out_of_range, wrong_index, wrong_size};
+ghost use Rattle.c_calls.specs.SystematicRows.{AreCorrected, AreDecoded, AreEncoded, AreRebuilt};
+ghost use Rattle.c_calls.specs.SystematicRows.{GivenRows, HaveRoom, HaveRowsFor};
+ghost use Rattle.c_calls.specs.SystematicRows.{IsCorrectingDueTo, IsDecodeDueTo, IsDueTo};
 ghost use Rattle.c_calls.specs.SystematicRows.{IsSplitOf, IsStatusWhere, IsVerified, TellsOfRows};
 ghost use Rattle.c_calls.specs.SystematicRows.{bytes_in_row, width_of};
+ghost use Rattle.c_calls.specs.WordEncodings.{StandInFront};
 ghost use Rattle.c_calls.specs.WordShards.{IsSplit};
 
 use c_calls::shards::is_split;
@@ -196,6 +198,59 @@ pub extern "C" fn cwm_systematic_verify(
     match systematic::belong(alloc, &held) {
         Ok(answer) => {
             *belong = answer;
+            Status::Done.code()
+        }
+        Err(error) => status::of_rows(&error).code(),
+    }
+}
+
+/// Writes the rows of the wanted indices, row after row, though some rows in hand are wrong, and the
+/// positions of these over the first places of `left_out`.
+#[unsafe(no_mangle)]
+pub extern "C" fn cwm_systematic_rebuild_corrected(
+    alloc: Global,
+    indices: &[u32],
+    rows: &[u8],
+    size: usize,
+    min: u32,
+    total: u32,
+    mask: u32,
+    wanted: &[u32],
+    out: &mut [u8],
+    left_out: &mut [usize],
+    many: &mut usize,
+) -> u32
+    ensures corrected { result ≡ done
+        → (it : GivenRows size min total mask indices.now rows.now) × ((positions : List ℕ)
+        × AreCorrected it.code it.rows wanted.now positions out.new
+        × (many.new ≡ length positions) × StandInFront positions left_out.old left_out.new) }
+    ensures kept { result ≢ done → (out.new ≡ out.old) × (left_out.new ≡ left_out.old)
+        × (many.new ≡ many.old) }
+    ensures size { result ≡ wrong_size ↔ IsSplit min total
+        × ¬ (HaveRowsFor size min total (length indices.now) (length rows.now)
+        × HaveRowsFor size min total (length wanted.now) (length out.old)
+        × (length indices.now ≤ length left_out.old)) }
+    ensures mismatch { result ≡ mismatch ↔ ¬ (IsSplit min total) }
+    ensures refused { TellsOfRows result
+        → (it : GivenRows size min total mask indices.now rows.now)
+        × IsStatusWhere (IsCorrectingDueTo it.code wanted.now it.rows) result }
+    ensures statuses { (result ≤ inconsistent) × (result ≢ out_of_range) × (result ≢ conflict) }
+{
+    if !is_split(min, total) {
+        return Status::Mismatch.code();
+    }
+    let Some(held) = systematic::rows_in_hand(size, min, total, mask, indices, rows) else {
+        return Status::WrongSize.code();
+    };
+    if !systematic::have_rows(size, min, total, wanted.len(), out.len()) {
+        return Status::WrongSize.code();
+    }
+    if left_out.len() < indices.len() {
+        return Status::WrongSize.code();
+    }
+    match systematic::write_corrected_rows(alloc, &held, wanted, out, left_out) {
+        Ok(positions) => {
+            *many = positions;
             Status::Done.code()
         }
         Err(error) => status::of_rows(&error).code(),
