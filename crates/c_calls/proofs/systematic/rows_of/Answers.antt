@@ -1,5 +1,5 @@
 use Rattle.std.proofs.Common.{◌∙◌, ◌-◌, ◌+◌, ◌*◌, ℕ, take, drop, refl, ap}
-use Rattle.systematic_shards.proofs.Filled.{turn}
+use Rattle.systematic_shards.proofs.Made.{turn}
 use Rattle.c_calls.proofs.SystematicRows.{rows-more}
 use Rattle.c_calls.proofs.systematic.rows_of.Goals as goal
 
