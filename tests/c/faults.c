@@ -205,6 +205,32 @@ int main(void) {
   REFUSES(CWM_INCONSISTENT, cwm_systematic_rebuild(in_order, 4, row, 32, 12, 2, 4, 0, lost, 0, now.out, 0));
   row[0] ^= 2;
 
+  REFUSES(CWM_MISMATCH, cwm_systematic_rebuild_corrected(high_index, 4, no_element, 31, 12, 5, 4, 0, none_wanted, 2, now.out, 15,
+                                                         now.wrong, 3, &now.many));
+  REFUSES(CWM_WRONG_SIZE, cwm_systematic_rebuild_corrected(high_index, 4, no_element, 31, 12, 2, 4, 0, none_wanted, 2, now.out, 16,
+                                                           left_out, 4, &now.many));
+  REFUSES(CWM_WRONG_SIZE, cwm_systematic_rebuild_corrected(high_index, 4, no_element, 32, 12, 2, 4, 0, none_wanted, 2, now.out, 15,
+                                                           left_out, 4, &now.many));
+  REFUSES(CWM_WRONG_SIZE, cwm_systematic_rebuild_corrected(high_index, 4, no_element, 32, 12, 2, 4, 0, none_wanted, 2, now.out, 16,
+                                                           now.wrong, 3, &now.many));
+  REFUSES(CWM_TOO_FEW, cwm_systematic_rebuild_corrected(high_index, 0, no_element, 0, 12, 2, 4, 0, none_wanted, 2, now.out, 16,
+                                                        now.wrong, 0, &now.many));
+  REFUSES(CWM_WRONG_INDEX, cwm_systematic_rebuild_corrected(high_index, 4, no_element, 32, 12, 2, 4, 0, lost, 2, now.out, 16, left_out, 4,
+                                                            &now.many));
+  REFUSES(CWM_WRONG_INDEX, cwm_systematic_rebuild_corrected(in_order, 1, no_element, 8, 12, 2, 4, 0, none_wanted, 2, now.out, 16, left_out,
+                                                            4, &now.many));
+  /* unequal rows of one index, and a row with a word that is no element, count as missing */
+  REFUSES(CWM_TOO_FEW, cwm_systematic_rebuild_corrected(copies, 2, row + 2 * ROW, 16, 12, 2, 4, 0, lost, 2, now.out, 16, now.wrong, 2,
+                                                        &now.many));
+  REFUSES(CWM_TOO_FEW, cwm_systematic_rebuild_corrected(in_order + 2, 2, no_element + 2 * ROW, 16, 12, 2, 4, 0, lost, 2, now.out, 16,
+                                                        now.wrong, 2, &now.many));
+  row[0] ^= 2;
+  REFUSES(CWM_INCONSISTENT, cwm_systematic_rebuild_corrected(in_order, 3, row, 24, 12, 2, 4, 0, lost, 2, now.out, 16, now.wrong, 3,
+                                                             &now.many));
+  REFUSES(CWM_INCONSISTENT, cwm_systematic_rebuild_corrected(in_order, 3, row, 24, 12, 2, 4, 0, lost, 0, now.out, 0, now.wrong, 3,
+                                                             &now.many));
+  row[0] ^= 2;
+
   REFUSES(CWM_MISMATCH, cwm_systematic_decode(high_index, 4, no_element, 31, 5, 4, 0, now.data, 12));
   REFUSES(CWM_WRONG_SIZE, cwm_systematic_decode(high_index, 4, no_element, 31, 2, 4, 0, now.data, 12));
   REFUSES(CWM_TOO_FEW, cwm_systematic_decode(high_index, 0, no_element, 0, 2, 4, 0, now.data, 12));

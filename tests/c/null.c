@@ -93,6 +93,10 @@ int main(void) {
   WANT(cwm_systematic_rebuild(indices, 3, NULL, 0, 9, 2, 3, 0, NULL, 0, NULL, 0) == CWM_WRONG_SIZE);
   WANT(cwm_systematic_rebuild(NULL, 0, bytes, 8, 9, 2, 3, 0, NULL, 0, NULL, 0) == CWM_WRONG_SIZE);
   WANT(cwm_systematic_rebuild(NULL, 0, NULL, 0, 9, 2, 3, 0, NULL, 0, block, 8) == CWM_WRONG_SIZE);
+  WANT(cwm_systematic_rebuild_corrected(NULL, 0, NULL, 0, 0, 2, 3, 0, NULL, 0, NULL, 0, NULL, 0, &many) == CWM_TOO_FEW);
+  WANT(cwm_systematic_rebuild_corrected(indices, 3, NULL, 0, 0, 2, 3, 0, NULL, 0, NULL, 0, wrong, 3, &many) == CWM_DONE && many == 0);
+  WANT(cwm_systematic_rebuild_corrected(indices, 3, NULL, 0, 0, 2, 3, 0, indices, 3, NULL, 0, wrong, 3, &many) == CWM_DONE && many == 0);
+  WANT(cwm_systematic_rebuild_corrected(indices, 3, NULL, 0, 0, 2, 3, 0, NULL, 0, NULL, 0, NULL, 0, &many) == CWM_WRONG_SIZE);
   WANT(cwm_systematic_decode(NULL, 0, NULL, 0, 2, 3, 0, NULL, 0) == CWM_TOO_FEW);
   WANT(cwm_systematic_decode(indices + 1, 2, NULL, 0, 2, 3, 0, NULL, 0) == CWM_DONE);
   WANT(cwm_systematic_decode(NULL, 0, NULL, 0, 2, 3, 0, block, 9) == CWM_TOO_FEW);

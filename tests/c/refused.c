@@ -21,7 +21,7 @@ struct given {
   size_t wrong[POINTS], count, many;
   uint8_t block[BLOCK], block_shards[TOTAL * BLOCK_SHARD], spoiled_bytes[TOTAL * BLOCK_SHARD];
   uint32_t lost[LOST], mask, belong;
-  uint8_t rows_in_hand[TOTAL * ROW], out[LOST * ROW];
+  uint8_t rows_in_hand[TOTAL * ROW], spoiled_rows[TOTAL * ROW], out[LOST * ROW];
 };
 
 static struct given now, before, answer;
@@ -66,6 +66,11 @@ static uint32_t systematic_rebuild(void) {
   return cwm_systematic_rebuild(now.indices + 1, MIN + 1, now.rows_in_hand + ROW, (MIN + 1) * ROW, BLOCK, MIN, TOTAL, now.mask, now.lost,
                                 LOST, now.out, LOST * ROW);
 }
+/* All rows are there, and one is wrong. */
+static uint32_t systematic_rebuild_corrected(void) {
+  return cwm_systematic_rebuild_corrected(now.indices, TOTAL, now.spoiled_rows, TOTAL * ROW, BLOCK, MIN, TOTAL, now.mask, now.lost, LOST,
+                                          now.out, LOST * ROW, now.wrong, POINTS, &now.many);
+}
 static uint32_t systematic_decode(void) {
   return cwm_systematic_decode(now.indices + 1, MIN + 1, now.rows_in_hand + ROW, (MIN + 1) * ROW, MIN, TOTAL, now.mask, now.block, BLOCK);
 }
@@ -88,6 +93,7 @@ static const struct {
     {"cwm_weights_at_roots, many", weights_at_many, 1}, {"cwm_systematic_sizes", systematic_sizes, 0},
     {"cwm_systematic_encode", systematic_encode, 1}, {"cwm_systematic_rebuild", systematic_rebuild, 1},
     {"cwm_systematic_decode", systematic_decode, 1}, {"cwm_systematic_verify", systematic_verify, 1},
+    {"cwm_systematic_rebuild_corrected", systematic_rebuild_corrected, 1},
 };
 
 /* Words below P, a third of the rows missing, three coefficients in bytes, shards of words and of bytes with rising indices,
@@ -113,6 +119,8 @@ static int make(void) {
                                       &before.mask) == CWM_DONE && before.mask != 0;
   memcpy(before.spoiled, before.shards, sizeof before.spoiled);
   before.spoiled[2 * SHARD] ^= 1;
+  memcpy(before.spoiled_rows, before.rows_in_hand, sizeof before.spoiled_rows);
+  before.spoiled_rows[2 * ROW] ^= 1;
   memcpy(before.spoiled_bytes, before.block_shards, sizeof before.spoiled_bytes);
   before.spoiled_bytes[2 * BLOCK_SHARD + 7] ^= 1;
   return made;

@@ -59,13 +59,13 @@ static void domains(void) {
 
 /* All that a call can be given, and all that it can write. */
 struct call {
-  size_t size, k, n, w, m;
+  size_t size, k, n, w, m, room;
   uint32_t min, total, mask, index, indices[ROWS], wanted[ROWS];
   uint8_t data[8 * WORDS], rows[ROWS * BYTES];
 };
 struct answer {
   uint32_t status, mask, belong;
-  size_t row, part, n;
+  size_t row, part, n, many, left_out[ROWS];
   uint8_t bytes[ROWS * BYTES];
 };
 
@@ -139,29 +139,92 @@ static void model_encode(const struct call *it, struct answer *to) {
   to->n = it->m;
 }
 
-enum kind { SIZES, ENCODE, REBUILD, DECODE, VERIFY, KINDS };
+enum kind { SIZES, ENCODE, REBUILD, DECODE, VERIFY, CORRECTED, KINDS };
+
+/* The words of a row, and 0; or the status of what is refused before the words of the rows are looked at. */
+static uint32_t asked(enum kind kind, const struct call *it, size_t *width) {
+  int rebuilds = kind == REBUILD || kind == CORRECTED;
+  uint32_t status = sized(it, it->size, width);
+  if (status != CWM_DONE) return status;
+  if ((wide)it->k * (8 * *width) != it->n) return CWM_WRONG_SIZE;
+  if (rebuilds && (wide)it->w * (8 * *width) != it->m) return CWM_WRONG_SIZE;
+  if (kind == CORRECTED && it->room < it->k) return CWM_WRONG_SIZE;
+  if (it->k == 0) return CWM_TOO_FEW;
+  for (size_t i = 0; i < it->k; i++)
+    if (it->indices[i] >= it->total) return CWM_WRONG_INDEX;
+  for (size_t i = 0; rebuilds && i < it->w; i++)
+    if (it->wanted[i] >= it->total) return CWM_WRONG_INDEX;
+  return CWM_DONE;
+}
+static int has_elements(const struct call *it, size_t i, size_t width) {
+  for (size_t k = 0; k < width; k++) {
+    uint64_t word = masked(word_of(it->rows + 8 * (i * width + k)), mask_in(it, it->indices[i]));
+    if (it->indices[i] < it->min ? word >> 32 == 0xffffffff : word >= CWM_MODULUS) return 0;
+  }
+  return 1;
+}
+
+/* All rows, from `min` of those in hand. */
+static void fill(const struct call *it, const uint32_t *indices, const uint32_t *from, size_t width, uint8_t *all) {
+  for (uint32_t index = 0; index < it->total; index++)
+    for (size_t k = 0; k < width; k++) {
+      uint64_t column[MOST];
+      for (uint32_t t = 0; t < it->min; t++) column[t] = masked(word_of(it->rows + 8 * (from[t] * width + k)), mask_in(it, indices[t]));
+      put_word(all + 8 * (index * width + k), masked(value_at(lg_of(it->total), indices, column, it->min, index), mask_in(it, index)));
+    }
+}
+static int is_row(const struct call *it, size_t i, size_t width, const uint8_t *all) {
+  return memcmp(it->rows + i * 8 * width, all + it->indices[i] * 8 * width, 8 * width) == 0;
+}
+static void take_wanted(const struct call *it, size_t width, const uint8_t *all, struct answer *to) {
+  for (size_t i = 0; i < it->w; i++) memcpy(to->bytes + i * 8 * width, all + it->wanted[i] * 8 * width, 8 * width);
+  to->n = it->m;
+}
+
+/* Leaves out each set of settled indices that may be wrong, until all rows of the others are rows of some data. */
+static void model_corrected(const struct call *it, struct answer *to) {
+  size_t width = 0;
+  uint32_t settled[MOST], first[MOST], count = 0;
+  uint8_t all[MOST * BYTES];
+  to->status = asked(CORRECTED, it, &width);
+  if (to->status != CWM_DONE) return;
+  for (uint32_t index = 0; index < it->total; index++) {
+    size_t found = it->k;
+    int equal = 1;
+    for (size_t i = 0; i < it->k; i++) {
+      if (it->indices[i] != index || !has_elements(it, i, width)) continue;
+      if (found == it->k) found = i;
+      equal &= memcmp(it->rows + i * 8 * width, it->rows + found * 8 * width, 8 * width) == 0;
+    }
+    if (found < it->k && equal) settled[count] = index, first[count++] = (uint32_t)found;
+  }
+  to->status = CWM_TOO_FEW;
+  if (count < it->min) return;
+  for (uint32_t wrong = 0; wrong < 1u << count; wrong++) {
+    uint32_t indices[MOST] = {0}, from[MOST] = {0}, right = 0, t = 0;
+    for (uint32_t j = 0; j < count; j++)
+      if (!(wrong >> j & 1)) indices[right] = settled[j], from[right++] = first[j];
+    if (count - right > (count - it->min) / 2) continue;
+    fill(it, indices, from, width, all);
+    while (t < right && is_row(it, from[t], width, all)) t++;
+    if (t < right) continue;
+    to->status = CWM_DONE;
+    take_wanted(it, width, all, to);
+    for (size_t i = 0; i < it->k; i++)
+      if (!is_row(it, i, width, all)) to->left_out[to->many++] = i;
+    return;
+  }
+  to->status = CWM_INCONSISTENT;
+}
 
 static void model_rows(enum kind kind, const struct call *it, struct answer *to) {
   size_t width = 0;
   uint32_t indices[MOST], from[MOST], distinct = 0;
-  to->status = sized(it, it->size, &width);
+  to->status = asked(kind, it, &width);
   if (to->status != CWM_DONE) return;
-  to->status = CWM_WRONG_SIZE;
-  if ((wide)it->k * (8 * width) != it->n) return;
-  if (kind == REBUILD && (wide)it->w * (8 * width) != it->m) return;
-  to->status = CWM_TOO_FEW;
-  if (it->k == 0) return;
-  to->status = CWM_WRONG_INDEX;
-  for (size_t i = 0; i < it->k; i++)
-    if (it->indices[i] >= it->total) return;
-  for (size_t i = 0; kind == REBUILD && i < it->w; i++)
-    if (it->wanted[i] >= it->total) return;
   to->status = CWM_OUT_OF_RANGE;
-  for (size_t i = 0; i < it->k * width; i++) {
-    uint32_t index = it->indices[i / width];
-    uint64_t word = masked(word_of(it->rows + 8 * i), mask_in(it, index));
-    if (index < it->min ? word >> 32 == 0xffffffff : word >= CWM_MODULUS) return;
-  }
+  for (size_t i = 0; i < it->k; i++)
+    if (!has_elements(it, i, width)) return;
   to->status = kind == VERIFY ? CWM_DONE : CWM_CONFLICT;
   to->belong = 0;
   for (size_t i = 0; i < it->k; i++)
@@ -177,24 +240,17 @@ static void model_rows(enum kind kind, const struct call *it, struct answer *to)
   }
   to->status = CWM_TOO_FEW;
   if (distinct < it->min) return;
-  /* all rows, from the first of those in hand */
   uint8_t all[MOST * BYTES];
-  for (uint32_t index = 0; index < it->total; index++)
-    for (size_t k = 0; k < width; k++) {
-      uint64_t column[MOST];
-      for (uint32_t t = 0; t < it->min; t++) column[t] = masked(word_of(it->rows + 8 * (from[t] * width + k)), mask_in(it, indices[t]));
-      put_word(all + 8 * (index * width + k), masked(value_at(lg_of(it->total), indices, column, it->min, index), mask_in(it, index)));
-    }
+  fill(it, indices, from, width, all);
   to->status = kind == VERIFY ? CWM_DONE : CWM_INCONSISTENT;
   for (size_t i = 0; i < it->k; i++)
-    if (memcmp(it->rows + i * 8 * width, all + it->indices[i] * 8 * width, 8 * width) != 0) return;
+    if (!is_row(it, i, width, all)) return;
   to->belong = 1;
   for (size_t i = it->size; kind == DECODE && i < it->min * 8 * width; i++)
     if (all[i] != 0) return;
   to->status = CWM_DONE;
   if (kind == DECODE) memcpy(to->bytes, all, to->n = it->size);
-  for (size_t i = 0; kind == REBUILD && i < it->w; i++) memcpy(to->bytes + i * 8 * width, all + it->wanted[i] * 8 * width, 8 * width);
-  if (kind == REBUILD) to->n = it->m;
+  if (kind == REBUILD) take_wanted(it, width, all, to);
 }
 
 /* Words of which many are at the ends of what an element or a high half can be. */
@@ -251,12 +307,13 @@ static void make_rows(struct call *it) {
   for (size_t i = 0; i < it->w; i++) it->wanted[i] = below(it->total);
   if (it->w && one_in(30)) it->wanted[below((uint32_t)it->w)] = it->total + below(2);
   it->m = it->w * 8 * width;
+  it->room = it->k + below(3);
   if (one_in(30)) it->mask = one_in(2) ? below(40) : (uint32_t)next();
 }
 
 /* Takes numbers that the rows were not made for. */
 static void spoil_numbers(struct call *it) {
-  switch (below(8)) {
+  switch (below(9)) {
     case 0: it->min = 0; break;
     case 1: it->min = it->total + 1; break;
     case 2: it->n += below(2) ? 1 : 8; break;
@@ -264,12 +321,13 @@ static void spoil_numbers(struct call *it) {
     case 4: it->m += it->m + 8 <= ROWS * BYTES ? 8 : 0; break;
     case 5: it->m -= it->m ? 1 : 0; break;
     case 6: it->k -= it->k ? 1 : 0; break;
+    case 7: it->room -= it->room ? 1 : 0; break;
     default: it->w -= it->w ? 1 : 0;
   }
   if (it->n > sizeof it->rows) it->n = sizeof it->rows;
 }
 
-enum { BUFFERS = 8 };
+enum { BUFFERS = 10 };
 static uint8_t *room[BUFFERS];
 
 /* n bytes, filled from the source or with noise, that can't be overrun where `end`, and else not underrun; for none sometimes null. */
@@ -295,7 +353,7 @@ static int same(enum kind kind, const struct call *it, const struct answer *want
   static const uint8_t noise[ROWS * BYTES] = {1, 2, 3, 4, 5, 6, 7, 8, 9, 10};
   int end = one_in(2), done = wanted->status == CWM_DONE;
   uint32_t number = 77, status;
-  size_t one = 78, other = 79, room_for = kind == DECODE ? it->size : it->m;
+  size_t one = 78, other = 79, places[ROWS + 2] = {80, 81, 82, 83, 84}, left = 85, room_for = kind == DECODE ? it->size : it->m;
   const uint32_t *indices = lay(0, it->indices, it->k * sizeof *it->indices, end, 0);
   const uint8_t *rows = lay(1, it->rows, it->n, end, 0);
   const uint32_t *chosen = lay(2, it->wanted, it->w * sizeof *it->wanted, end, 0);
@@ -303,6 +361,7 @@ static int same(enum kind kind, const struct call *it, const struct answer *want
   uint8_t *out = lay(4, noise, room_for > sizeof noise ? 0 : room_for, end, 1);
   uint32_t *found = lay(5, &number, sizeof number, end, 1);
   size_t *row = lay(6, &one, sizeof one, end, 1), *part = lay(7, &other, sizeof other, end, 1);
+  size_t *left_out = lay(8, places, it->room * sizeof *places, end, 1), *many = lay(9, &left, sizeof left, end, 1);
   switch (kind) {
     case SIZES: status = cwm_systematic_sizes(it->size, it->min, it->total, it->index, row, part); break;
     case ENCODE: status = cwm_systematic_encode(data, it->size, it->min, it->total, out, it->m, found); break;
@@ -310,14 +369,19 @@ static int same(enum kind kind, const struct call *it, const struct answer *want
       status = cwm_systematic_rebuild(indices, it->k, rows, it->n, it->size, it->min, it->total, it->mask, chosen, it->w, out, it->m);
       break;
     case DECODE: status = cwm_systematic_decode(indices, it->k, rows, it->n, it->min, it->total, it->mask, out, it->size); break;
-    default: status = cwm_systematic_verify(indices, it->k, rows, it->n, it->size, it->min, it->total, it->mask, found);
+    case VERIFY: status = cwm_systematic_verify(indices, it->k, rows, it->n, it->size, it->min, it->total, it->mask, found); break;
+    default:
+      status = cwm_systematic_rebuild_corrected(indices, it->k, rows, it->n, it->size, it->min, it->total, it->mask, chosen, it->w, out,
+                                                it->m, left_out, it->room, many);
   }
   if (done && kind == SIZES) one = wanted->row, other = wanted->part;
   if (done && kind == ENCODE) number = wanted->mask;
   if (done && kind == VERIFY) number = wanted->belong;
+  if (done && kind == CORRECTED) left = wanted->many, memcpy(places, wanted->left_out, left * sizeof *places);
   if (room_for > sizeof noise) room_for = 0;
   return status == wanted->status && holds(4, done && wanted->n ? wanted->bytes : noise, room_for, end) &&
-         holds(5, &number, sizeof number, end) && holds(6, &one, sizeof one, end) && holds(7, &other, sizeof other, end);
+         holds(5, &number, sizeof number, end) && holds(6, &one, sizeof one, end) && holds(7, &other, sizeof other, end) &&
+         holds(8, places, it->room * sizeof *places, end) && holds(9, &left, sizeof left, end);
 }
 
 /* The statuses that calls of each kind have to give some time. */
@@ -327,6 +391,7 @@ static const uint32_t statuses[KINDS] = {
     0x1ff & ~(1 << CWM_OUT_OF_MEMORY),
     0x1ff & ~(1 << CWM_OUT_OF_MEMORY),
     0x7f & ~(1 << CWM_OUT_OF_MEMORY),
+    0x1ff & ~(1 << CWM_OUT_OF_MEMORY | 1 << CWM_OUT_OF_RANGE | 1 << CWM_CONFLICT),
 };
 
 int main(int words, char **word) {
@@ -355,6 +420,7 @@ int main(int words, char **word) {
       if (kind == ENCODE) it.m = (it.total - it.min) * ((it.size + 8 * it.min - 1) / (8 * it.min) * 8);
       if (one_in(10)) spoil_numbers(&it);
       if (kind == ENCODE) model_encode(&it, &wanted);
+      else if (kind == CORRECTED) model_corrected(&it, &wanted);
       else model_rows(kind, &it, &wanted);
     }
     if (!same(kind, &it, &wanted)) {
