@@ -315,7 +315,8 @@ CWM_MUST_USE uint32_t cwm_systematic_rebuild(const uint32_t *indices, size_t k, 
  * n and m are as for cwm_systematic_rebuild, and room is k or more, else CWM_WRONG_SIZE. The other statuses are those of
  * cwm_systematic_rebuild, in the same order; but there is no CWM_OUT_OF_RANGE and no CWM_CONFLICT, CWM_TOO_FEW says that i is
  * below min, and CWM_INCONSISTENT that there are no such data. Time grows with k^2 and with the number of wrong rows. Takes
- * memory for several times N rows, whether a row is wrong or not: limit `total` and k. */
+ * memory for 8 words for each of the k rows and for 9 times N rows of a row's words and of 64 more, whether a row is wrong or
+ * not: limit `total` and k. */
 CWM_MUST_USE uint32_t cwm_systematic_rebuild_corrected(const uint32_t *indices, size_t k, const uint8_t *rows, size_t n,
                                                        size_t size, uint32_t min, uint32_t total, uint32_t mask,
                                                        const uint32_t *wanted, size_t w, uint8_t *out, size_t m,

@@ -189,7 +189,7 @@ static void shards(uint32_t min, uint32_t total) {
 static void systematic(uint32_t min, uint32_t total) {
   uint8_t *bytes = block(ROOM), *out = block(ROOM);
   uint32_t mask, belong;
-  size_t size, part, n = 1;
+  size_t size, part, many, n = 1;
   while (n < total) n *= 2;
   if (cwm_systematic_sizes(BLOCK, min, total, 0, &size, &part) != CWM_DONE || size * (total + 100) > ROOM) exit(2);
   memset(bytes, 0, size * min);
@@ -205,6 +205,10 @@ static void systematic(uint32_t min, uint32_t total) {
     count("cwm_systematic_decode", cwm_systematic_decode(indices + lost, k, bytes + lost * size, k * size, min, total, mask, out, BLOCK), 1, rebuilt);
     count("cwm_systematic_decode, none lost", cwm_systematic_decode(indices, min, bytes, min * size, min, total, mask, out, BLOCK), 1, 17 * min + 8192);
     count("cwm_systematic_verify", cwm_systematic_verify(indices, total, bytes, total * size, BLOCK, min, total, mask, &belong), 1, 17 * total + 3 * min * (total - min) + made);
+    if (total > 200) continue;
+    for (uint32_t i = 0; i < (total - min) / 2; i++) bytes[i * size] ^= 1;
+    count("cwm_systematic_rebuild_corrected", cwm_systematic_rebuild_corrected(indices, total, bytes, total * size, BLOCK, min, total, mask, indices, lost, out, lost * size, wrong, total, &many), 1, 9 * n * (size / 8 + 64) + 8 * total);
+    for (uint32_t i = 0; i < (total - min) / 2; i++) bytes[i * size] ^= 1;
   }
   __real_free(bytes), __real_free(out);
 }
