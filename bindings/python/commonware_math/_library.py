@@ -100,6 +100,9 @@ _SIGNATURES = {
     "cwm_systematic_rebuild": [_at, _size, _at, _size, _size, _u32, _u32, _u32, _at, _size, _at, _size],
     "cwm_systematic_decode": [_at, _size, _at, _size, _u32, _u32, _u32, _at, _size],
     "cwm_systematic_verify": [_at, _size, _at, _size, _size, _u32, _u32, _u32, _at],
+    "cwm_systematic_rebuild_corrected": [
+        _at, _size, _at, _size, _size, _u32, _u32, _u32, _at, _size, _at, _size, _at, _size, _at,
+    ],
 }
 
 library = _load()

@@ -35,7 +35,7 @@ from typing import Any, Iterable, Mapping, SupportsIndex, Union
 from . import MODULUS, Bytes, Inconsistent, Mismatch, WrongIndex, WrongSize, _done, _indices, _library, _Numbers, _Shards
 from ._library import library as _lib, number as _number
 
-__all__ = ["shard_size", "data_size", "encode", "rebuild", "decode", "verify"]
+__all__ = ["shard_size", "data_size", "encode", "rebuild", "rebuild_corrected", "decode", "verify"]
 
 #: Shards, each under its index, or pairs of an index and a shard
 Shards = Union[Mapping[int, Bytes], Iterable[tuple[SupportsIndex, Bytes]]]
@@ -107,6 +107,14 @@ class _Held(_Shards):
         """Whether the word may stand in the shard of this index: in a parity shard it is below P, and in a data shard its high
         half is not all ones under the mask."""
         return word < MODULUS if index >= self.min else word >> 32 ^ self.mask != 2**32 - 1
+
+    def _settled(self) -> int:
+        """How many indices have one shard, however often, besides those with a word that may not stand there."""
+        sound = [
+            [row for row in rows if all(self._is_element(index, word) for word in self._words(row))]
+            for index, rows in self._rows().items()
+        ]
+        return sum(len(rows) == 1 for rows in sound)
 
     def _large(self) -> str:
         """The first word that may not stand where it stands."""
@@ -185,6 +193,37 @@ def rebuild(
         of.numbers(indices[:count]),
     )
     return _cut(out, of.row, count)
+
+
+def rebuild_corrected(
+    shards: Shards,
+    wanted: Iterable[SupportsIndex],
+    size: SupportsIndex,
+    min: SupportsIndex,
+    total: SupportsIndex,
+    mask: SupportsIndex,
+) -> tuple[list[bytes], list[int]]:
+    """Does what ``rebuild`` does though some of the shards are wrong: returns the wanted shards, and the indices of the wrong ones.
+
+    A shard with a word that may not stand there counts as missing, and so does an index whose other shards differ. Of m indices
+    that remain at most (m - min) / 2 may have a wrong shard. If no data are so near, it raises ``Inconsistent``.
+
+    >>> shards, mask = encode(b"0123456789", 2, 4)
+    >>> wrong = {0: shards[0], 1: shards[0], 2: shards[2], 3: shards[3]}
+    >>> rebuild_corrected(wrong, [1], 10, 2, 4, mask) == ([shards[1]], [1])
+    True
+    """
+    of, (indices, count) = _Held(shards, size, min, total, mask), _indices(wanted)
+    out, many = _library.bytes_of(count * of.row), ctypes.c_size_t()
+    left_out = (ctypes.c_size_t * (of.count or 1))()
+    _done(
+        _lib.cwm_systematic_rebuild_corrected(
+            *of.handed(), of.data, of.min, of.total, of.mask, indices, count, out, count * of.row, left_out, of.count,
+            ctypes.byref(many),
+        ),
+        of.numbers(indices[:count]),
+    )
+    return _cut(out, of.row, count), sorted(of.indices[i] for i in left_out[: many.value])
 
 
 def decode(

@@ -144,6 +144,14 @@ class Held:
         between = self.size, self.least, self.total, self.mask, asked, len(wanted)
         return self.call(library.cwm_systematic_rebuild, between, room)
 
+    def rebuild_corrected(self, wanted, room, places):
+        """As `rebuild`, and then the places of `left_out` with some behind, and how many there are."""
+        left_out, many = filled(ctypes.c_size_t, [KEPT] * (places + BEHIND)), ctypes.c_size_t(KEPT)
+        between = self.size, self.least, self.total, self.mask, filled(ctypes.c_uint32, wanted), len(wanted)
+        after = left_out, places, ctypes.byref(many)
+        status, out = self.call(library.cwm_systematic_rebuild_corrected, between, room, after)
+        return status, out, list(left_out), many.value
+
     def decode(self):
         return self.call(library.cwm_systematic_decode, (self.least, self.total, self.mask), self.size)
 
@@ -520,6 +528,85 @@ def answered(function, *arguments):
         return function(*arguments)
     except cm.Error as error:
         return error.status
+
+
+# Rows of which some are wrong.
+
+
+def nearest(settled, least, total, mask):
+    """All rows of the codeword that at most (m - `least`) / 2 of the m settled rows contradict, or None.
+
+    Of the first `least` + that many some `least` are right, and these fix the codeword. So all that can be are tried.
+    """
+    radius = (len(settled) - least) // 2
+    for chosen in itertools.combinations(sorted(settled)[: least + radius], least):
+        some = {i: settled[i] for i in chosen}
+        found = [row_of(some, least, total, mask, i) for i in range(total)]
+        if sum(found[i] != row for i, row in settled.items()) <= radius:
+            return found
+    return None
+
+
+def foreseen_corrected(case, held, wanted, room, places):
+    """The status, the wanted rows, and the positions of the wrong rows."""
+    status, _ = foreseen(case, held, wanted, room)
+    if status in (MISMATCH, WRONG_SIZE):
+        return status, None, None
+    if places < len(held.indices):
+        return WRONG_SIZE, None, None
+    if status == WRONG_INDEX or not held.indices:
+        return status, None, None
+    width, words = width_of(case.size, case.least), words_of(held.rows)
+    rows = [(i, words[p * width : (p + 1) * width]) for p, i in enumerate(held.indices)]
+    sound = [(i, row) for i, row in rows if all(may_stand(i, word, case.least, case.mask) for word in row)]
+    unequal = {i for i, row in sound for j, other in sound if i == j and row != other}
+    settled = {i: row for i, row in sound if i not in unequal}
+    if len(settled) < case.least:
+        return TOO_FEW, None, None
+    found = nearest(settled, case.least, case.total, case.mask)
+    if found is None:
+        return INCONSISTENT, None, None
+    rebuilt = b"".join(bytes_of(found[i]) for i in wanted)
+    return DONE, rebuilt, [p for p, (i, row) in enumerate(rows) if found[i] != row]
+
+
+class CorrectedSets(unittest.TestCase):
+    def test_sets(self):
+        source, counts = random.Random(65), Counter()
+        for n in range(SETS):
+            case = Set(source)
+            data = b"".join(bytes_of(row) for _, row in case.held)
+            held = Held(
+                [i for i, _ in case.held], data[: len(data) - case.cut], case.size, case.least, case.total, case.mask
+            )
+            width = width_of(case.size, case.least) if case.least and case.size < 2**30 else 0
+            room = max(0, 8 * width * len(case.wanted) + (case.room or 0))
+            places = max(0, len(held.indices) + source.choice((0,) * 8 + (1, 5, -1)))
+            status, rebuilt, wrong = foreseen_corrected(case, held, case.wanted, room, places)
+            counts[NAMES[status]] += 1
+            counts["some wrong"] += bool(wrong)
+            due = (status, bytes([KEPT]) * (room + BEHIND), [KEPT] * (places + BEHIND), KEPT)
+            if rebuilt is not None:
+                due = (*written(rebuilt), wrong + [KEPT] * (places + BEHIND - len(wrong)), len(wrong))
+            with self.subTest(n=n, kinds=[kind.__name__ for kind in case.kinds]):
+                self.assertEqual(held.rebuild_corrected(case.wanted, room, places), due)
+                self.package(case, held)
+        print(f"{SETS} sets, corrected: {', '.join(f'{name} {count}' for name, count in sorted(counts.items()))}")
+        for name in ("done", "size", "few", "mismatch", "index", "inconsistent", "some wrong"):
+            self.assertGreater(counts[name], SETS // 60, name)
+
+    def package(self, case, held):
+        count = len(held.indices)
+        if (len(held.rows) % count if count else held.rows) or case.size >= 2**20:
+            return
+        each = len(held.rows) // max(1, count)
+        pairs = [(index, held.rows[p * each : (p + 1) * each]) for p, index in enumerate(held.indices)]
+        status, rebuilt, wrong = foreseen_corrected(case, held, case.wanted, None, count)
+        found = answered(systematic.rebuild_corrected, pairs, case.wanted, case.size, case.least, case.total, case.mask)
+        if rebuilt is None:
+            self.assertEqual(found, status)
+        else:
+            self.assertEqual((b"".join(found[0]), found[1]), (rebuilt, sorted(held.indices[p] for p in wrong)))
 
 
 class Package(unittest.TestCase):

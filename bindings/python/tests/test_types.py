@@ -32,6 +32,7 @@ rows = cm.systematic.rebuild({0: rows[0], 2: rows[2]}, [1], *beside)
 rows = cm.systematic.rebuild([(0, rows[0]), (2, bytearray(rows[2]))], array("I", [1]), *beside)
 back = cm.systematic.decode(enumerate(rows), *beside)
 back = cm.systematic.decode(some, 10, min=2, total=3, mask=mask)
+rows, left_out = cm.systematic.rebuild_corrected(some, [1], *beside)
 belong: bool = cm.systematic.verify(dict(enumerate(rows)), *beside)
 size = cm.systematic.shard_size(10, 2, 3) + cm.systematic.data_size(10, 2, 3, 0)
 

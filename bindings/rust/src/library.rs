@@ -39,6 +39,7 @@ mod declared {
         pub fn cwm_systematic_rebuild(indices: *const u32, k: usize, rows: *const u8, n: usize, size: usize, min: u32, total: u32, mask: u32, wanted: *const u32, w: usize, out: *mut u8, m: usize) -> u32;
         pub fn cwm_systematic_decode(indices: *const u32, k: usize, rows: *const u8, n: usize, min: u32, total: u32, mask: u32, data: *mut u8, size: usize) -> u32;
         pub fn cwm_systematic_verify(indices: *const u32, k: usize, rows: *const u8, n: usize, size: usize, min: u32, total: u32, mask: u32, belong: *mut u32) -> u32;
+        pub fn cwm_systematic_rebuild_corrected(indices: *const u32, k: usize, rows: *const u8, n: usize, size: usize, min: u32, total: u32, mask: u32, wanted: *const u32, w: usize, out: *mut u8, m: usize, left_out: *mut usize, room: usize, many: *mut usize) -> u32;
     }
 }
 
@@ -190,4 +191,10 @@ pub fn systematic_decode(code: &Code, indices: &[u32], rows: &[u8], data: &mut [
 pub fn systematic_verify(code: &Code, indices: &[u32], rows: &[u8], belong: &mut u32) -> Result<(), Error> {
     // SAFETY: as above.
     done(unsafe { declared::cwm_systematic_verify(indices.as_ptr(), indices.len(), rows.as_ptr(), rows.len(), code.size, code.min, code.total, code.mask, belong) })
+}
+#[rustfmt::skip]
+#[allow(clippy::too_many_arguments)]
+pub fn systematic_rebuild_corrected(code: &Code, indices: &[u32], rows: &[u8], wanted: &[u32], out: &mut [u8], left_out: &mut [usize], many: &mut usize) -> Result<(), Error> {
+    // SAFETY: as above.
+    done(unsafe { declared::cwm_systematic_rebuild_corrected(indices.as_ptr(), indices.len(), rows.as_ptr(), rows.len(), code.size, code.min, code.total, code.mask, wanted.as_ptr(), wanted.len(), out.as_mut_ptr(), out.len(), left_out.as_mut_ptr(), left_out.len(), many) })
 }

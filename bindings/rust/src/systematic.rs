@@ -154,6 +154,44 @@ pub fn rebuild<S: AsRef<[u8]>>(code: &Code, shards: &[(u32, S)], wanted: &[u32])
     Ok(rebuilt)
 }
 
+/// What [`rebuild_corrected`] found.
+#[derive(Clone, Debug, PartialEq, Eq)]
+pub struct Rebuilt {
+    /// The shards of the wanted indices, in their order.
+    pub shards: Vec<Vec<u8>>,
+    /// The positions, in the slice that was handed in, of those that are no shards of the data, by rising number.
+    pub left_out: Vec<usize>,
+}
+
+/// Does what [`rebuild`] does though some of the shards are wrong: returns the wanted shards, and which are wrong.
+///
+/// A shard with a word that may not stand there counts as missing, and so does an index whose other shards differ. Of m
+/// distinct indices that remain at most (m - `min`) / 2 may have wrong shards. It refuses as [`rebuild`] does, but with
+/// [`Error::TooFew`] if m is below `min`, and with [`Error::Inconsistent`] if no data are so near; there is no
+/// [`Error::OutOfRange`] and no [`Error::Conflict`].
+///
+/// ```
+/// use commonware_math_proved::systematic::{encode, rebuild_corrected};
+///
+/// let (mut shards, code) = encode(b"0123456789", 2, 4)?;
+/// shards[2][0] ^= 1;
+/// let found = rebuild_corrected(&code, &[(3, &shards[3]), (2, &shards[2]), (1, &shards[1]), (0, &shards[0])], &[1])?;
+/// assert_eq!(found.shards, shards[1..2]);
+/// assert_eq!(found.left_out, [1]);
+/// # Ok::<(), commonware_math_proved::Error>(())
+/// ```
+pub fn rebuild_corrected<S: AsRef<[u8]>>(code: &Code, shards: &[(u32, S)], wanted: &[u32]) -> Result<Rebuilt, Error> {
+    let (indices, rows, size) = held(code, shards)?;
+    let mut out = zeros(wanted.len().checked_mul(size).ok_or(Error::OutOfMemory)?)?;
+    let mut left_out = zeros(indices.len())?;
+    let mut many = 0;
+    library::systematic_rebuild_corrected(code, &indices, &rows, wanted, &mut out, &mut left_out, &mut many)?;
+    left_out.truncate(many);
+    let mut rebuilt = room_for(wanted.len())?;
+    add_rows(&mut rebuilt, &out, size, wanted.len())?;
+    Ok(Rebuilt { shards: rebuilt, left_out })
+}
+
 /// Returns the data from `min` shards or more, each beside its index. Data shards that are there are copied.
 ///
 /// It refuses as [`rebuild`] does, and with [`Error::Inconsistent`] too if a byte past the end of the data is not zero.

@@ -114,6 +114,15 @@ fn systematic_shards_come_back() {
             assert_eq!(systematic::verify(&code, &damaged), Ok(false));
             assert_eq!(systematic::rebuild(&code, &damaged, &[0]), Err(Error::Inconsistent));
         }
+        // of all shards as many wrong as can be
+        let mut all: Vec<(u32, Vec<u8>)> = (0..).zip(shards.clone()).collect();
+        let mut wrong = words.choice(total, if length > 0 { (total - min) / 2 } else { 0 });
+        wrong.sort();
+        for i in &wrong {
+            all[*i].1[7] ^= 1;
+        }
+        let found = systematic::rebuild_corrected(&code, &all, &wanted).unwrap();
+        assert_eq!((found.shards, found.left_out), (shards, wrong));
     }
 }
 
