@@ -36,6 +36,10 @@ split_spelling least most block size = to_be_bytes w64 least ++ (to_be_bytes w64
 abbrev pub keys_spelling : Keys → List ℕ
 keys_spelling keys = to_be_bytes w64 (number keys.first) ++ to_be_bytes w64 (number keys.second)
 
+-- neither key is zero
+abbrev pub AreNotZero : Keys → Type 0
+AreNotZero keys = (number keys.first ≢ 0) × (number keys.second ≢ 0)
+
 -- the fingerprints of some words under two keys are spelled by a word each
 abbrev pub fingerprints_spelling : Keys → List F → List ℕ
 fingerprints_spelling keys words = to_be_bytes w64 (number (fingerprint words keys.first)) ++ to_be_bytes w64 (number (fingerprint words keys.second))

@@ -8,7 +8,7 @@ ghost use Rattle.std.specs.Int.{w64, to_be_bytes};
 ghost use Rattle.math_numbers.specs.Goldilocks.{P};
 ghost use Rattle.math_codec.specs.Faults.{Agrees, IsMemory, OnMemory, Reads, scan_exactly};
 ghost use Rattle.math_base.specs.Elements.{number};
-ghost use Rattle.shard_format.specs.Headers.{AdmitsHeader, beginning_spelling, fingerprints_spelling, header_spelling, header_words, keys_spelling, split_spelling, words_spelling};
+ghost use Rattle.shard_format.specs.Headers.{AdmitsHeader, AreNotZero, beginning_spelling, fingerprints_spelling, header_spelling, header_words, keys_spelling, split_spelling, words_spelling};
 ghost use Rattle.shard_format.specs.Headers.{scan_beginning, scan_fingerprints, scan_fixed, scan_header, scan_key, scan_keys, scan_length, scan_number, scan_split, scan_words};
 ghost use Rattle.shard_format.specs.HeaderLaws.{header_again, header_apart};
 ghost use Rattle.shard_format.specs.Splits.{AreOfOneSplit, IsPossible, IsThatOf, is_of_split, largest_block};
@@ -194,8 +194,7 @@ fn read_numbers(alloc: Global, input: &mut &[u8]) -> Result<Numbers, Error>
 #[tactic(auto, unfolding(crate::specs::Headers::scan_keys))]
 fn read_keys(alloc: Global, input: &mut &[u8]) -> Result<Keys, Error>
     ensures taken { IfOk result (λ keys. input.old.now ≡ keys_spelling keys ++ input.new.now) }
-    ensures first { IfOk result (λ keys. number keys.first ≢ 0) }
-    ensures second { IfOk result (λ keys. number keys.second ≢ 0) }
+    ensures some { IfOk result AreNotZero }
     ensures stays { OnErr result (input.new ≡ input.old) }
     ensures memory { OnMemory result ⊥ }
     ensures exact { Reads result input.new.now (scan_keys input.old.now) }
