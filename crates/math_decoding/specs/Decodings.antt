@@ -1,5 +1,5 @@
 -- Values that stand at some points, and the polynomials that agree with most of them, over the ring of a trait.
-use Rattle.std.specs.Prelude.{◌≡◌, ◌+◌, ◌≤◌, ℕ, List, length}
+use Rattle.std.specs.Prelude.{◌≡◌, ◌+◌, ◌<◌, ◌≤◌, ℕ, List, length, slice_index_or}
 use Rattle.math_theory.specs.Decoding as Decoding
 use Rattle.math_base.specs.Members.{RingOf}
 use Rattle.math_decoding.specs.Polynomials.{AreSame}
@@ -23,3 +23,7 @@ pub record IsDecoded {A : Type 0} (R : RingOf A) (points values : List A) (count
   pub places : AreWrongPlaces R points values a wrong
   pub few : length wrong + length wrong + count ≤ length points
   pub only : (b : List A) → IsWithinRadius R points values count b → AreSame R b a
+
+-- a point after the one at index i is the same
+abbrev pub StandsAgain : {A : Type 0} → (A → A → Type 0) → List A → ℕ → Type 0
+StandsAgain {A} same points i = (j : ℕ) × (d : A) × (i < j) × (j < length points) × same (slice_index_or points i d) (slice_index_or points j d)

@@ -2,6 +2,8 @@
 use Rattle.std.specs.Prelude.{◌≡◌, ◌+◌, ◌-◌, ◌<◌, List, length}
 use Rattle.math_theory.specs.Decoding.{IsKept}
 use Rattle.math_theory.specs.Division.{HasExactDegree}
+use Rattle.math_base.specs.Members.{RingOf}
+use Rattle.math_decoding.specs.declared.euclid.Remainder.{Remainder}
 
 -- the values of r and of r' are those of v and of v' times the values given; r' has fewer coefficients than r, and v than v'; the degrees of r, of
 -- r' and of v' are as great as their lengths let them, and those of r and of v' have the number of points as their sum
@@ -15,3 +17,8 @@ pub record AreRemainders {A : Type 0} (same : A → A → Type 0) (zero : A) (su
   pub shorter : length r' < length r
   pub longer : length v < length v'
   pub degrees : length v' + length r ≡ length points + 2
+
+-- so are two remainders with their factors, over the ring of a trait
+abbrev pub AreInTurn : {A : Type 0} → RingOf A → List A → List A → Remainder A → Remainder A → Type 0
+AreInTurn R points values before last =
+    AreRemainders R.same R.zero R.sum R.product R.one points values before.coefficients.items before.factor.items last.coefficients.items last.factor.items

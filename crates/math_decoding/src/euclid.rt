@@ -2,8 +2,8 @@
 
 ghost use Rattle.std.specs.Prelude.{◌≡◌, ◌+◌, ◌<◌, ◌≤◌, ◌↔◌, ◌-◌, suc, List, IsTrue, IfOk, length};
 ghost use Rattle.math_theory.specs.Interpolation.{AreApart};
-ghost use Rattle.math_decoding.specs.Polynomials.{difference, product, AreSame, HasExactDegree, IsTrimmed};
-ghost use Rattle.math_decoding.specs.Remainders.{AreRemainders};
+ghost use Rattle.math_decoding.specs.Polynomials.{difference, product, AreSame, HasExactDegree};
+ghost use Rattle.math_decoding.specs.Remainders.{AreInTurn};
 ghost use Rattle.math_decoding.specs.Decodings.{IsKept};
 
 use super::coefficients::{padded, subtract_multiple, trimmed};
@@ -78,18 +78,11 @@ fn next_remainder<F: Field>(
     last: &Remainder<F>,
 ) -> Mem<Remainder<F>>
     requires some { 0 < length last.now.coefficients.items }
-    requires trimmed { IsTrimmed F.Ring last.now.coefficients.items }
-    requires shorter { length last.now.coefficients.items < length before.now.coefficients.items }
-    requires longer { length before.now.factor.items < length last.now.factor.items }
-    ensures shorter { IfOk result
-        (λ next. length next.coefficients.items < length last.now.coefficients.items) }
-    ensures next { IfOk result (λ next. (points values : List F)
-        → AreRemainders F.same F.zero F.sum F.product F.one points values
-        before.now.coefficients.items before.now.factor.items
-        last.now.coefficients.items last.now.factor.items
-        → AreRemainders F.same F.zero F.sum F.product F.one points values
-        last.now.coefficients.items last.now.factor.items
-        next.coefficients.items next.factor.items) }
+    requires turn { (points : List F) × (values : List F)
+        × AreInTurn F.Ring points values before.now last.now }
+    ensures { IfOk result (λ next. (points values : List F)
+        → AreInTurn F.Ring points values before.now last.now
+        → AreInTurn F.Ring points values last.now next) }
 {
     let (quotient, remainder) = divide(alloc, &before.coefficients, &last.coefficients)?;
     let factor = less_product(alloc, &before.factor, &quotient, &last.factor)?;

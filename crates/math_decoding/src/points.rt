@@ -1,7 +1,8 @@
 //! Whether points are distinct.
 
-ghost use Rattle.std.specs.Prelude.{◌<◌, ◌↔◌, ℕ, IsTrue, IfOk, length, slice_index_or};
+ghost use Rattle.std.specs.Prelude.{◌<◌, ◌↔◌, IsTrue, IfOk, length};
 ghost use Rattle.math_theory.specs.Interpolation.{AreApart};
+ghost use Rattle.math_decoding.specs.Decodings.{StandsAgain};
 
 use math_base::algebra::{Mem, Object};
 use std::alloc::Global;
@@ -27,12 +28,7 @@ pub fn are_distinct<F: Object>(alloc: Global, points: &[F]) -> Mem<bool>
 /// Whether a point after the one at index i is the same.
 fn stands_again<F: Object>(alloc: Global, points: &[F], i: usize) -> Mem<bool>
     requires { i < length points.now }
-    ensures some { IfOk result
-        (λ answer. IsTrue answer → (j : ℕ) × (d : F) × (i < j) × (j < length points.now)
-        × F.same (slice_index_or points.now i d) (slice_index_or points.now j d)) }
-    ensures none { IfOk result
-        (λ answer. ¬ (IsTrue answer) → (j : ℕ) (d : F) → i < j → j < length points.now
-        → ¬ (F.same (slice_index_or points.now i d) (slice_index_or points.now j d))) }
+    ensures { IfOk result (λ answer. IsTrue answer ↔ StandsAgain F.same points.now i) }
 {
     for j in i + 1..points.len() {
         if points[i].equals(alloc, &points[j])? {

@@ -14,8 +14,14 @@ loop-alloc-init g c =
       long = omega (arith, c.in_ok-product.ensures.product.0, c.requires.count);
     }
 
+pub next_remainder-requires-clause-turn : goal.next_remainder-requires-clause-turn
+next_remainder-requires-clause-turn g c = (c.args.points.now, c.args.values.now, c.loop-alloc.invariant.remainders)
+
+pub loop-alloc-smaller : goal.loop-alloc-smaller
+loop-alloc-smaller g c = (c.in_ok-next.ensures c.args.points.now c.args.values.now c.loop-alloc.invariant.remainders).shorter
+
 pub loop-alloc-preserved : goal.loop-alloc-preserved
 loop-alloc-preserved g c = record {
-  remainders = c.in_ok-next.ensures.next c.args.points.now c.args.values.now c.loop-alloc.invariant.remainders;
+  remainders = c.in_ok-next.ensures c.args.points.now c.args.values.now c.loop-alloc.invariant.remainders;
   long = omega (arith, c.loop-alloc-test.ensures.0 refl, c.len.ensures);
 }

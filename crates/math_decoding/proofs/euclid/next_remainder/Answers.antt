@@ -7,24 +7,20 @@ pub divide-requires : goal.divide-requires
 divide-requires g c =
     let F = g.met.F in
     rw c.deref-2.ensures.value (not_zero F.Object.equality F.Additive.group F.Multiplicative.commutes F.Ring.ring F.Field.field
-    c.args.last.now.coefficients.items _ (c.requires.trimmed c.requires.some))
+    c.args.last.now.coefficients.items _ (c.requires.turn.2.degree' c.requires.some))
 
 pub less_product-requires-clause-some : goal.less_product-requires-clause-some
 less_product-requires-clause-some g c =
     let F = g.met.F in
     let (n, d) = rw (c.deref.ensures.value, c.deref-2.ensures.value) at c.in_ok-quotient.ensures in
-    let e = degree-once g.F.Additive.zero F.Object.equality c.args.last.now.coefficients.items n (length c.args.last.now.coefficients.items - 1) d.degree (c.requires.trimmed c.requires.some) in
-    omega (arith, ap length c.deref-4.ensures.value, d.quotient, e, c.requires.shorter, c.requires.some)
+    let e = degree-once g.F.Additive.zero F.Object.equality c.args.last.now.coefficients.items n (length c.args.last.now.coefficients.items - 1) d.degree (c.requires.turn.2.degree' c.requires.some) in
+    omega (arith, ap length c.deref-4.ensures.value, d.quotient, e, c.requires.turn.2.shorter, c.requires.some)
 
-pub returns-clause-shorter : goal.returns-clause-shorter
-returns-clause-shorter g c =
-    let F = g.met.F in
-    let (n, d) = rw (c.deref.ensures.value, c.deref-2.ensures.value) at c.in_ok-quotient.ensures in
-    let e = degree-once g.F.Additive.zero F.Object.equality c.args.last.now.coefficients.items n (length c.args.last.now.coefficients.items - 1) d.degree (c.requires.trimmed c.requires.some) in
-    omega (arith, c.in_ok-coefficients.ensures.length, d.remainder, e, c.requires.some)
+pub less_product-requires-clause-shorter : goal.less_product-requires-clause-shorter
+less_product-requires-clause-shorter g c = omega (arith, ap length c.deref-3.ensures.value, ap length c.deref-5.ensures.value, c.requires.turn.2.longer)
 
-pub returns-clause-next : goal.returns-clause-next
-returns-clause-next g c = λ points values s.
+pub returns : goal.returns
+returns g c = λ points values s.
     let F = g.met.F in
     let (n, d) = rw (c.deref.ensures.value, c.deref-2.ensures.value) at c.in_ok-quotient.ensures in
     remainders-next F.Object.equality F.Additive.group F.Multiplicative.commutes F.Ring.ring F.Field.field points values
