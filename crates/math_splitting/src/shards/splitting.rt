@@ -72,7 +72,12 @@ pub fn split_source<W: Word>(
     ensures { IfOk result
         (λ shards. AreShardsOf (words_in W.word source.now) min total shards.items) }
 {
-    make_shards(alloc, source, layout_of(source, min, total), Wanted::All(total))
+    make_shards(
+        alloc,
+        source,
+        layout_of(source, min, total),
+        Wanted::All(total),
+    )
 }
 
 /// Gives the shards of these indices, in their order: those that `split_source` gives of all. An
@@ -103,7 +108,12 @@ pub fn split_source_at<W: Word>(
     ensures { IfOk result
         (λ shards. AreShardsAt (words_in W.word source.now) min total indices.now shards.items) }
 {
-    make_shards(alloc, source, layout_of(source, min, total), Wanted::At(indices))
+    make_shards(
+        alloc,
+        source,
+        layout_of(source, min, total),
+        Wanted::At(indices),
+    )
 }
 
 /// Writes the shards of the data over the cells: shard i is row i of `total` rows, and each of its
@@ -155,7 +165,13 @@ pub fn split_source_rows<W: Word, R: Room>(
         (AreRowsOfShards (words_in W.word source.now) min total (R.words cells.new)) }
     ensures err { OnErr result (cells.new ≡ cells.old) }
 {
-    write_shards(alloc, source, layout_of(source, min, total), Wanted::All(total), cells)
+    write_shards(
+        alloc,
+        source,
+        layout_of(source, min, total),
+        Wanted::All(total),
+        cells,
+    )
 }
 
 /// Writes the shards of these indices over words, or over bytes, those that `split_source_rows`
@@ -191,7 +207,13 @@ pub fn split_source_rows_at<W: Word, R: Room>(
         (R.words cells.new)) }
     ensures err { OnErr result (cells.new ≡ cells.old) }
 {
-    write_shards(alloc, source, layout_of(source, min, total), Wanted::At(indices), cells)
+    write_shards(
+        alloc,
+        source,
+        layout_of(source, min, total),
+        Wanted::At(indices),
+        cells,
+    )
 }
 
 /// Writes the shards that are asked for over the rows of the cells.
@@ -300,12 +322,7 @@ fn make_shards<W: Word>(
 }
 
 /// Shards with these rows of cells, one for each index that is asked for.
-fn cut_rows(
-    alloc: Global,
-    cells: &[F],
-    layout: Layout,
-    wanted: Wanted<'_>,
-) -> Mem<Vec<Shard>>
+fn cut_rows(alloc: Global, cells: &[F], layout: Layout, wanted: Wanted<'_>) -> Mem<Vec<Shard>>
     requires { length cells.now ≡ length (indices_in wanted) * layout.width }
     ensures { IfOk result (λ shards. AreCut layout.min layout.total layout.width
         (indices_in wanted.entry) cells.now (length (indices_in wanted.entry)) shards.items) }
