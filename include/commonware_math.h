@@ -283,7 +283,7 @@ CWM_MUST_USE uint32_t cwm_systematic_sizes(size_t size, uint32_t min, uint32_t t
 /* Writes the parity rows of the `size` bytes of data, by rising index, over the m bytes of `parity`, and the mask into *mask.
  * If min is total, there are none, and m is 0.
  * 1 <= min <= total, else CWM_MISMATCH. cwm_systematic_sizes takes the sizes, and m is total - min times the size of a row,
- * else CWM_WRONG_SIZE. Takes memory for 3 times min words for each parity row, for 28 times N words and 2^15, and, if the mask
+ * else CWM_WRONG_SIZE. Takes memory for 3 times min words for each parity row, for 16 times N words and 2^14, and, if the mask
  * is not 0, for a byte for each word of the data rows. */
 CWM_MUST_USE uint32_t cwm_systematic_encode(const uint8_t *data, size_t size, uint32_t min, uint32_t total, uint8_t *parity,
                                             size_t m, uint32_t *mask);
@@ -298,8 +298,8 @@ CWM_MUST_USE uint32_t cwm_systematic_encode(const uint8_t *data, size_t size, ui
  * distinct indices: CWM_TOO_FEW; rows that are not those of any data: CWM_INCONSISTENT. So the call finds damage to one row
  * if there are more than `min` distinct indices; if there are just `min`, it may not. Nothing is signed: keep a hash of the
  * data to compare.
- * Takes memory for 17 words for each of the k rows and for 2^13, and for each index in hand past the first `min` and each row
- * that is wanted and not in hand for 3 times min words; if there is such an index or row, also for 28 times N words and 2^15. If
+ * Takes memory for 17 words for each of the k rows and for 4352, and for each index in hand past the first `min` and each row
+ * that is wanted and not in hand for 3 times min words; if there is such an index or row, also for 16 times N words and 2^14. If
  * there are fewer than `min` distinct indices, it takes memory for the k rows alone, however large `total` is. Else memory grows
  * with `total`: limit it before you rebuild rows from someone you do not trust. */
 CWM_MUST_USE uint32_t cwm_systematic_rebuild(const uint32_t *indices, size_t k, const uint8_t *rows, size_t n, size_t size,

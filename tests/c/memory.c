@@ -196,14 +196,14 @@ static void systematic(uint32_t min, uint32_t total) {
   for (size_t i = 0; i < BLOCK; i++) bytes[i] = 7 * i % 251;
   for (int masked = 0; masked < (total > 200 ? 1 : 2); masked++) {
     size_t lost = total - min < min ? total - min : min, k = total - lost, flags = masked ? size / 8 * min / 8 + 1 : 0;
-    size_t made = 28 * n + 32768, rebuilt = 17 * k + 3 * min * (lost + k - min) + made;
+    size_t made = 16 * n + 16384, rebuilt = 17 * k + 3 * min * (lost + k - min) + made;
     if (masked) memset(bytes, 255, 8);
     peak = 0;
     count("cwm_systematic_encode", cwm_systematic_encode(bytes, BLOCK, min, total, bytes + min * size, (total - min) * size, &mask), 1, 3 * min * (total - min) + made + flags);
     /* all that can be are lost, and wanted; then none is, and there are more than are needed */
     count("cwm_systematic_rebuild", cwm_systematic_rebuild(indices + lost, k, bytes + lost * size, k * size, BLOCK, min, total, mask, indices, lost, out, lost * size), 1, rebuilt);
     count("cwm_systematic_decode", cwm_systematic_decode(indices + lost, k, bytes + lost * size, k * size, min, total, mask, out, BLOCK), 1, rebuilt);
-    count("cwm_systematic_decode, none lost", cwm_systematic_decode(indices, min, bytes, min * size, min, total, mask, out, BLOCK), 1, 17 * min + 8192);
+    count("cwm_systematic_decode, none lost", cwm_systematic_decode(indices, min, bytes, min * size, min, total, mask, out, BLOCK), 1, 17 * min + 4352);
     count("cwm_systematic_verify", cwm_systematic_verify(indices, total, bytes, total * size, BLOCK, min, total, mask, &belong), 1, 17 * total + 3 * min * (total - min) + made);
     if (total > 200) continue;
     for (uint32_t i = 0; i < (total - min) / 2; i++) bytes[i * size] ^= 1;
@@ -256,7 +256,7 @@ static void claims(void) {
   /* rows of one word each, of too few indices; and all data rows, of which none has to be rebuilt */
   count_of("cwm_systematic_verify, too few of 2^32 - 1", CWM_TOO_FEW,
            cwm_systematic_verify(indices, k, (uint8_t *)a, 8 * k, 8 * (k + 1), k + 1, total, 0, &belong), 1, 16 * k + 64);
-  count("cwm_systematic_decode, of 2^32 - 1", cwm_systematic_decode(indices, k, (uint8_t *)a, 8 * k, k, total, 0, (uint8_t *)b, 8 * k), 1, 17 * k + 8192);
+  count("cwm_systematic_decode, of 2^32 - 1", cwm_systematic_decode(indices, k, (uint8_t *)a, 8 * k, k, total, 0, (uint8_t *)b, 8 * k), 1, 17 * k + 4352);
 }
 
 int main(void) {
