@@ -65,7 +65,9 @@ enum cwm_status {
   CWM_INVALID_VARINT = 10, /* the bytes begin with no length */
   CWM_INVALID_LENGTH = 11, /* the length is zero */
   CWM_EXTRA_DATA = 12,     /* bytes follow the polynomial */
-  CWM_REPEATED = 13        /* a point is there twice */
+  CWM_REPEATED = 13,       /* a point is there twice */
+  CWM_TOO_MANY = 14,       /* a block with a root has more than 65,536 shards */
+  CWM_WRONG_ROOT = 15      /* the data of the shards under a root have another root */
 };
 
 /* Returns the version of the library, as CWM_VERSION is that of the header. */
@@ -88,6 +90,8 @@ static inline const char *cwm_status_name(uint32_t status) {
     case CWM_INVALID_LENGTH: return "CWM_INVALID_LENGTH";
     case CWM_EXTRA_DATA: return "CWM_EXTRA_DATA";
     case CWM_REPEATED: return "CWM_REPEATED";
+    case CWM_TOO_MANY: return "CWM_TOO_MANY";
+    case CWM_WRONG_ROOT: return "CWM_WRONG_ROOT";
     default: return "no status";
   }
 }
@@ -337,6 +341,61 @@ CWM_MUST_USE uint32_t cwm_systematic_decode(const uint32_t *indices, size_t k, c
  * is wanted: limit `total`. */
 CWM_MUST_USE uint32_t cwm_systematic_verify(const uint32_t *indices, size_t k, const uint8_t *rows, size_t n, size_t size,
                                             uint32_t min, uint32_t total, uint32_t mask, uint32_t *belong);
+
+/* Roots of systematic shards: 32 bytes that bind the data, and with them each shard is checked alone, whoever hands it in.
+ *
+ * The record of a shard is the size of the data, its index, min, total and the mask, 8 bytes each, the highest first, and then
+ * its row. The leaf of a record is the SHA-512/256 of a byte of 0 and the record. Each level above the leaves has a node for
+ * each two nodes, the SHA-512/256 of a byte of 1 and their digests; a last node without a neighbour goes up as it is. The only
+ * node of the last level is the root. It depends on the data, min and total alone.
+ *
+ * The path of a shard is the digests of the neighbours on its way up, from below. Paths of several shards lie in places of
+ * equally many digests: a place begins with the path of its shard, and the digests behind the path are not read.
+ *
+ * If an honest cwm_commit made the root, a shard that is under it is the one that was committed to, and so are the data that
+ * cwm_join_under gives, or two different messages that were hashed have the same digest. Someone who makes a root himself can
+ * make it of shards of no data. A root hides nothing. Get it from where you trust it. */
+
+/* How many bytes a digest has. */
+#define CWM_DIGEST_SIZE 32
+
+/* Writes how many digests the path of shard `index` has into *steps, and how many the longest path has, which a place has,
+ * into *room.
+ * index is below total, else CWM_WRONG_INDEX. Takes no memory. */
+CWM_MUST_USE uint32_t cwm_path_sizes(uint32_t total, uint32_t index, size_t *steps, size_t *room);
+
+/* Does what cwm_systematic_encode does, writes the root over the 32 bytes of `root`, and writes over the p digests of `paths`,
+ * of 32 bytes each, a place for each shard, by rising index: its path, and zeros behind it.
+ * 1 <= min <= total, else CWM_MISMATCH. size and m are as for cwm_systematic_encode, and p is total times the `room` of
+ * cwm_path_sizes, else CWM_WRONG_SIZE. total is at most 65,536, else CWM_TOO_MANY. Takes memory as cwm_systematic_encode does,
+ * for the parity rows twice, for a row, for p digests, and for 24 words for each shard. */
+CWM_MUST_USE uint32_t cwm_commit(const uint8_t *data, size_t size, uint32_t min, uint32_t total, uint8_t *parity, size_t m,
+                                 uint32_t *mask, uint8_t *root, uint8_t *paths, size_t p);
+
+/* Writes 1 into *under if the n bytes of `shard` are under the root as the row of this index and this mask, by the p digests of
+ * `path`, and else 0: also if p is not the `steps` of cwm_path_sizes, or index is `total` or more.
+ * 1 <= min <= total, else CWM_MISMATCH. cwm_systematic_sizes takes the sizes, and n is the size of a row, else CWM_WRONG_SIZE.
+ * Takes no memory. */
+CWM_MUST_USE uint32_t cwm_shard_is_under(const uint8_t *root, const uint8_t *shard, size_t n, size_t size, uint32_t min,
+                                         uint32_t total, uint32_t mask, uint32_t index, const uint8_t *path, size_t p,
+                                         uint32_t *under);
+
+/* Writes the `size` bytes of data that the shards under the root give back. Shard i of k has the index indices[i], the mask
+ * masks[i], row i of the n bytes of `shards`, and its path in place i of the p digests of `paths`. Leaves out each shard that is
+ * not under the root by its path, as cwm_shard_is_under tells it. Writes the positions of these, rising, over the first of the
+ * `room` places of `left_out`, and how many they are into *many. The position of a shard is its place among the k.
+ * If `strict` is not 0, the call commits to the data again, and gives them only if this is their root. So it gives no two
+ * different data under one root, whoever made it, unless two different messages that were hashed have the same digest.
+ * 1 <= min <= total, else CWM_MISMATCH. cwm_systematic_sizes takes the sizes, n is k times the size of a row, l is k, p is k
+ * times the `room` of cwm_path_sizes, and room is k or more, else CWM_WRONG_SIZE. Then, in this order: total is more than
+ * 65,536: CWM_TOO_MANY; shards under the root have different masks: CWM_INCONSISTENT; what cwm_systematic_decode refuses of the
+ * rows of the shards under the root: fewer than `min` distinct indices are CWM_TOO_FEW; and if strict is not 0 and the data
+ * have another root: CWM_WRONG_ROOT. Takes memory as cwm_systematic_decode does and for 20 words for each of the k shards. If
+ * strict is not 0, also for the data, and as cwm_commit does but for the paths. */
+CWM_MUST_USE uint32_t cwm_join_under(const uint8_t *root, const uint32_t *indices, size_t k, const uint32_t *masks, size_t l,
+                                     const uint8_t *shards, size_t n, const uint8_t *paths, size_t p, uint32_t min,
+                                     uint32_t total, uint32_t strict, uint8_t *data, size_t size, size_t *left_out,
+                                     size_t room, size_t *many);
 
 #ifdef __cplusplus
 }

@@ -1,17 +1,21 @@
-//! Finds the installed library: in the folder that COMMONWARE_MATH_LIB_DIR names, or by the file of pkg-config.
+//! Finds the library: in the folder that COMMONWARE_MATH_LIB_DIR names, in the package's own, or by the file of pkg-config.
 
 use std::env;
 use std::fs;
-use std::path::PathBuf;
+use std::path::{Path, PathBuf};
 
 fn main() {
     for name in ["COMMONWARE_MATH_LIB_DIR", "PKG_CONFIG_PATH"] {
         println!("cargo:rerun-if-env-changed={name}");
     }
+    // A package that has the library in it is a folder of its own, which lies anywhere.
+    let own = PathBuf::from(env::var_os("CARGO_MANIFEST_DIR").unwrap()).join("lib");
     let folder = match env::var_os("COMMONWARE_MATH_LIB_DIR") {
         Some(folder) => PathBuf::from(folder),
+        None if own.is_dir() => own,
         None => by_pkg_config().expect(
-            "no commonware_math.pc: install the library, and let PKG_CONFIG_PATH or COMMONWARE_MATH_LIB_DIR name where it is",
+            "no commonware_math.pc: install the library, and let PKG_CONFIG_PATH or COMMONWARE_MATH_LIB_DIR name where it is, \
+             or take the package that has the library in it",
         ),
     };
     let archive = folder.join("libcommonware_math.a");
@@ -30,11 +34,12 @@ fn by_pkg_config() -> Option<PathBuf> {
     env::split_paths(&named)
         .chain(usual.iter().map(PathBuf::from))
         .chain(home)
-        .find_map(|folder| library_folder(&fs::read_to_string(folder.join("commonware_math.pc")).ok()?))
+        .find_map(|folder| library_folder(&folder, &fs::read_to_string(folder.join("commonware_math.pc")).ok()?))
 }
 
-/// The value of `libdir`, where `${prefix}` stands for that of `prefix`.
-fn library_folder(file: &str) -> Option<PathBuf> {
+/// The value of `libdir`, where `${prefix}` stands for that of `prefix`, and `${pcfiledir}` for the folder of the file.
+fn library_folder(folder: &Path, file: &str) -> Option<PathBuf> {
     let value = |name: &str| file.lines().find_map(|line| line.strip_prefix(name)?.strip_prefix('='));
-    Some(PathBuf::from(value("libdir")?.replace("${prefix}", value("prefix")?)))
+    let libdir = value("libdir")?.replace("${prefix}", value("prefix")?);
+    Some(PathBuf::from(libdir.replace("${pcfiledir}", folder.to_str()?)))
 }

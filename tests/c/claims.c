@@ -28,6 +28,14 @@ int main(void) {
   if (cwm_systematic_verify(same, 2, data_rows, 16, 16, 2, total, 0, &belong) != CWM_TOO_FEW) return 12;
   if (cwm_systematic_decode(indices, 2, data_rows, 16, 2, total, 0, data, 16) != CWM_DONE) return 13;
 
+  static uint8_t paths[65537 * 17 * CWM_DIGEST_SIZE];
+  uint8_t root[CWM_DIGEST_SIZE];
+  uint32_t mask;
+  size_t steps, room;
+  if (cwm_path_sizes(65537, 0, &steps, &room) != CWM_DONE || room != 17) return 14;
+  if (cwm_commit(data, 0, 1, 65537, data, 0, &mask, root, paths, 65537 * 17) != CWM_TOO_MANY) return 15;
+  if (cwm_shard_is_under(root, data, 8, 8, 1, total, 0, total - 1, paths, 32, &belong) != CWM_DONE || belong != 0) return 16;
+
   /* between the points 1 and -1 the value at 5 is three times the one, less twice the other */
   if (cwm_weights_at_roots(total, opposite, 2, 5, weights, 2) != CWM_DONE) return 7;
   if (weights[0] != 3 || weights[1] != CWM_MODULUS - 2) return 8;

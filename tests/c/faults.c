@@ -18,6 +18,7 @@ struct given {
   size_t written, wrong[3], size, many;
   uint8_t parity[2 * ROW], out[2 * ROW], data[12];
   uint32_t mask, belong;
+  uint8_t root[CWM_DIGEST_SIZE], paths[8 * CWM_DIGEST_SIZE];
 };
 
 static struct given now, before;
@@ -248,5 +249,37 @@ int main(void) {
   REFUSES(CWM_TOO_FEW, cwm_systematic_verify(copies, 1, row + 2 * ROW, 8, 12, 2, 4, 0, &now.belong));
   /* rows that differ are an answer */
   if (cwm_systematic_verify(copies, 2, row + 2 * ROW, 16, 12, 2, 4, 0, &now.belong) != CWM_DONE || now.belong != 0) return 6;
+  now.belong = before.belong;
+
+  /* the roots of these rows, and of rows under another mask */
+  enum { PLACE = 2 * CWM_DIGEST_SIZE };
+  const uint32_t many_shards = 65537, masks[5] = {0, 0, 0, 0, 0};
+  uint8_t root[CWM_DIGEST_SIZE], other_root[CWM_DIGEST_SIZE], paths[4 * PLACE], other_paths[4 * PLACE], parity[2 * ROW];
+  uint8_t masked[12], masked_row[4 * ROW] = {0};
+  uint32_t other = 7, other_masks[4];
+  if (cwm_commit(data, 12, 2, 4, parity, 2 * ROW, &mask, root, paths, 8) != CWM_DONE || mask != 0) return 7;
+  memset(masked, 255, 12);
+  memcpy(masked_row, masked, 12);
+  if (cwm_commit(masked, 12, 2, 4, masked_row + 2 * ROW, 2 * ROW, &other, other_root, other_paths, 8) != CWM_DONE || other == 0) return 8;
+  for (int i = 0; i < 4; i++) other_masks[i] = other;
+  REFUSES(CWM_WRONG_INDEX, cwm_path_sizes(4, 4, &now.size, &now.many));
+  REFUSES(CWM_MISMATCH, cwm_commit(data, 12, 0, 4, now.parity, 5, &now.mask, now.root, now.paths, 7));
+  REFUSES(CWM_WRONG_SIZE, cwm_commit(data, 12, 2, 4, now.parity, 5, &now.mask, now.root, now.paths, 8));
+  REFUSES(CWM_WRONG_SIZE, cwm_commit(data, 12, 2, 4, now.parity, 2 * ROW, &now.mask, now.root, now.paths, 7));
+  REFUSES(CWM_WRONG_SIZE, cwm_commit(data, 0, 2, many_shards, now.parity, 0, &now.mask, now.root, now.paths, 8));
+  REFUSES(CWM_MISMATCH, cwm_shard_is_under(root, row, 7, 12, 5, 4, 0, 4, paths, 2, &now.belong));
+  REFUSES(CWM_WRONG_SIZE, cwm_shard_is_under(root, row, 7, 12, 2, 4, 0, 4, paths, 2, &now.belong));
+  REFUSES(CWM_MISMATCH, cwm_join_under(root, in_order, 4, masks, 3, row, 31, paths, 7, 5, 4, 1, now.data, 12, now.wrong, 2, &now.many));
+  REFUSES(CWM_WRONG_SIZE, cwm_join_under(root, in_order, 3, masks, 2, row, 24, paths, 6, 2, 4, 1, now.data, 12, now.wrong, 3, &now.many));
+  REFUSES(CWM_WRONG_SIZE, cwm_join_under(root, in_order, 3, masks, 3, row, 23, paths, 6, 2, 4, 1, now.data, 12, now.wrong, 3, &now.many));
+  REFUSES(CWM_WRONG_SIZE, cwm_join_under(root, in_order, 3, masks, 3, row, 24, paths, 5, 2, 4, 1, now.data, 12, now.wrong, 3, &now.many));
+  REFUSES(CWM_WRONG_SIZE, cwm_join_under(root, in_order, 3, masks, 3, row, 24, paths, 6, 2, 4, 1, now.data, 12, now.wrong, 2, &now.many));
+  REFUSES(CWM_TOO_MANY, cwm_join_under(root, in_order, 0, masks, 0, row, 0, paths, 0, 2, many_shards, 1, now.data, 12, now.wrong, 3, &now.many));
+  /* no shard, one alone, and one that is not under the root beside one that is */
+  REFUSES(CWM_TOO_FEW, cwm_join_under(root, in_order, 0, masks, 0, row, 0, paths, 0, 2, 4, 1, now.data, 12, now.wrong, 3, &now.many));
+  REFUSES(CWM_TOO_FEW, cwm_join_under(root, in_order, 1, masks, 1, row, 8, paths, 2, 2, 4, 1, now.data, 12, now.wrong, 3, &now.many));
+  REFUSES(CWM_TOO_FEW, cwm_join_under(root, high_index + 3, 2, masks, 2, row, 16, paths, 4, 2, 4, 0, now.data, 12, now.wrong, 3, &now.many));
+  REFUSES(CWM_TOO_FEW, cwm_join_under(root, in_order, 2, other_masks, 2, row, 16, paths, 4, 2, 4, 0, now.data, 12, now.wrong, 3, &now.many));
+  REFUSES(CWM_TOO_FEW, cwm_join_under(other_root, in_order, 3, masks, 3, row, 24, paths, 6, 2, 4, 0, now.data, 12, now.wrong, 3, &now.many));
   return 0;
 }

@@ -14,9 +14,9 @@ int main(void) {
   WANT(cwm_version() == CWM_VERSION);
   WANT(cwm_status_text(CWM_OUT_OF_RANGE, text, sizeof text) == CWM_DONE && strcmp(text, "out of range") == 0);
   WANT(cwm_status_text(CWM_DONE, text, 31) == CWM_WRONG_SIZE);
-  WANT(strcmp(cwm_status_name(CWM_REPEATED), "CWM_REPEATED") == 0 && strcmp(cwm_status_name(14), "no status") == 0);
-  WANT(cwm_status_text(14, text, sizeof text) == CWM_DONE && strcmp(text, "no status") == 0);
-  WANT(cwm_status_text(13, text, sizeof text) == CWM_DONE && strcmp(text, "no status") != 0);
+  WANT(strcmp(cwm_status_name(CWM_REPEATED), "CWM_REPEATED") == 0 && strcmp(cwm_status_name(16), "no status") == 0);
+  WANT(cwm_status_text(16, text, sizeof text) == CWM_DONE && strcmp(text, "no status") == 0);
+  WANT(cwm_status_text(15, text, sizeof text) == CWM_DONE && strcmp(text, "no status") != 0);
 
   /* 4 + 6 X + 8 X^2 */
   uint64_t cells[4] = {4, 6, 8, 0}, value = 0;
@@ -123,5 +123,22 @@ int main(void) {
   row[3] ^= 1;
   WANT(cwm_systematic_verify(all, 3, row, 24, 10, 2, 3, mask, &belong) == CWM_DONE && belong == 0);
   WANT(cwm_systematic_rebuild(all, 3, row, 24, 10, 2, 3, mask, first, 1, lost_row, 8) == CWM_INCONSISTENT);
+
+  /* the root of these shards: the paths of the first two have two digests, and the last one's has one; the first shard is spoiled */
+  size_t steps = 0, room = 0, places[3] = {7, 7, 7};
+  uint8_t root[CWM_DIGEST_SIZE], paths[6 * CWM_DIGEST_SIZE];
+  const uint32_t masks[3] = {0, 0, 0};
+  uint32_t under = 7;
+  WANT(cwm_path_sizes(3, 2, &steps, &room) == CWM_DONE && steps == 1 && room == 2);
+  WANT(cwm_commit(bytes, 10, 2, 3, row + 16, 8, &mask, root, paths, 5) == CWM_WRONG_SIZE);
+  WANT(cwm_commit(bytes, 10, 2, 3, row + 16, 8, &mask, root, paths, 6) == CWM_DONE && mask == 0);
+  WANT(cwm_shard_is_under(root, row + 16, 8, 10, 2, 3, mask, 2, paths + 4 * CWM_DIGEST_SIZE, 1, &under) == CWM_DONE && under == 1);
+  WANT(cwm_shard_is_under(root, row, 8, 10, 2, 3, mask, 0, paths, 2, &under) == CWM_DONE && under == 0);
+  for (uint32_t strict = 0; strict < 2; strict++) {
+    memset(data_back, 0, 10);
+    WANT(cwm_join_under(root, all, 3, masks, 3, row, 24, paths, 6, 2, 3, strict, data_back, 10, places, 3, &many) == CWM_DONE);
+    WANT(many == 1 && places[0] == 0 && places[1] == 7 && memcmp(data_back, bytes, 10) == 0);
+  }
+  WANT(cwm_join_under(root, all, 2, masks, 2, row, 16, paths, 4, 2, 3, 1, data_back, 10, places, 3, &many) == CWM_TOO_FEW);
   return 0;
 }

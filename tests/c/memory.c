@@ -213,6 +213,29 @@ static void systematic(uint32_t min, uint32_t total) {
   __real_free(bytes), __real_free(out);
 }
 
+/* Roots of the same data: the parity rows twice, a row, the paths, and digests of each shard, beside what is encoded; then the shards
+ * of which one is forged, and if it is strict, all of it but the paths, and the data, once more. */
+static void roots(uint32_t min, uint32_t total) {
+  uint8_t *bytes = block(ROOM), *root = block(CWM_DIGEST_SIZE), *paths, *out = block(BLOCK);
+  uint32_t mask, *masks = block(total * sizeof *masks);
+  size_t size, part, steps, room, many, n = 1;
+  while (n < total) n *= 2;
+  if (cwm_systematic_sizes(BLOCK, min, total, 0, &size, &part) != CWM_DONE || size * total > ROOM) exit(2);
+  if (cwm_path_sizes(total, 0, &steps, &room) != CWM_DONE || steps != room) exit(2);
+  paths = block(total * room * CWM_DIGEST_SIZE + 1);
+  memset(bytes, 0, size * min);
+  for (size_t i = 0; i < BLOCK; i++) bytes[i] = 7 * i % 251;
+  size_t encoded = 3 * min * (total - min) + 16 * n + 16384, made = encoded + 2 * (total - min) * size / 8 + size / 8 + 24 * total;
+  peak = 0;
+  count("cwm_commit", cwm_commit(bytes, BLOCK, min, total, bytes + min * size, (total - min) * size, &mask, root, paths, total * room), 1, made + 4 * total * room);
+  for (uint32_t i = 0; i < total; i++) masks[i] = mask;
+  if (total > min) bytes[0] ^= 1;
+  size_t decoded = 17 * total + encoded + 20 * total;
+  count("cwm_join_under", cwm_join_under(root, indices, total, masks, total, bytes, total * size, paths, total * room, min, total, 0, out, BLOCK, wrong, total, &many), 1, decoded);
+  count("cwm_join_under, strict", cwm_join_under(root, indices, total, masks, total, bytes, total * size, paths, total * room, min, total, 1, out, BLOCK, wrong, total, &many), 1, decoded + BLOCK / 8 + made);
+  __real_free(bytes), __real_free(root), __real_free(paths), __real_free(out), __real_free(masks);
+}
+
 /* Shards of 40 MB, of which 10 of 16 give them back: beside them a fifth of the data may be taken, and 1.2 times the data where they
  * are joined. */
 static void large(void) {
@@ -269,7 +292,7 @@ int main(void) {
   claims();
   for (size_t i = 0; i < sizeof splits / sizeof *splits; i++) {
     shards(splits[i][0], splits[i][1]);
-    if (splits[i][1] <= 1000) systematic(splits[i][0], splits[i][1]);
+    if (splits[i][1] <= 1000) systematic(splits[i][0], splits[i][1]), roots(splits[i][0], splits[i][1]);
   }
   large();
   for (int i = 0; calls[i].name != NULL; i++) {

@@ -102,5 +102,23 @@ int main(void) {
   WANT(cwm_systematic_decode(NULL, 0, NULL, 0, 2, 3, 0, block, 9) == CWM_TOO_FEW);
   WANT(cwm_systematic_verify(NULL, 0, NULL, 0, 0, 2, 3, 0, &belong) == CWM_TOO_FEW && belong == 7);
   WANT(cwm_systematic_verify(indices, 3, NULL, 0, 0, 2, 3, 0, &belong) == CWM_DONE && belong == 1);
+
+  /* roots: no data, no shards, and the path of the only shard, which has no digest */
+  size_t steps = 7, room = 7;
+  uint8_t root[CWM_DIGEST_SIZE], paths[6 * CWM_DIGEST_SIZE];
+  const uint32_t masks[3] = {0, 0, 0};
+  uint32_t under = 7;
+  WANT(cwm_path_sizes(1, 0, &steps, &room) == CWM_DONE && steps == 0 && room == 0);
+  WANT(cwm_commit(NULL, 0, 1, 1, NULL, 0, &mask, root, NULL, 0) == CWM_DONE && mask == 0);
+  WANT(cwm_shard_is_under(root, NULL, 0, 0, 1, 1, 0, 0, NULL, 0, &under) == CWM_DONE && under == 1);
+  WANT(cwm_shard_is_under(root, NULL, 0, 8, 1, 1, 0, 0, NULL, 0, &under) == CWM_WRONG_SIZE && under == 1);
+  WANT(cwm_join_under(root, indices, 1, masks, 1, NULL, 0, NULL, 0, 1, 1, 1, NULL, 0, wrong, 1, &many) == CWM_DONE && many == 0);
+  WANT(cwm_join_under(root, NULL, 0, NULL, 0, NULL, 0, NULL, 0, 1, 1, 1, NULL, 0, NULL, 0, &many) == CWM_TOO_FEW);
+  WANT(cwm_commit(NULL, 0, 2, 3, NULL, 0, &mask, root, NULL, 0) == CWM_WRONG_SIZE);
+  WANT(cwm_commit(NULL, 0, 2, 3, NULL, 0, &mask, root, paths, 6) == CWM_DONE && mask == 0);
+  WANT(cwm_join_under(root, indices, 3, masks, 3, NULL, 0, NULL, 0, 2, 3, 0, NULL, 0, wrong, 3, &many) == CWM_WRONG_SIZE);
+  WANT(cwm_join_under(root, indices, 3, NULL, 0, NULL, 0, paths, 6, 2, 3, 0, NULL, 0, wrong, 3, &many) == CWM_WRONG_SIZE);
+  WANT(cwm_join_under(root, indices, 3, masks, 3, NULL, 0, paths, 6, 2, 3, 0, NULL, 0, NULL, 0, &many) == CWM_WRONG_SIZE);
+  WANT(cwm_join_under(root, indices, 3, masks, 3, NULL, 0, paths, 6, 2, 3, 1, NULL, 0, wrong, 3, &many) == CWM_DONE && many == 0);
   return 0;
 }

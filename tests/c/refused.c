@@ -1,7 +1,7 @@
 /* Each call of the C library with each of its allocations refused in turn: it answers CWM_OUT_OF_MEMORY, and all
  * that it was given is as it was. With nothing refused it is done, and each time with the same answer.
  *
- * `.ci/sweeps` loads the library of .ci/refuse.c before it, and asks that for refusals by requests of impossible sizes. */
+ * `.ci/sweeps` loads the library of tests/preload/refuse.c before it, and asks that for refusals by requests of impossible sizes. */
 #include "commonware_math.h"
 
 #include <stdio.h>
@@ -9,7 +9,7 @@
 #include <string.h>
 
 enum { ROWS = 512, COLS = 3, POINTS = 20, WORDS = 40, MIN = 3, TOTAL = 7, SHARD = 14, FEW = 3, SMALL = 16 };
-enum { BLOCK = 100, BLOCK_SHARD = 48, ROW = 40, LOST = 2 };
+enum { BLOCK = 100, BLOCK_SHARD = 48, ROW = 40, LOST = 2, PATH = 3 };
 
 /* All that the calls are given. */
 struct given {
@@ -22,6 +22,8 @@ struct given {
   uint8_t block[BLOCK], block_shards[TOTAL * BLOCK_SHARD], spoiled_bytes[TOTAL * BLOCK_SHARD];
   uint32_t lost[LOST], mask, belong;
   uint8_t rows_in_hand[TOTAL * ROW], spoiled_rows[TOTAL * ROW], out[LOST * ROW];
+  uint32_t masks[TOTAL];
+  uint8_t root[CWM_DIGEST_SIZE], paths[TOTAL * PATH * CWM_DIGEST_SIZE];
 };
 
 static struct given now, before, answer;
@@ -77,6 +79,23 @@ static uint32_t systematic_decode(void) {
 static uint32_t systematic_verify(void) {
   return cwm_systematic_verify(now.indices, TOTAL, now.rows_in_hand, TOTAL * ROW, BLOCK, MIN, TOTAL, now.mask, &now.belong);
 }
+static uint32_t path_sizes(void) { return cwm_path_sizes(TOTAL, 2, &now.count, &now.many); }
+static uint32_t commit(void) {
+  return cwm_commit(now.block, BLOCK, MIN, TOTAL, now.rows_in_hand + MIN * ROW, (TOTAL - MIN) * ROW, &now.mask, now.root, now.paths,
+                    TOTAL * PATH);
+}
+static uint32_t shard_is_under(void) {
+  return cwm_shard_is_under(now.root, now.rows_in_hand, ROW, BLOCK, MIN, TOTAL, now.mask, 0, now.paths, PATH, &now.belong);
+}
+/* All shards are there, and one is wrong. */
+static uint32_t join_under(void) {
+  return cwm_join_under(now.root, now.indices, TOTAL, now.masks, TOTAL, now.spoiled_rows, TOTAL * ROW, now.paths, TOTAL * PATH, MIN, TOTAL, 0,
+                        now.block, BLOCK, now.wrong, POINTS, &now.many);
+}
+static uint32_t join_under_strictly(void) {
+  return cwm_join_under(now.root, now.indices, TOTAL, now.masks, TOTAL, now.spoiled_rows, TOTAL * ROW, now.paths, TOTAL * PATH, MIN, TOTAL, 1,
+                        now.block, BLOCK, now.wrong, POINTS, &now.many);
+}
 static uint32_t shard_bytes_sizes(void) { return cwm_shard_bytes_sizes(BLOCK, MIN, TOTAL, &now.count); }
 
 static const struct {
@@ -93,7 +112,9 @@ static const struct {
     {"cwm_weights_at_roots, many", weights_at_many, 1}, {"cwm_systematic_sizes", systematic_sizes, 0},
     {"cwm_systematic_encode", systematic_encode, 1}, {"cwm_systematic_rebuild", systematic_rebuild, 1},
     {"cwm_systematic_decode", systematic_decode, 1}, {"cwm_systematic_verify", systematic_verify, 1},
-    {"cwm_systematic_rebuild_corrected", systematic_rebuild_corrected, 1},
+    {"cwm_systematic_rebuild_corrected", systematic_rebuild_corrected, 1}, {"cwm_path_sizes", path_sizes, 0},
+    {"cwm_commit", commit, 1}, {"cwm_shard_is_under", shard_is_under, 0}, {"cwm_join_under", join_under, 1},
+    {"cwm_join_under, strict", join_under_strictly, 1},
 };
 
 /* Words below P, a third of the rows missing, three coefficients in bytes, shards of words and of bytes with rising indices,
@@ -116,7 +137,10 @@ static int make(void) {
              && cwm_split(before.data, WORDS, MIN, TOTAL, before.shards, TOTAL * SHARD) == CWM_DONE
              && cwm_systematic_sizes(BLOCK, MIN, TOTAL, 0, &n, &before.count) == CWM_DONE && n == ROW
              && cwm_systematic_encode(before.block, BLOCK, MIN, TOTAL, before.rows_in_hand + MIN * ROW, (TOTAL - MIN) * ROW,
-                                      &before.mask) == CWM_DONE && before.mask != 0;
+                                      &before.mask) == CWM_DONE && before.mask != 0
+             && cwm_commit(before.block, BLOCK, MIN, TOTAL, before.rows_in_hand + MIN * ROW, (TOTAL - MIN) * ROW, &before.mask, before.root,
+                           before.paths, TOTAL * PATH) == CWM_DONE;
+  for (int i = 0; i < TOTAL; i++) before.masks[i] = before.mask;
   memcpy(before.spoiled, before.shards, sizeof before.spoiled);
   before.spoiled[2 * SHARD] ^= 1;
   memcpy(before.spoiled_rows, before.rows_in_hand, sizeof before.spoiled_rows);

@@ -1,5 +1,5 @@
 #!/usr/bin/env python3
-"""Joins shard files as docs/SHARDFILE.md describes them, and nothing else: shardfile.py SHARD.. > FILE.
+"""Joins shard files as docs/SHARDFILE_FORMAT.md describes them, and nothing else: shardfile.py SHARD.. > FILE.
 
 It takes for each block the first MIN shards whose record fits, and ends with an assertion where there are fewer, or where a
 header or a block is not as the page says.

@@ -31,10 +31,10 @@ from ._library import library as _lib, number as _number
 
 # `eval` is left out, since it would hide the one of Python: it is `commonware_math.eval`.
 __all__ = [
-    "MODULUS", "version", "shard_size", "split", "join", "join_corrected", "systematic", "evaluate", "interpolate", "recover",
-    "correct", "decode", "weights", "weights_at_roots", "encode_poly", "decode_poly", "Error", "OutOfMemory", "OutOfRange",
-    "WrongSize", "TooFew", "Mismatch", "WrongIndex", "Conflict", "Inconsistent", "EndOfBuffer", "InvalidVarint",
-    "InvalidLength", "ExtraData", "Repeated",
+    "MODULUS", "version", "proved", "shard_size", "split", "join", "join_corrected", "roots", "systematic", "evaluate", "interpolate",
+    "recover", "correct", "decode", "weights", "weights_at_roots", "encode_poly", "decode_poly", "Error", "OutOfMemory",
+    "OutOfRange", "WrongSize", "TooFew", "Mismatch", "WrongIndex", "Conflict", "Inconsistent", "EndOfBuffer", "InvalidVarint",
+    "InvalidLength", "ExtraData", "Repeated", "TooMany", "WrongRoot",
 ]
 
 #: The version of this package. ``version()`` is that of the library.
@@ -169,6 +169,18 @@ class Repeated(Error, ValueError):
     """A point is there twice."""
 
     status = 13
+
+
+class TooMany(Error, ValueError):
+    """A block with a root has more than 65,536 shards."""
+
+    status = 14
+
+
+class WrongRoot(Error):
+    """The data of the shards under a root have another root."""
+
+    status = 15
 
 
 _ERRORS = {error.status: error for error in Error.__subclasses__()}
@@ -337,6 +349,19 @@ def version() -> tuple[int, int, int]:
     """
     number: int = _lib.cwm_version()
     return number // 10000, number // 100 % 100, number % 100
+
+
+def proved() -> dict[str, str]:
+    """Returns which proved sources the library was made of, as the file beside it says: its ``version``; the ``commit`` and
+    the ``date`` of the sources; the ``kit`` that proved them, with its logic; the ``levels`` of processor for which the
+    library is there. A package also has ``gate``: the last line of the gate of that commit, or ``not run``.
+
+    Raises FileNotFoundError if there is no such file, as beside a library that ``./install`` did not install.
+
+    >>> proved()["version"]
+    '1.0.0'
+    """
+    return _library.proved()
 
 
 def shard_size(length: SupportsIndex, min: SupportsIndex, total: SupportsIndex) -> int:
@@ -658,4 +683,4 @@ def decode_poly(encoded: Bytes) -> "array[int]":
 
 
 # Last, since it stands on what is above.
-from . import systematic  # noqa: E402
+from . import roots, systematic  # noqa: E402

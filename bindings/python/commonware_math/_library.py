@@ -17,6 +17,8 @@ from typing import Any, Iterable, Iterator, Optional
 
 MAJOR = 1
 NAME = f"libcommonware_math.so.{MAJOR}"
+# Of a package that has the library in it, as the wheel does, the folder is laid out as a prefix.
+OWN = Path(__file__).resolve().parent / "lib"
 
 
 def _levels() -> list[str]:
@@ -51,11 +53,15 @@ def _by_pkg_config() -> Iterator[str]:
 
 
 def _candidates() -> Iterator[str]:
-    """Where the library may be: what COMMONWARE_MATH_LIB names and nothing else, or the places of an installation."""
+    """Where the library may be: what COMMONWARE_MATH_LIB names, or the package's own, and nothing else; or the places of an
+    installation."""
     named = os.environ.get("COMMONWARE_MATH_LIB")
     if named:
         path = Path(named)
         yield from _in_folder(path) if path.is_dir() else [str(path)]
+        return
+    if OWN.is_dir():
+        yield from _in_folder(OWN)
         return
     yield NAME
     yield from _by_pkg_config()
@@ -70,7 +76,10 @@ def _load() -> ctypes.CDLL:
             return ctypes.CDLL(candidate)
         except OSError as error:
             tried.append(str(error))
-    raise ImportError("commonware_math: no library; COMMONWARE_MATH_LIB may name it: " + "; ".join(tried))
+    raise ImportError(
+        "commonware_math: no library: the wheel of this package has it in it, ./install of the repository installs it, and "
+        "COMMONWARE_MATH_LIB may name it: " + "; ".join(tried)
+    )
 
 
 _size, _u32, _u64, _at = ctypes.c_size_t, ctypes.c_uint32, ctypes.c_uint64, ctypes.c_void_p
@@ -103,6 +112,12 @@ _SIGNATURES = {
     "cwm_systematic_rebuild_corrected": [
         _at, _size, _at, _size, _size, _u32, _u32, _u32, _at, _size, _at, _size, _at, _size, _at,
     ],
+    "cwm_path_sizes": [_u32, _u32, _at, _at],
+    "cwm_commit": [_at, _size, _u32, _u32, _at, _size, _at, _at, _at, _size],
+    "cwm_shard_is_under": [_at, _at, _size, _size, _u32, _u32, _u32, _u32, _at, _size, _at],
+    "cwm_join_under": [
+        _at, _at, _size, _at, _size, _at, _size, _at, _size, _u32, _u32, _u32, _at, _size, _at, _size, _at,
+    ],
 }
 
 library = _load()
@@ -112,6 +127,28 @@ for _name, _arguments in _SIGNATURES.items():
     _function.restype = _u32
 if library.cwm_version() // 10000 != MAJOR:
     raise ImportError(f"commonware_math: the library is of another version: {library.cwm_version()}")
+
+
+def _loaded_from() -> str:
+    """The file from which the library was loaded."""
+    at = ctypes.cast(library.cwm_version, ctypes.c_void_p).value or 0
+    with open("/proc/self/maps", encoding="utf-8", errors="surrogateescape") as maps:
+        for line in maps:
+            begin, end = (int(number, 16) for number in line.split(maxsplit=1)[0].split("-"))
+            if begin <= at < end:
+                return line.rstrip("\n").split(maxsplit=5)[5]
+    raise FileNotFoundError("commonware_math: the system does not say from where the library was loaded")
+
+
+def proved() -> dict[str, str]:
+    """What the file of the library's prefix says, by the word before each colon."""
+    path = _loaded_from()
+    prefix = re.match(r"(.*)/lib(?:64)?/", path)
+    if prefix is None:
+        raise FileNotFoundError(f"commonware_math: no prefix, and so no proved.txt, above {path}")
+    text = Path(prefix[1], "share", f"commonware_math-{MAJOR}", "proved.txt").read_text(encoding="utf-8")
+    return dict(line.split(": ", 1) for line in text.splitlines())
+
 
 # Where a length is zero, this is handed over, which is not null.
 NOWHERE = (_u64 * 1)()

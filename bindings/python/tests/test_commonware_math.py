@@ -249,7 +249,7 @@ class Refusals(unittest.TestCase):
     def test_texts(self):
         for error in cm.Error.__subclasses__():
             self.assertNotIn(str(error()), ("", "no status", "done"))
-        self.assertEqual(sorted(error.status for error in cm.Error.__subclasses__()), list(range(1, 14)))
+        self.assertEqual(sorted(error.status for error in cm.Error.__subclasses__()), list(range(1, 16)))
 
     def test_other_processes(self):
         for error in cm.Error.__subclasses__():

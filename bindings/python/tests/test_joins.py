@@ -1,6 +1,6 @@
 """The joins of bytes over 3,000 random sets of shards, many of them damaged, against a model of their own.
 
-The model foresees each answer by plain arithmetic, from docs/SHARDFILE.md (how bytes become cells) and the header (which refusal
+The model foresees each answer by plain arithmetic, from docs/SHARDFILE_FORMAT.md (how bytes become cells) and the header (which refusal
 is due). It shares nothing with the library. Each set goes to both calls of C, and if no index is there twice, to the package too.
 """
 

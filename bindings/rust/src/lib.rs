@@ -22,6 +22,7 @@
 
 #[allow(unsafe_code, missing_docs)]
 mod library;
+pub mod roots;
 pub mod systematic;
 
 use std::fmt;
@@ -59,12 +60,16 @@ pub enum Error {
     ExtraData,
     /// A point is there twice.
     Repeated,
+    /// A block with a root has more than 65,536 shards.
+    TooMany,
+    /// The data of the shards under a root have another root.
+    WrongRoot,
     /// A status that this package doesn't know.
     Unknown(u32),
 }
 
 /// The errors, by their statuses from 1 on.
-const ERRORS: [Error; 13] = [
+const ERRORS: [Error; 15] = [
     Error::OutOfMemory,
     Error::OutOfRange,
     Error::WrongSize,
@@ -78,6 +83,8 @@ const ERRORS: [Error; 13] = [
     Error::InvalidLength,
     Error::ExtraData,
     Error::Repeated,
+    Error::TooMany,
+    Error::WrongRoot,
 ];
 
 impl Error {

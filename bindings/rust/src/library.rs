@@ -4,6 +4,7 @@
 //! aligned and not null, also where it has no item, its length is true and below 2^63 bytes, and what is written is
 //! borrowed alone, so that it overlaps with nothing. Rust's allocator on the system's `malloc` is left as it is.
 
+use crate::roots::Digest;
 use crate::systematic::Code;
 use crate::Error;
 use std::ffi::c_char;
@@ -40,6 +41,10 @@ mod declared {
         pub fn cwm_systematic_decode(indices: *const u32, k: usize, rows: *const u8, n: usize, min: u32, total: u32, mask: u32, data: *mut u8, size: usize) -> u32;
         pub fn cwm_systematic_verify(indices: *const u32, k: usize, rows: *const u8, n: usize, size: usize, min: u32, total: u32, mask: u32, belong: *mut u32) -> u32;
         pub fn cwm_systematic_rebuild_corrected(indices: *const u32, k: usize, rows: *const u8, n: usize, size: usize, min: u32, total: u32, mask: u32, wanted: *const u32, w: usize, out: *mut u8, m: usize, left_out: *mut usize, room: usize, many: *mut usize) -> u32;
+        pub fn cwm_path_sizes(total: u32, index: u32, steps: *mut usize, room: *mut usize) -> u32;
+        pub fn cwm_commit(data: *const u8, size: usize, min: u32, total: u32, parity: *mut u8, m: usize, mask: *mut u32, root: *mut u8, paths: *mut u8, p: usize) -> u32;
+        pub fn cwm_shard_is_under(root: *const u8, shard: *const u8, n: usize, size: usize, min: u32, total: u32, mask: u32, index: u32, path: *const u8, p: usize, under: *mut u32) -> u32;
+        pub fn cwm_join_under(root: *const u8, indices: *const u32, k: usize, masks: *const u32, l: usize, shards: *const u8, n: usize, paths: *const u8, p: usize, min: u32, total: u32, strict: u32, data: *mut u8, size: usize, left_out: *mut usize, room: usize, many: *mut usize) -> u32;
     }
 }
 
@@ -197,4 +202,28 @@ pub fn systematic_verify(code: &Code, indices: &[u32], rows: &[u8], belong: &mut
 pub fn systematic_rebuild_corrected(code: &Code, indices: &[u32], rows: &[u8], wanted: &[u32], out: &mut [u8], left_out: &mut [usize], many: &mut usize) -> Result<(), Error> {
     // SAFETY: as above.
     done(unsafe { declared::cwm_systematic_rebuild_corrected(indices.as_ptr(), indices.len(), rows.as_ptr(), rows.len(), code.size, code.min, code.total, code.mask, wanted.as_ptr(), wanted.len(), out.as_mut_ptr(), out.len(), left_out.as_mut_ptr(), left_out.len(), many) })
+}
+
+pub fn path_sizes(total: u32, index: u32, steps: &mut usize, room: &mut usize) -> Result<(), Error> {
+    // SAFETY: as above.
+    done(unsafe { declared::cwm_path_sizes(total, index, steps, room) })
+}
+
+#[rustfmt::skip]
+pub fn commit(data: &[u8], min: u32, total: u32, parity: &mut [u8], mask: &mut u32, root: &mut Digest, paths: &mut [Digest]) -> Result<(), Error> {
+    // SAFETY: as above; digests are 32 bytes each, without gaps.
+    done(unsafe { declared::cwm_commit(data.as_ptr(), data.len(), min, total, parity.as_mut_ptr(), parity.len(), mask, root.as_mut_ptr(), paths.as_mut_ptr().cast(), paths.len()) })
+}
+
+#[rustfmt::skip]
+pub fn shard_is_under(root: &Digest, code: &Code, index: u32, shard: &[u8], path: &[Digest], under: &mut u32) -> Result<(), Error> {
+    // SAFETY: as above.
+    done(unsafe { declared::cwm_shard_is_under(root.as_ptr(), shard.as_ptr(), shard.len(), code.size, code.min, code.total, code.mask, index, path.as_ptr().cast(), path.len(), under) })
+}
+
+#[rustfmt::skip]
+#[allow(clippy::too_many_arguments)]
+pub fn join_under(root: &Digest, indices: &[u32], masks: &[u32], shards: &[u8], paths: &[Digest], min: u32, total: u32, strict: bool, data: &mut [u8], left_out: &mut [usize], many: &mut usize) -> Result<(), Error> {
+    // SAFETY: as above.
+    done(unsafe { declared::cwm_join_under(root.as_ptr(), indices.as_ptr(), indices.len(), masks.as_ptr(), masks.len(), shards.as_ptr(), shards.len(), paths.as_ptr().cast(), paths.len(), min, total, u32::from(strict), data.as_mut_ptr(), data.len(), left_out.as_mut_ptr(), left_out.len(), many) })
 }

@@ -87,7 +87,7 @@ fn held<S: AsRef<[u8]>>(code: &Code, shards: &[(u32, S)]) -> Result<(Vec<u32>, V
 }
 
 /// Adds so many rows of one size, which lie one behind the other. Zeros fill what lies past the last byte.
-fn add_rows(rows: &mut Vec<Vec<u8>>, bytes: &[u8], size: usize, count: usize) -> Result<(), Error> {
+pub(crate) fn add_rows(rows: &mut Vec<Vec<u8>>, bytes: &[u8], size: usize, count: usize) -> Result<(), Error> {
     for at in (0..count).map(|i| i * size) {
         let mut row = room_for(size)?;
         row.extend_from_slice(&bytes[at.min(bytes.len())..(at + size).min(bytes.len())]);

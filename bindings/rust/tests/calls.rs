@@ -265,6 +265,8 @@ fn errors_have_the_texts_of_the_library() {
         (Error::InvalidLength, "invalid length"),
         (Error::ExtraData, "extra data"),
         (Error::Repeated, "repeated point"),
+        (Error::TooMany, "more than 65536 shards"),
+        (Error::WrongRoot, "the root of no data"),
         (Error::Unknown(99), "no status"),
     ];
     for (error, text) in texts {

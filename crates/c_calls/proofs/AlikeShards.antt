@@ -8,7 +8,7 @@ use Rattle.std.proofs.lemmas.List.{length-map}
 use Rattle.std.proofs.lemmas.Bool.{cases_Bool}
 use Rattle.std.proofs.lemmas.List.Sums.{sum_by-cons}
 use Rattle.std.proofs.lemmas.List.Elements.{All-cons, All-head, All-tail}
-use Rattle.math_base.specs.Elements.{number, residue, same}
+use Rattle.math_fields.specs.Elements.{number, residue, same}
 use Rattle.math_transforms.specs.Matrices.{column_of}
 use Rattle.math_splitting.specs.declared.shards.Shard.{Shard}
 use Rattle.math_splitting.specs.Shards.{IsShardOf, JoinTo, distinct_indices, has_index, rows_for, value_at_index}
@@ -223,7 +223,7 @@ rows_of_shards min total indices cells (s ∷ ss) are some =
     let many : length (s ∷ ss) ≡ length indices = sym (length-map (s ∷ ss) (λ (t : Shard). t.index)) ∙ ap length are.keys in
     (length s.cells.items, are.count 0 s some ∙ ap (λ n. n * length s.cells.items) many)
 
-below_of_shards : (min total : ℕ) (indices cells : List ℕ) (shards : List Shard) → AreWordShards min total indices cells shards → AreElements cells
+pub below_of_shards : (min total : ℕ) (indices cells : List ℕ) (shards : List Shard) → AreWordShards min total indices cells shards → AreElements cells
 below_of_shards min total indices cells shards are = subst AreElements (numbers_of_all shards ∙ are.rows) (numbers_below (flat_map cells_of shards))
 
 -- words that join to data are such

@@ -7,8 +7,8 @@ use Rattle.math_theory.specs.Coefficients.{coefficient}
 use Rattle.math_theory.specs.Powers.{power}
 use Rattle.math_theory.specs.Recovery.{Fits, count_true}
 use Rattle.math_theory.specs.Values.{value}
-use Rattle.math_base.specs.declared.fields.goldilocks.F.{F}
-use Rattle.math_base.specs.Elements.{residue, root_of}
+use Rattle.math_fields.specs.declared.goldilocks.F.{F}
+use Rattle.math_fields.specs.Elements.{residue, root_of}
 use Rattle.math_base.specs.Polynomials.{value_in_ring}
 use Rattle.math_transforms.specs.DomainValues.{matrix_of}
 use Rattle.math_transforms.specs.Matrices.{MatrixOf, IsOfSize, cell_of, column_of}

@@ -5,10 +5,11 @@ pub mod WordCorrections
 pub mod WrittenWords
 pub mod ReadWords
 pub mod TruthValues
-pub mod RisingIndices
 pub mod WordWeights
 pub mod WordShards
 pub mod AlikeShards
 pub mod ShardBytes
 pub mod FilledRows
 pub mod SystematicRows
+pub mod PathCounts
+pub mod RootedLists

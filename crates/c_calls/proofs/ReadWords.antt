@@ -8,8 +8,8 @@ use Rattle.std.proofs.lemmas.List.Concat.{flat_map-cons}
 use Rattle.std.proofs.lemmas.List.Elements.{All-append, All-head, All-tail}
 use Rattle.math_numbers.specs.Goldilocks.{P}
 use Rattle.math_codec.specs.Lists.{scan_items}
-use Rattle.math_base.specs.ElementEncoding.{scan_element}
-use Rattle.math_base.specs.ElementEncodingLaws.{element_again}
+use Rattle.math_fields.specs.ElementEncoding.{scan_element}
+use Rattle.math_fields.specs.ElementEncodingLaws.{element_again}
 use Rattle.math_splitting.specs.DataWords.{spelled_words}
 use Rattle.math_splitting.proofs.SpelledWords.{spelled-words}
 use Rattle.c_calls.specs.WordElements.{AreElements}

@@ -1,8 +1,7 @@
 -- Bytes as the words of shards, and the shards that they are.
-use Rattle.std.proofs.Common.{◌≡◌, ◌↔◌, ◌∙◌, ℕ, ◌*◌, ◌/◌, ◌<◌, ◌^◌, ◌⊎◌, inl, inr, Option, None, Some, Err, List, [], ◌∷◌, length, map, get_or, replicate, refl, sym, ap, ap₂, subst, arith}
+use Rattle.std.proofs.Common.{◌≡◌, ◌↔◌, ◌∙◌, ℕ, ◌*◌, ◌/◌, ◌<◌, ◌^◌, ◌⊎◌, inl, inr, Err, List, [], ◌∷◌, length, map, get_or, replicate, refl, sym, ap, ap₂, subst, arith}
 use Rattle.std.specs.Int.{from_be_bytes, to_be_bytes, w64}
 use Rattle.std.specs.List.{All}
-use Rattle.std.specs.Option.{IfNone, IsSome}
 use Rattle.std.specs.Simd.{first_chunks}
 use Rattle.std.proofs.Math.ListN.{get_or-map}
 use Rattle.std.proofs.lemmas.List.{length-map, length-replicate}
@@ -14,9 +13,11 @@ use Rattle.math_shards.specs.declared.shards.Error.{Error}
 use Rattle.math_shards.specs.declared.shards.Error.TheVariants.{Memory, TooFew, Mismatch, Index, Conflict, Inconsistent}
 use Rattle.math_splitting.specs.declared.shards.Shard.{Shard}
 use Rattle.math_splitting.specs.DataWords.{spelled_words}
+use Rattle.math_shards.specs.Correcting.{CorrectTo, settled_indices}
 use Rattle.math_shards.specs.Joining.{HaveConflict, IsMemory, RefusesWhereDue}
 use Rattle.math_splitting.specs.Shards.{JoinTo, distinct_indices, width_for}
 use Rattle.math_shards.proofs.DueErrors.{joined_beside, joined_of_some, not_due}
+use Rattle.math_shards.proofs.CorrectedShards.{corrected_beside, corrected_of_some, one_correction}
 use Rattle.math_shards.proofs.JoinedCorrection.{joined_corrected}
 use Rattle.math_shards.proofs.OnlyData.{only_data}
 use Rattle.math_splitting.proofs.SpelledWords.{bytes-spelled, spelled-words}
@@ -27,7 +28,8 @@ use Rattle.shard_blocks.proofs.BlockErrors.{block_beside, block_of_some, block_o
 use Rattle.c_calls.specs.ShardBytes.{AreBlockRefused, AreBlockRefusedCorrecting, AreByteRowsOf, DoCorrectToBlock, DoJoinToBlock, HaveShardBytes, SpellElements, word_bytes}
 use Rattle.c_calls.specs.WordElements.{AreElements}
 use Rattle.c_calls.specs.WordShards.{AreWordShards}
-use Rattle.c_calls.proofs.AlikeShards.{below_corrected, below_there, correct_given, join_given, rows_corrected, rows_there}
+use Rattle.c_calls.specs.Statuses.{out_of_memory, status_of_shards}
+use Rattle.c_calls.proofs.AlikeShards.{below_corrected, below_of_shards, below_there, correct_given, join_given, memory_status, rows_corrected, rows_there}
 use Rattle.c_calls.proofs.WrittenWords.{length-bytes}
 
 -- bytes are those of one list of words
@@ -96,15 +98,6 @@ elements_of_chunks bytes chunks (n, size) each e =
           subst (λ w. w < P) (get_or-map (from_be_bytes w64) chunks k d) (below k (from_be_bytes w64 d) (omega (arith, l, length-map chunks (from_be_bytes w64)))),
     )
 
--- what is said where there is no answer; and there is one where that is false
-pub none_then : {X A B : Type 0} (o : Option X) → (A → B) → IfNone o A → IfNone o B
-none_then None f a = f a
-none_then (Some x) f a = tt
-
-pub some_unless : {X A : Type 0} (o : Option X) → ¬ A → IfNone o A → IsSome o
-some_unless None n a = absurd (n a)
-some_unless (Some x) n a = refl
-
 -- an error of an answer that is each of them exactly where it is due is due, or memory ran out
 pub due_of_refusals : {X : Type 0} (due : Error → Type 0) (e : Error) → RefusesWhereDue {X = X} (Err e) due TooFew → RefusesWhereDue {X = X} (Err e) due Mismatch
     → RefusesWhereDue {X = X} (Err e) due Index → RefusesWhereDue {X = X} (Err e) due Conflict → RefusesWhereDue {X = X} (Err e) due Inconsistent → IsMemory e ⊎ due e
@@ -115,32 +108,44 @@ due_of_refusals due Index a b c d f = inr (c.0 refl)
 due_of_refusals due Conflict a b c d f = inr (d.0 refl)
 due_of_refusals due Inconsistent a b c d f = inr (f.0 refl)
 
--- Rows of bytes that are words below P.
-module _ (min total : ℕ) (indices bytes : List ℕ) (h : SpellElements bytes) where
+-- the block that shards join to is the one that they are corrected to, and none is wrong
+pub sound_block : (block : List ℕ) (min total : ℕ) (indices bytes : List ℕ) → DoJoinToBlock block min total indices bytes → DoCorrectToBlock block [] min total indices bytes
+sound_block block min total indices bytes (cells, e, shards, are, join) = (cells, e, shards, are, (join.0, joined_corrected (words_of_bytes block) shards join.1))
+
+-- bytes join to one block at most
+pub one_block : (block other : List ℕ) (min total : ℕ) (indices bytes : List ℕ) → DoJoinToBlock block min total indices bytes → DoJoinToBlock other min total indices bytes
+    → block ≡ other
+one_block block other min total indices bytes h (cells, e, shards, are, join) =
+    let below = below_of_shards min total indices cells shards are in
+    let again = block_given block min total indices cells shards below (subst (λ bs. DoJoinToBlock block min total indices bs) e h) are in
+    block_once HaveConflict distinct_indices JoinTo joined_of_some joined_beside only_data block other shards again join
+
+-- and nothing but memory can be wanting
+pub only_memory_block : (block : List ℕ) (min total : ℕ) (indices bytes : List ℕ) (e : Error) → DoJoinToBlock block min total indices bytes
+    → IsMemory e ⊎ AreBlockRefused e min total indices bytes → status_of_shards e ≡ out_of_memory
+only_memory_block block min total indices bytes e h (inl memory) = memory_status e memory
+only_memory_block block min total indices bytes e h (inr (cells, is, shards, are, due)) =
+    let below = below_of_shards min total indices cells shards are in
+    let join = block_given block min total indices cells shards below (subst (λ bs. DoJoinToBlock block min total indices bs) is h) are in
+    memory_status e
+    (not_due HaveConflict distinct_indices JoinToBlock (block_of_some HaveConflict distinct_indices JoinTo joined_of_some joined_beside only_data)
+    (block_beside HaveConflict distinct_indices JoinTo joined_of_some joined_beside only_data) block shards join e due)
+
+-- Rows of bytes that are the words that they spell.
+module _ (min total : ℕ) (indices bytes : List ℕ) (spelled : bytes ≡ word_bytes (spelled_words bytes)) where
   -- what their words join to, the bytes join to
   pub join_of_rows : (block : List ℕ) → DoRowsJoinTo block min total indices (spelled_words bytes) → DoJoinToBlock block min total indices bytes
-  join_of_rows block (shards, are, join) = (spelled_words bytes, (cells_of_spelled bytes h).1, shards, are, join)
+  join_of_rows block (shards, are, join) = (spelled_words bytes, spelled, shards, are, join)
 
+  -- what is wrong with their words is wrong with them
   pub refused_of_rows : (e : Error) → IsMemory e ⊎ AreRowsRefused e min total indices (spelled_words bytes) → IsMemory e ⊎ AreBlockRefused e min total indices bytes
   refused_of_rows e (inl memory) = inl memory
-  refused_of_rows e (inr (shards, are, due)) = inr (spelled_words bytes, (cells_of_spelled bytes h).1, shards, are, due)
+  refused_of_rows e (inr (shards, are, due)) = inr (spelled_words bytes, spelled, shards, are, due)
 
-  -- the block is that of any shards that are their words
-  pub block_of_rows : (block : List ℕ) (shards : List Shard) → DoJoinToBlock block min total indices bytes → AreWordShards min total indices (spelled_words bytes) shards → JoinToBlock block shards
-  block_of_rows block shards k are =
-      let cells = cells_of_spelled bytes h in
-      block_given block min total indices (spelled_words bytes) shards cells.0 (subst (λ bs. DoJoinToBlock block min total indices bs) cells.1 k) are
-
-  -- so it is the only one, and nothing but memory can be wanting
-  pub one_block_of_rows : (block other : List ℕ) → DoJoinToBlock block min total indices bytes → DoRowsJoinTo other min total indices (spelled_words bytes) → other ≡ block
-  one_block_of_rows block other k (shards, are, join) =
-      block_once HaveConflict distinct_indices JoinTo joined_of_some joined_beside only_data other block shards join (block_of_rows block shards k are)
-
-  pub memory_of_rows : (block : List ℕ) (e : Error) → DoJoinToBlock block min total indices bytes → IsMemory e ⊎ AreRowsRefused e min total indices (spelled_words bytes) → IsMemory e
-  memory_of_rows block e k (inl memory) = memory
-  memory_of_rows block e k (inr (shards, are, due)) =
-      not_due HaveConflict distinct_indices JoinToBlock (block_of_some HaveConflict distinct_indices JoinTo joined_of_some joined_beside only_data)
-      (block_beside HaveConflict distinct_indices JoinTo joined_of_some joined_beside only_data) block shards (block_of_rows block shards k are) e due
+  pub refused_of_corrected : (shards : List Shard) (e : Error) → AreWordShards min total indices (spelled_words bytes) shards → IsMemory e ⊎ IsBlockDueCorrecting shards e
+      → IsMemory e ⊎ AreBlockRefusedCorrecting e min total indices bytes
+  refused_of_corrected shards e are (inl memory) = inl memory
+  refused_of_corrected shards e are (inr due) = inr (spelled_words bytes, spelled, shards, are, due)
 
 -- so it is of bytes that are corrected
 pub byte_rows_corrected : (block positions : List ℕ) (min total : ℕ) (indices bytes : List ℕ) → DoCorrectToBlock block positions min total indices bytes
@@ -161,19 +166,20 @@ corrected_given block positions min total indices cells shards below (others, e,
     let one : others ≡ cells = one_spelling others cells (fit_in_words others others_below) (fit_in_words cells below) (sym e) in
     (correct.0, correct_given words positions min total indices cells shards (there, subst (λ ws. AreWordShards min total indices ws there) one are, correct.1) k)
 
-pub corrected_of_rows : (min total : ℕ) (indices bytes : List ℕ) → SpellElements bytes → (block positions : List ℕ) (shards : List Shard) → DoCorrectToBlock block positions min total indices bytes
-    → AreWordShards min total indices (spelled_words bytes) shards → CorrectToBlock block shards
-corrected_of_rows min total indices bytes h block positions shards k are =
-    let cells = cells_of_spelled bytes h in
-    corrected_given block positions min total indices (spelled_words bytes) shards cells.0 (subst (λ bs. DoCorrectToBlock block positions min total indices bs) cells.1 k) are
+-- bytes have one block at most, however some shards are wrong
+pub one_corrected_block : (block other positions places : List ℕ) (min total : ℕ) (indices bytes : List ℕ) → DoCorrectToBlock block positions min total indices bytes
+    → DoCorrectToBlock other places min total indices bytes → block ≡ other
+one_corrected_block block other positions places min total indices bytes h (cells, e, shards, are, correct) =
+    let below = below_of_shards min total indices cells shards are in
+    let again = corrected_given block positions min total indices cells shards below (subst (λ bs. DoCorrectToBlock block positions min total indices bs) e h) are in
+    block_once (λ _. ⊥) settled_indices CorrectTo corrected_of_some corrected_beside one_correction block other shards again (correct.0, correct.1.0)
 
-pub refused_of_corrected : (min total : ℕ) (indices bytes : List ℕ) → SpellElements bytes → (shards : List Shard) (e : Error) → AreWordShards min total indices (spelled_words bytes) shards
-    → IsMemory e ⊎ IsBlockDueCorrecting shards e → IsMemory e ⊎ AreBlockRefusedCorrecting e min total indices bytes
-refused_of_corrected min total indices bytes h shards e are (inl memory) = inl memory
-refused_of_corrected min total indices bytes h shards e are (inr due) = inr (spelled_words bytes, (cells_of_spelled bytes h).1, shards, are, due)
-
--- the block that sound shards join to is the one that they are corrected to, and none is wrong
-pub corrected_of_joined : (min total : ℕ) (indices bytes : List ℕ) → SpellElements bytes → (block : List ℕ) → DoRowsJoinTo block min total indices (spelled_words bytes)
-    → DoCorrectToBlock block [] min total indices bytes
-corrected_of_joined min total indices bytes h block (shards, are, join) =
-    (spelled_words bytes, (cells_of_spelled bytes h).1, shards, are, (join.0, joined_corrected (words_of_bytes block) shards join.1))
+pub only_memory_correcting_block : (block positions : List ℕ) (min total : ℕ) (indices bytes : List ℕ) (e : Error) → DoCorrectToBlock block positions min total indices bytes
+    → IsMemory e ⊎ AreBlockRefusedCorrecting e min total indices bytes → status_of_shards e ≡ out_of_memory
+only_memory_correcting_block block positions min total indices bytes e h (inl memory) = memory_status e memory
+only_memory_correcting_block block positions min total indices bytes e h (inr (cells, is, shards, are, due)) =
+    let below = below_of_shards min total indices cells shards are in
+    let correct = corrected_given block positions min total indices cells shards below (subst (λ bs. DoCorrectToBlock block positions min total indices bs) is h) are in
+    memory_status e
+    (not_due (λ _. ⊥) settled_indices CorrectToBlock (block_of_some (λ _. ⊥) settled_indices CorrectTo corrected_of_some corrected_beside one_correction)
+    (block_beside (λ _. ⊥) settled_indices CorrectTo corrected_of_some corrected_beside one_correction) block shards correct e due)

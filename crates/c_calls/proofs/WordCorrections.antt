@@ -3,8 +3,8 @@ use Rattle.std.proofs.Common.{◌≡◌, ◌∙◌, ℕ, ◌+◌, ◌*◌, ◌�
 use Rattle.std.proofs.lemmas.List.{length-map}
 use Rattle.std.proofs.lemmas.List.Sums.{count_by-le-length}
 use Rattle.math_theory.specs.Recovery.{count_true}
-use Rattle.math_base.specs.declared.fields.goldilocks.F.{F}
-use Rattle.math_base.specs.Elements.{number, root_of}
+use Rattle.math_fields.specs.declared.goldilocks.F.{F}
+use Rattle.math_fields.specs.Elements.{number, root_of}
 use Rattle.math_transforms.specs.Matrices.{MatrixOf, IsOfSize}
 use Rattle.math_ntt.specs.CorrectedRows.{IsCorrected}
 use Rattle.c_calls.specs.WordCorrections.{AreCorrectedWords}

@@ -1,8 +1,8 @@
 -- From what is decoded of elements to the words that are written.
 use Rattle.std.proofs.Common.{◌≡◌, ℕ, ◌≤◌, ◌++◌, List, length, drop}
 use Rattle.math_theory.specs.Interpolation.{AreApart}
-use Rattle.math_base.specs.declared.fields.goldilocks.F.{F}
-use Rattle.math_base.specs.Elements.{same}
+use Rattle.math_fields.specs.declared.goldilocks.F.{F}
+use Rattle.math_fields.specs.Elements.{same}
 use Rattle.math_decoding.specs.Decodings.{IsDecoded}
 use Rattle.c_calls.specs.WordDecodings.{AreDecodedWords}
 use Rattle.c_calls.specs.WordElements.{AreElements, elements, numbers, goldilocks}

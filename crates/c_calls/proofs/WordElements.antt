@@ -4,9 +4,9 @@ use Rattle.std.proofs.Math.ListN.{set}
 use Rattle.std.proofs.lemmas.List.{take_more_set, map_more}
 use Rattle.std.proofs.lemmas.List.Elements.{All-map}
 use Rattle.math_numbers.specs.Goldilocks.{P}
-use Rattle.math_base.specs.declared.fields.goldilocks.F.{F}
-use Rattle.math_base.specs.Elements.{number, residue}
-use Rattle.math_base.proofs.ElementNumbers.{same_number, residue-number}
+use Rattle.math_fields.specs.declared.goldilocks.F.{F}
+use Rattle.math_fields.specs.Elements.{number, residue}
+use Rattle.math_fields.proofs.ElementNumbers.{same_number, residue-number}
 use Rattle.c_calls.specs.WordElements.{AreElements, elements, numbers}
 
 -- one word more

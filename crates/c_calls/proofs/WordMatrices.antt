@@ -3,8 +3,8 @@ use Rattle.std.proofs.Common.{◌≡◌, ◌∙◌, ℕ, ◌*◌, ◌/◌, ◌<�
 use Rattle.std.proofs.Math.Nat.{mul-div_cancel, pow-le-pow_right}
 use Rattle.std.proofs.lemmas.Bool.{cases_lt}
 use Rattle.std.proofs.lemmas.List.{get_or-replicate, length-map}
-use Rattle.math_base.specs.declared.fields.goldilocks.F.{F}
-use Rattle.math_base.specs.Elements.{number, residue, root_of}
+use Rattle.math_fields.specs.declared.goldilocks.F.{F}
+use Rattle.math_fields.specs.Elements.{number, residue, root_of}
 use Rattle.math_transforms.specs.Matrices.{MatrixOf, IsOfSize}
 use Rattle.math_transforms.specs.DomainValues.{matrix_of, AreValuesOnDomain}
 use Rattle.math_ntt.specs.Evaluations.{EvaluationsOf}

@@ -5,16 +5,16 @@ use Rattle.std.specs.Map.{keys_of, values_of}
 use Rattle.std.proofs.lemmas.List.{length-map}
 use Rattle.math_numbers.specs.Goldilocks.{P}
 use Rattle.math_theory.specs.Interpolation.{AreApart, SomeAreSame, IsFirstPlace, IsOneAt}
-use Rattle.math_base.specs.declared.fields.goldilocks.F.{F}
-use Rattle.math_base.specs.Elements.{number, product, residue, same, root_of}
+use Rattle.math_fields.specs.declared.goldilocks.F.{F}
+use Rattle.math_fields.specs.Elements.{number, product, residue, same, root_of}
 use Rattle.math_base.specs.Polynomials.{AreWeightsAt}
 use Rattle.math_theory.specs.Powers.{power}
-use Rattle.math_transforms.specs.RootWeights.{AreRootWeightsAt, powers_at}
+use Rattle.math_transforms.specs.RootWeights.{AreRising, AreRootWeightsAt, powers_at}
 use Rattle.math_transforms.proofs.PresentIndices.{lg-only}
 use Rattle.math_shards.proofs.DistinctIndices.{are_distinct}
 use Rattle.math_shards.proofs.OnlyCoefficients.{points_apart}
 use Rattle.c_calls.specs.WordElements.{AreElements, elements, numbers, goldilocks}
-use Rattle.c_calls.specs.WordWeights.{AreRising, AreWordWeights, AreWordWeightsAtRoots}
+use Rattle.c_calls.specs.WordWeights.{AreWordWeights, AreWordWeightsAtRoots}
 use Rattle.c_calls.proofs.WordElements.{elements_of_numbers, numbers_below}
 
 -- the numbers of the weights over points

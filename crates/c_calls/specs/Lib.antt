@@ -2,9 +2,12 @@ pub mod Statuses
 pub mod WordElements
 pub mod WordRows
 pub mod WordWeights
+pub mod WrittenData
 pub mod WordEncodings
 pub mod WordShards
 pub mod WordDecodings
 pub mod WordCorrections
 pub mod ShardBytes
 pub mod SystematicRows
+pub mod PathSizes
+pub mod RootedShards

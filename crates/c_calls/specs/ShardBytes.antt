@@ -19,7 +19,7 @@ word_bytes words = flat_map (to_be_bytes w64) words
 abbrev pub SpellElements : List ℕ → Type 0
 SpellElements bytes = (words : List ℕ) × AreElements words × (bytes ≡ word_bytes words)
 
--- the shards of a block of so many bytes, of which `min` give it back, have `size` bytes each; the bytes of all shards are below 2^60
+-- the shards of a block of `bytes` bytes, of which `min` give it back, have `size` bytes each; the bytes of all shards are below 2^60
 pub record HaveShardBytes (bytes min total size : ℕ) : Type 0 where
   pub count : (block : List ℕ) → length block ≡ bytes → size ≡ 8 * width_for min (words_of_bytes block)
   pub room : total * size < 2 ^ 60
@@ -42,7 +42,7 @@ abbrev pub AreBlockRefused : Error → ℕ → ℕ → List ℕ → List ℕ →
 AreBlockRefused e min total indices bytes =
     (cells : List ℕ) × (bytes ≡ word_bytes cells) × (shards : List Shard) × AreWordShards min total indices cells shards × IsBlockDue shards e
 
--- the shards that the bytes are have this block, however some are wrong, and these positions are those of the wrong ones
+-- the shards that the bytes are have this block, however some are wrong, and these are the positions of the wrong ones
 abbrev pub DoCorrectToBlock : List ℕ → List ℕ → ℕ → ℕ → List ℕ → List ℕ → Type 0
 DoCorrectToBlock block positions min total indices bytes =
     (cells : List ℕ) × (bytes ≡ word_bytes cells) × (shards : List Shard) × AreWordShards min total indices cells shards × AreCorrectedBlock block positions shards

@@ -1,12 +1,14 @@
 -- What a call answers: its status, and the text of a status.
-use Rattle.std.specs.Prelude.{ℕ, List, codes, Result, Ok, Err, ◌==◌, if◌then◌else◌}
+use Rattle.std.specs.Prelude.{◌≡◌, ◌↔◌, ℕ, List, codes, Result, Ok, Err, ◌==◌, if◌then◌else◌}
 use Rattle.math_codec.specs.Faults as faults
 use Rattle.math_shards.specs.declared.shards.Error as shards
 use Rattle.math_shards.specs.declared.shards.Error.TheVariants as errors
 use Rattle.systematic_shards.specs.declared.Error as systematic
 use Rattle.systematic_shards.specs.declared.Error.TheVariants as refusals
+use Rattle.shard_roots.specs.declared.Error as roots
+use Rattle.shard_roots.specs.declared.Error.TheVariants as rooted
 use Rattle.c_calls.specs.declared.status.Status.{Status}
-use Rattle.c_calls.specs.declared.status.Status.TheVariants.{Done, OutOfMemory, OutOfRange, WrongSize, TooFew, Mismatch, WrongIndex, Conflict, Inconsistent, EndOfBuffer, InvalidVarint, InvalidLength, ExtraData, Repeated}
+use Rattle.c_calls.specs.declared.status.Status.TheVariants.{Done, OutOfMemory, OutOfRange, WrongSize, TooFew, Mismatch, WrongIndex, Conflict, Inconsistent, EndOfBuffer, InvalidVarint, InvalidLength, ExtraData, Repeated, TooMany, WrongRoot}
 
 -- the number of a status
 abbrev pub code_of : Status → ℕ
@@ -24,6 +26,8 @@ code_of InvalidVarint = 10
 code_of InvalidLength = 11
 code_of ExtraData = 12
 code_of Repeated = 13
+code_of TooMany = 14
+code_of WrongRoot = 15
 
 -- the call did what it says
 abbrev pub done : ℕ
@@ -73,6 +77,20 @@ extra_data = 12
 abbrev pub repeated : ℕ
 repeated = 13
 
+-- a block with a root has more than 2^16 shards
+abbrev pub too_many : ℕ
+too_many = 14
+
+-- the data of the shards under a root have another root
+abbrev pub wrong_root : ℕ
+wrong_root = 15
+
+-- the status says that the numbers are no split just where they are none, and that sizes are wrong just where the numbers are a split and
+-- the sizes do not fit it
+pub record TestsSizes (split sizes : Type 0) (status : ℕ) : Type 0 where
+  pub numbers : status ≡ mismatch ↔ ¬ split
+  pub size : status ≡ wrong_size ↔ split × ¬ sizes
+
 -- the status of a read that meets this fault, or none
 abbrev pub status_of_read : Result (Unit {0}) faults.Fault → ℕ
 status_of_read (Ok x) = done
@@ -102,6 +120,14 @@ status_of_rows refusals.Word = out_of_range
 status_of_rows refusals.Conflict = conflict
 status_of_rows refusals.Inconsistent = inconsistent
 
+-- the status of a commitment or a join under a root that is refused, by what is wrong: no data have shards of different masks
+abbrev pub status_of_roots : roots.Error → ℕ
+status_of_roots (rooted.Memory e) = out_of_memory
+status_of_roots rooted.TooMany = too_many
+status_of_roots rooted.Masks = inconsistent
+status_of_roots (rooted.Rows e) = status_of_rows e
+status_of_roots rooted.Root = wrong_root
+
 -- the text of a status
 abbrev pub text_of : ℕ → List ℕ
 text_of n =
@@ -119,4 +145,6 @@ text_of n =
     if n == 11 then codes "invalid length" else
     if n == 12 then codes "extra data" else
     if n == 13 then codes "repeated point" else
+    if n == 14 then codes "more than 65536 shards" else
+    if n == 15 then codes "the root of no data" else
     codes "no status"

@@ -1,6 +1,6 @@
 -- Rows of systematic shards as bytes, one after the other in the caller's memory.
 use Rattle.std.specs.Prelude.{◌≡◌, ℕ, ◌*◌, ◌<◌, ◌≤◌, ◌⊎◌, List, [], length, take, drop, slice_index, slice_index_or}
-use Rattle.math_base.specs.declared.fields.goldilocks.F.{F}
+use Rattle.math_fields.specs.declared.goldilocks.F.{F}
 use Rattle.systematic_shards.specs.declared.Error.{Error}
 use Rattle.systematic_shards.specs.declared.Error.TheVariants.{Inconsistent}
 use Rattle.systematic_shards.specs.declared.rows.Row.{Row}
@@ -16,18 +16,18 @@ pub use Rattle.systematic_shards.specs.Words.{word_of_bytes}
 use Rattle.c_calls.specs.declared.systematic.in_hand.RowsInHand.{RowsInHand}
 use Rattle.c_calls.specs.Statuses.{conflict, inconsistent, out_of_range, status_of_rows, too_few, wrong_index}
 
--- the split is that of so many bytes
+-- the split has this size, this `min` and `total`, and the width for these
 pub record IsSplitOf (size least total : ℕ) (split : Split) : Type 0 where
   pub bytes : split.size ≡ size
   pub needed : split.min ≡ least
   pub all : split.total ≡ total
   pub words : split.width ≡ width_of size least
 
--- so many bytes have a split, and n bytes are so many of its rows
+-- `size` bytes have a split, and n bytes are `count` of its rows
 abbrev pub HaveRowsFor : ℕ → ℕ → ℕ → ℕ → ℕ → Type 0
 HaveRowsFor size least total count n = HaveRoom least total (width_of size least) × (n ≡ count * (8 * width_of size least))
 
--- row t of the first n rows, of so many bytes each, has index number t and the bytes of row t
+-- row t of n rows, of `row` bytes each, has index number t and the bytes of row t
 pub record AreRowsIn (row : ℕ) (indices bytes : List ℕ) (n : ℕ) (rows : List (Row ℕ)) : Type 0 where
   pub count : length rows ≡ n
   pub index : (t : ℕ) (d : Row ℕ) → t < n → (slice_index_or rows t d).index ≡ slice_index indices t
@@ -41,7 +41,11 @@ pub record GivenRows (size least total mask : ℕ) (indices bytes : List ℕ) : 
   pub rows : List (Row ℕ)
   pub lie : AreRowsIn (8 * code.split.width) indices bytes (length indices) rows
 
--- the rows in hand are those of these numbers, indices and bytes
+-- this holds of the code and the rows that a call was given
+abbrev pub HoldsOfGiven : ℕ → ℕ → ℕ → ℕ → List ℕ → List ℕ → (Code → List (Row ℕ) → Type 0) → Type 0
+HoldsOfGiven size least total mask indices bytes P = (it : GivenRows size least total mask indices bytes) × P it.code it.rows
+
+-- the rows in hand have these numbers, indices and bytes
 pub record AreInHand (size least total mask : ℕ) (indices bytes : List ℕ) (held : RowsInHand) : Type 0 where
   pub split : IsSplitOf size least total held.code.split
   pub masked : held.code.mask ≡ mask
@@ -63,7 +67,7 @@ pub record AreTaken (code : Code) (rows : List (Row ℕ)) (wanted : List ℕ) : 
   pub elements : AreElements word_of_bytes code.split code.mask rows
   pub enough : HaveEnough code.split.min rows
 
--- the rows are those of a codeword, and the bytes are its rows of the wanted indices
+-- the rows are rows of a codeword, and the bytes are its rows of the wanted indices
 pub record AreRebuilt (code : Code) (rows : List (Row ℕ)) (wanted bytes : List ℕ) : Type 0 where
   pub taken : AreTaken code rows wanted
   pub codeword : ℕ → ℕ → F
@@ -71,7 +75,7 @@ pub record AreRebuilt (code : Code) (rows : List (Row ℕ)) (wanted bytes : List
   pub belong : BelongTo word_of_bytes code.split code.mask rows codeword
   pub written : AreRowsAt code.split code.mask codeword wanted (word_of_bytes bytes)
 
--- the rows are those of a codeword, and the block is its data
+-- the rows are rows of a codeword, and the block is its data
 pub record AreDecoded (code : Code) (rows : List (Row ℕ)) (block : List ℕ) : Type 0 where
   pub taken : AreTaken code rows []
   pub codeword : ℕ → ℕ → F
@@ -79,7 +83,8 @@ pub record AreDecoded (code : Code) (rows : List (Row ℕ)) (block : List ℕ) :
   pub belong : BelongTo word_of_bytes code.split code.mask rows codeword
   pub written : AreDataOf code.split code.mask codeword (word_of_bytes block)
 
--- the bytes are the rows of the wanted indices of a codeword near the rows, and the positions are those of the rows that are not its rows
+-- the bytes are the rows of the wanted indices of a codeword near the rows, and the positions are the positions of the rows that are not
+-- its rows
 pub record AreCorrected (code : Code) (rows : List (Row ℕ)) (wanted positions bytes : List ℕ) : Type 0 where
   pub asked : AreAsked 1 code.split rows wanted
   pub enough : HaveSettled word_of_bytes code.split code.mask code.split.min rows
@@ -101,7 +106,7 @@ pub record IsVerified (code : Code) (rows : List (Row ℕ)) (belong : ℕ) : Typ
   pub yes : belong ≡ 1 → HaveEnough code.split.min rows × HaveCodewordOf word_of_bytes code.split code.mask rows
   pub no : belong ≡ 0 → HaveConflict word_of_bytes code.split rows ⊎ (HaveEnough code.split.min rows × ¬ (HaveCodewordOf word_of_bytes code.split code.mask rows))
 
--- which refusal is due to rows of a code, of which those of some indices are wanted
+-- which refusal is due to rows of a code from which the rows of some indices are wanted
 abbrev pub IsDueTo : Code → List ℕ → List (Row ℕ) → Error → Type 0
 IsDueTo code wanted rows e = IsDue 1 word_of_bytes code.split code.mask rows wanted e
 
@@ -122,6 +127,11 @@ IsMemoryOrDue P held e = IsMemory e ⊎ ((rows : List (Row ℕ)) × AreRowsOf he
 abbrev pub TellsOfRows : ℕ → Type 0
 TellsOfRows status = (status ≡ out_of_range) ⊎ (status ≡ too_few) ⊎ (status ≡ wrong_index) ⊎ (status ≡ conflict) ⊎ (status ≡ inconsistent)
 
--- the status is that of an error of which P holds
+-- the status reports an error of which P holds
 abbrev pub IsStatusWhere : (Error → Type 0) → ℕ → Type 0
 IsStatusWhere P status = (e : Error) × (status ≡ status_of_rows e) × P e
+
+-- a status that tells of rows reports a refusal that is due to the rows that a call was given
+abbrev pub IsStatusDue : ℕ → ℕ → ℕ → ℕ → List ℕ → List ℕ → (Code → List (Row ℕ) → Error → Type 0) → ℕ → Type 0
+IsStatusDue size least total mask indices bytes due status =
+    TellsOfRows status → HoldsOfGiven size least total mask indices bytes (λ code rows. IsStatusWhere (due code rows) status)

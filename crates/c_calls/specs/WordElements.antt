@@ -1,8 +1,8 @@
 -- Words as elements of the Goldilocks field.
 use Rattle.std.specs.Prelude.{ℕ, List, map}
-use Rattle.math_base.specs.declared.fields.goldilocks.F.{F}
-use Rattle.math_base.specs.Elements.{number}
-pub use Rattle.math_base.specs.Elements.{goldilocks}
+use Rattle.math_fields.specs.declared.goldilocks.F.{F}
+use Rattle.math_fields.specs.Elements.{number}
+pub use Rattle.math_fields.specs.Elements.{goldilocks}
 pub use Rattle.math_values.specs.Values.{AreElements, elements}
 
 -- the numbers of elements

@@ -3,11 +3,11 @@ use Rattle.std.specs.Prelude.{◌≡◌, ℕ, ◌<◌, ◌-◌, ◌^◌, List, l
 use Rattle.std.specs.Int.{to_be_bytes, w64}
 use Rattle.math_codec.specs.Faults.{Fault, scan_exactly}
 use Rattle.math_codec.specs.Lists.{list_spelling, scan_list}
-use Rattle.math_base.specs.ElementEncoding.{scan_element}
+use Rattle.math_fields.specs.ElementEncoding.{scan_element}
 pub use Rattle.math_shards.specs.WordShards.{StandInFront}
 use Rattle.c_calls.specs.WordElements.{AreElements}
 
--- a polynomial may have so many coefficients
+-- a polynomial may have n coefficients
 abbrev pub IsCoefficientCount : ℕ → Type 0
 IsCoefficientCount n = (0 < n) × (n < 2 ^ 32)
 

@@ -1,8 +1,8 @@
 -- Rows of words as coefficients and values of polynomials at the points of a domain, one polynomial a column.
 use Rattle.std.specs.Prelude.{◌≡◌, ℕ, ◌+◌, ◌*◌, ◌<◌, ◌≤◌, ◌^◌, ◌==◌, List, length, map, All, slice_index, slice_index_or, Bool}
 use Rattle.math_numbers.specs.Goldilocks.{P}
-use Rattle.math_base.specs.declared.fields.goldilocks.F.{F}
-use Rattle.math_base.specs.Elements.{residue, root_of}
+use Rattle.math_fields.specs.declared.goldilocks.F.{F}
+use Rattle.math_fields.specs.Elements.{residue, root_of}
 use Rattle.math_transforms.specs.DomainValues.{matrix_of, AreValuesAtPowers}
 use Rattle.math_ntt.specs.Evaluations.{EvaluationsOf}
 use Rattle.math_transforms.specs.Matrices.{MatrixOf}
@@ -21,7 +21,15 @@ HasRows n cols = (rows : ℕ) × IsDomainSize rows × (0 < cols) × (n ≡ rows 
 abbrev pub word_matrix : ℕ → ℕ → List ℕ → MatrixOf F
 word_matrix rows cols words = matrix_of rows cols (elements words)
 
--- both are 2^lg rows of elements: in each column the value in row j is that of the column's polynomial at power j of the root of order 2^lg
+-- the cells are 2^lg rows of words below P, and the items are these as elements
+pub record AreElementRows (lg cols : ℕ) (cells : List ℕ) (items : List F) : Type 0 where
+  pub small : lg ≤ 32
+  pub count : length cells ≡ 2 ^ lg * cols
+  pub below : AreElements cells
+  pub are : items ≡ elements cells
+
+-- both are 2^lg rows of elements: in each column the item in row j of the values is the value of the column's polynomial at power j of the
+-- root of order 2^lg
 pub record AreWordValues (cols : ℕ) (coefficients values : List ℕ) : Type 0 where
   pub lg : ℕ
   pub small : lg ≤ 32
@@ -54,7 +62,7 @@ pub record HasRowsFor (n cols rows : ℕ) : Type 0 where
 abbrev pub word_evaluations : ℕ → List ℕ → List ℕ → EvaluationsOf F
 word_evaluations cols cells bytes = record { matrix = word_matrix (length bytes) cols cells; filled = truth bytes }
 
--- column by column the coefficients are those of the only polynomial that has the cells of the filled rows as its values, and whose coefficients
+-- column by column the coefficients are the only polynomial that has the cells of the filled rows as its values, and whose coefficients
 -- from the number of filled rows on are zero
 pub record AreRecoveredWords (cols : ℕ) (cells bytes coefficients : List ℕ) : Type 0 where
   pub shape : HasRowsFor (length cells) cols (length bytes)

@@ -11,7 +11,8 @@ use Rattle.math_shards.specs.Correcting.{AreCorrected, IsDueCorrecting}
 abbrev pub IsSplit : ℕ → ℕ → Type 0
 IsSplit min total = (1 ≤ min) × (min ≤ total)
 
--- the shards of so many words, of which `min` give these back, have `cells` cells each; the words, and the cells of all shards, are below 2^57
+-- the shards of `words` words, of which `min` give these back, have `cells` cells each; the words, and the cells of all shards, are below
+-- 2^57
 pub record HaveShardSizes (words min total cells : ℕ) : Type 0 where
   pub few : words < 2 ^ 57
   pub count : (xs : List ℕ) → length xs ≡ words → cells ≡ width_for min xs
@@ -26,7 +27,7 @@ abbrev pub AreWordsOfShards : List ℕ → ℕ → ℕ → List ℕ → Type 0
 AreWordsOfShards words min total cells =
     (shards : List Shard) × AreShardsOf words min total shards × AreWordShards min total (range_with_len 0 total) cells shards
 
--- the shards that the words are have these data, however some are wrong, and these positions are those of the wrong ones
+-- the shards that the words are have these data, however some are wrong, and these are the positions of the wrong ones
 abbrev pub DoCorrectTo : List ℕ → List ℕ → ℕ → ℕ → List ℕ → List ℕ → Type 0
 DoCorrectTo words positions min total indices cells = (shards : List Shard) × AreWordShards min total indices cells shards × AreCorrected words positions shards
 

@@ -1,15 +1,15 @@
 -- Words as weights by which values at some points give the value elsewhere.
 use Rattle.std.specs.Prelude.{◌≡◌, ℕ, ◌<◌, ◌^◌, List, length, All}
 use Rattle.std.specs.Int.{IsNextPowerOfTwo}
-use Rattle.std.specs.List.Sorted.{IsStrictlyIncreasing}
 use Rattle.math_numbers.specs.Goldilocks.{P}
 use Rattle.math_theory.specs.Interpolation.{AreApart, SomeAreSame, IsFirstPlace, IsOneAt}
-use Rattle.math_base.specs.Elements.{residue, same, root_of}
+use Rattle.math_fields.specs.Elements.{residue, same, root_of}
 use Rattle.math_base.specs.Polynomials.{AreWeightsAt}
-use Rattle.math_transforms.specs.RootWeights.{powers_at}
+use Rattle.math_transforms.specs.RootWeights.{AreRising, powers_at}
 use Rattle.c_calls.specs.WordElements.{AreElements, elements, goldilocks}
 
--- the weights for the value at x over the points; one at the first point that is x, and zeros elsewhere; and else zeros where a point is there twice
+-- the weights for the value at x over the points: one at the first point that is x, and zeros elsewhere; and zeros where no point is x, and
+-- a point is there twice
 pub record AreWordWeights (x : ℕ) (points weights : List ℕ) : Type 0 where
   pub x_below : x < P
   pub points_below : AreElements points
@@ -18,10 +18,6 @@ pub record AreWordWeights (x : ℕ) (points weights : List ℕ) : Type 0 where
   pub at_point : (k : ℕ) → IsFirstPlace same (residue x) (elements points) k → IsOneAt same (residue 0) (residue 1) k (elements weights)
   pub repeated : All (λ p. ¬ (same p (residue x))) (elements points) → SomeAreSame same (elements points) → All (λ v. same v (residue 0)) (elements weights)
   pub at_others : AreApart same (elements points) → AreWeightsAt goldilocks (residue x) (elements points) (elements weights)
-
--- the indices rise, and are below the total
-abbrev pub AreRising : ℕ → List ℕ → Type 0
-AreRising total indices = IsStrictlyIncreasing indices × All (λ i. i < total) indices
 
 -- the weights for the value at x over the powers, with these exponents, of the root of order 2^lg, which is total rounded up to a power of two
 pub record AreWordWeightsAtRoots (x total : ℕ) (indices weights : List ℕ) : Type 0 where

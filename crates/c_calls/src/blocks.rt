@@ -2,20 +2,25 @@
 //!
 //! Each word of a shard is eight bytes, the highest first, as words are in the encoding of a
 //! polynomial.
+//!
+//! Callers with bytes keep shards as bytes, in files and messages, at any address, and this order
+//! is the same on every machine. The calls stand on `shard_blocks`: the number of the bytes is kept
+//! inside, and the blocks of shard files are cut in the same way.
 
-ghost use Rattle.std.specs.Prelude.{◌≡◌, ◌↔◌, ◌<◌, ◌≤◌, ◌*◌, ◌⊎◌, ℕ, All, List, IsTrue, IsSome, IfOk, IfErr, IfSome, IfNone, MatchResult, None, OnOk, OnErr, length};
+ghost use Rattle.std.specs.Prelude.{◌≡◌, ◌↔◌, ◌<◌, ◌≤◌, ◌*◌, ℕ, All, IsTrue, IfSome, IfNone, OnOk, OnErr, length};
 ghost use Rattle.std.specs.Int.{from_be_bytes, w64};
 ghost use Rattle.math_numbers.specs.Goldilocks.{P};
-ghost use Rattle.math_shards.specs.Joining.{IsMemory};
-ghost use Rattle.c_calls.specs.ShardBytes.{AreBlockRefused, AreBlockRefusedCorrecting, AreByteRowsOf, AreBytesOfShards, DoCorrectToBlock, DoJoinToBlock, HaveShardBytes, SpellElements, word_bytes};
-ghost use Rattle.c_calls.specs.WordElements.{AreElements};
-ghost use Rattle.c_calls.specs.WordEncodings.{StandInFront};
+ghost use Rattle.c_calls.specs.ShardBytes.{AreBlockRefused, AreBlockRefusedCorrecting, AreByteRowsOf, AreBytesOfShards, DoCorrectToBlock, DoJoinToBlock, HaveShardBytes, SpellElements};
 ghost use Rattle.c_calls.specs.WordShards.{IsSplit};
 
+mod in_hand;
+
+use crate::in_hand::ShardsInHand;
 use crate::shards;
 use commonware_math::algebra::Mem;
 use commonware_math::fields::goldilocks::MODULUS;
 use commonware_math::shards::shards_of_rows;
+pub use in_hand::ByteShards;
 use shard_blocks::{Error, cells_for, join_block_corrected, join_block_rows, split_block_rows};
 use std::alloc::Global;
 
@@ -76,13 +81,13 @@ pub fn are_elements(bytes: &[u8]) -> bool
     ensures { IsTrue result ↔ SpellElements bytes.now }
 {
     let (words, _) = bytes.as_chunks::<8>();
-    are_below(words)
+    are_words_below_modulus(words)
 }
 
 /// Whether each word, as its eight bytes, the highest first, is below P.
 ///
 /// All words are looked at before it answers, so that none waits for the one before it.
-fn are_below(words: &[[u8; 8]]) -> bool
+fn are_words_below_modulus(words: &[[u8; 8]]) -> bool
     ensures { IsTrue result ↔ All (λ word. from_be_bytes w64 word < P) words.now }
 {
     let mut below = true;
@@ -95,122 +100,39 @@ fn are_below(words: &[[u8; 8]]) -> bool
     below
 }
 
-/// Writes the block that the shards give back over the first bytes of `out`, and gives their
-/// number.
-///
-/// `None` where there is no room. It refuses as `join_block` does.
-pub fn write_block(
-    alloc: Global,
-    indices: &[u32],
-    min: u32,
-    total: u32,
-    shards: &[u8],
-    cols: usize,
-    out: &mut [u8],
-) -> Result<Option<usize>, Error>
-    requires count { length shards.now ≡ 8 * (length indices.now * cols) }
-    requires below { SpellElements shards.now }
-    ensures some { IfOk result (λ answer. IfSome answer (λ n. (block : List ℕ)
-        × DoJoinToBlock block min total indices.now shards.now × (n ≡ length block)
-        × StandInFront block out.old out.new)) }
-    ensures none { IfOk result (λ answer. IfNone answer ((block : List ℕ)
-        × DoJoinToBlock block min total indices.now shards.now
-        × (length out.old < length block))) }
-    ensures kept { IfOk result (λ answer. IfNone answer (out.new ≡ out.old)) }
-    ensures err { OnErr result (out.new ≡ out.old) }
-    ensures due { IfErr result (λ e. IsMemory e
-        ⊎ AreBlockRefused e min total indices.now shards.now) }
-    ensures found { (block : List ℕ)
-        → DoJoinToBlock block min total indices.now shards.now
-        → length block ≤ length out.old → MatchResult result (λ answer. IsSome answer) IsMemory }
-{
-    let written = join_block_rows(alloc, indices, min, total, shards, cols, out)?;
-    Ok(written)
-}
+/// Bytes that give a block back.
+impl<'a> ShardsInHand for ByteShards<'a> {
+    type Item = u8;
 
-/// Writes the block of the shards, however some are wrong, over the first bytes of `out`, and the
-/// positions of the wrong ones over the first items of `left_out`, and gives the numbers of both.
-///
-/// `None` where there is no room for the block. It refuses as `join_block_corrected` does. Sound
-/// shards are joined where they lie.
-pub fn write_corrected_block(
-    alloc: Global,
-    indices: &[u32],
-    min: u32,
-    total: u32,
-    shards: &[u8],
-    cols: usize,
-    out: &mut [u8],
-    left_out: &mut [usize],
-) -> Result<Option<(usize, usize)>, Error>
-    requires count { length shards.now ≡ 8 * (length indices.now * cols) }
-    requires below { SpellElements shards.now }
-    requires room { length indices.now ≤ length left_out.old }
-    ensures some { IfOk result (λ answer. IfSome answer (λ n. (block positions : List ℕ)
-        × DoCorrectToBlock block positions min total indices.now shards.now
-        × (n.0 ≡ length block) × StandInFront block out.old out.new
-        × (n.1 ≡ length positions) × StandInFront positions left_out.old left_out.new)) }
-    ensures none { IfOk result (λ answer. IfNone answer ((block positions : List ℕ)
-        × DoCorrectToBlock block positions min total indices.now shards.now
-        × (length out.old < length block))) }
-    ensures kept { IfOk result (λ answer. IfNone answer
-        ((out.new ≡ out.old) × (left_out.new ≡ left_out.old))) }
-    ensures err { OnErr result ((out.new ≡ out.old) × (left_out.new ≡ left_out.old)) }
-    ensures due { IfErr result (λ e. IsMemory e
-        ⊎ AreBlockRefusedCorrecting e min total indices.now shards.now) }
-    ensures found { (block positions : List ℕ)
-        → DoCorrectToBlock block positions min total indices.now shards.now
-        → length block ≤ length out.old → MatchResult result (λ answer. IsSome answer) IsMemory }
-{
-    match join_block_rows(alloc, indices, min, total, shards, cols, out) {
-        Ok(Some(n)) => Ok(Some((n, 0))),
-        Ok(None) => Ok(None),
-        Err(Error::Memory(error)) => Err(Error::Memory(error)),
-        Err(_) => {
-            write_corrected_shards(alloc, indices, min, total, shards, cols, out, left_out)
-        }
-    }
-}
+    ghost count = { λ s. length s.indices.now };
 
-/// As `write_corrected_block`, of bytes that fit no block: from shards that are made of these.
-fn write_corrected_shards(
-    alloc: Global,
-    indices: &[u32],
-    min: u32,
-    total: u32,
-    shards: &[u8],
-    cols: usize,
-    out: &mut [u8],
-    left_out: &mut [usize],
-) -> Result<Option<(usize, usize)>, Error>
-    requires count { length shards.now ≡ 8 * (length indices.now * cols) }
-    requires below { SpellElements shards.now }
-    requires room { length indices.now ≤ length left_out.old }
-    ensures some { IfOk result (λ answer. IfSome answer (λ n. (block positions : List ℕ)
-        × DoCorrectToBlock block positions min total indices.now shards.now
-        × (n.0 ≡ length block) × StandInFront block out.old out.new
-        × (n.1 ≡ length positions) × StandInFront positions left_out.old left_out.new)) }
-    ensures none { IfOk result (λ answer. IfNone answer ((block positions : List ℕ)
-        × DoCorrectToBlock block positions min total indices.now shards.now
-        × (length out.old < length block))) }
-    ensures kept { IfOk result (λ answer. IfNone answer
-        ((out.new ≡ out.old) × (left_out.new ≡ left_out.old))) }
-    ensures err { OnErr result ((out.new ≡ out.old) × (left_out.new ≡ left_out.old)) }
-    ensures due { IfErr result (λ e. IsMemory e
-        ⊎ AreBlockRefusedCorrecting e min total indices.now shards.now) }
-    ensures found { (block positions : List ℕ)
-        → DoCorrectToBlock block positions min total indices.now shards.now
-        → length block ≤ length out.old → MatchResult result (λ answer. IsSome answer) IsMemory }
-{
-    let (cells, _) = shards.as_chunks::<8>();
-    let shards = shards_of_rows(alloc, indices, min, total, cells, cols)?;
-    let joined = join_block_corrected(alloc, &shards)?;
-    let length = joined.bytes.len();
-    let many = joined.left_out.len();
-    if length > out.len() {
-        return Ok(None);
+    ghost join_to = { λ s block. DoJoinToBlock block s.min s.total s.indices.now s.bytes.now };
+
+    ghost correct_to = { λ s block positions.
+        DoCorrectToBlock block positions s.min s.total s.indices.now s.bytes.now };
+
+    ghost refused = { λ s e. AreBlockRefused e s.min s.total s.indices.now s.bytes.now };
+
+    ghost refused_correcting = { λ s e.
+        AreBlockRefusedCorrecting e s.min s.total s.indices.now s.bytes.now };
+
+    fn join(self, alloc: Global, out: &mut [u8]) -> Result<Option<usize>, Error> {
+        join_block_rows(
+            alloc,
+            self.indices,
+            self.min,
+            self.total,
+            self.bytes,
+            self.cols,
+            out,
+        )
     }
-    out[..length].copy_from_slice(&joined.bytes);
-    left_out[..many].copy_from_slice(&joined.left_out);
-    Ok(Some((length, many)))
+
+    fn correct(self, alloc: Global) -> Result<(Vec<u8>, Vec<usize>), Error> {
+        let (cells, _) = self.bytes.as_chunks::<8>();
+        let (min, total) = (self.min, self.total);
+        let shards = shards_of_rows(alloc, self.indices, min, total, cells, self.cols)?;
+        let joined = join_block_corrected(alloc, &shards)?;
+        Ok((joined.bytes, joined.left_out))
+    }
 }

@@ -2,7 +2,7 @@
 
 ghost use Rattle.std.specs.Prelude.{◌≡◌, ◌≢◌, ◌↔◌, ◌⊎◌, IsTrue, IfOk, OnErr, length};
 ghost use Rattle.math_theory.specs.Interpolation.{AreApart};
-ghost use Rattle.math_base.specs.Elements.{same};
+ghost use Rattle.math_fields.specs.Elements.{same};
 ghost use Rattle.c_calls.specs.WordDecodings.{AreDecodedWords, HasDecodingSizes, HasNearWords};
 ghost use Rattle.c_calls.specs.WordElements.{AreElements, elements};
 ghost use Rattle.c_calls.specs.declared.status.Status.TheVariants.{Done, Inconsistent, Repeated};

@@ -1,18 +1,23 @@
 //! Words as elements, and elements as words.
+//!
+//! The caller's memory changes only if a call succeeds, and no call assumes the invariant of `F` of
+//! a word. So a call that transforms words tests them in the pass that makes them elements of a
+//! list of its own, and writes the answer back at the end. The value at a point is summed while its
+//! words are tested; the other calls test first.
 
 ghost use Rattle.std.specs.Prelude.{◌≡◌, ◌↔◌, ◌≤◌, ◌+◌, ◌*◌, ◌++◌, ℕ, List, IsTrue, IfOk, IfSome, None, length, take, drop};
 ghost use Rattle.std.specs.Int.{to_be_bytes, w64};
 ghost use Rattle.std.specs.List.{flat_map};
 ghost use Rattle.math_codec.specs.Faults.{Agrees, OnMemory};
 ghost use Rattle.math_codec.specs.Lists.{scan_items};
-ghost use Rattle.math_base.specs.ElementEncoding.{scan_element};
-ghost use Rattle.math_base.specs.Elements.{number};
+ghost use Rattle.math_fields.specs.ElementEncoding.{scan_element};
 ghost use Rattle.c_calls.specs.WordElements.{AreElements, elements, numbers};
 
 use commonware_math::algebra::Mem;
 use commonware_math::codec::{Error, Read};
 use commonware_math::fields::goldilocks::{F, MODULUS};
 use math_splitting::shards::write_word;
+use math_values::words::Word;
 use std::alloc::Global;
 
 /// Whether each word is below P, and so the number of an element.
@@ -52,13 +57,6 @@ pub fn elements_below(alloc: Global, words: &[u64]) -> Mem<Option<Vec<F>>>
     if below { Ok(Some(out)) } else { Ok(None) }
 }
 
-/// The number of an element.
-pub(crate) fn number_of(a: &F) -> u64
-    ensures { result ≡ number a.now }
-{
-    u64::from_le_bytes(a.to_le_bytes())
-}
-
 /// Writes the numbers of the elements over the words, of which there are as many. Both are slices
 /// of one length, so that no place is tested.
 pub(crate) fn write_numbers(words: &mut [u64], items: &[F])
@@ -67,13 +65,13 @@ pub(crate) fn write_numbers(words: &mut [u64], items: &[F])
 {
     let source = &items[..words.len()];
     for i in 0..words.len() {
-        words[i] = number_of(&source[i]);
+        words[i] = source[i].word();
     }
 }
 
 /// Reads the words that the bytes spell, eight bytes each, highest first, over the words.
 ///
-/// Each turn of the loop reads two, as each of `write_words` writes two.
+/// Each turn of the loop reads two, as each of `spell_words` writes two.
 pub(crate) fn read_words(words: &mut [u64], bytes: &[u8])
     requires { length bytes.now ≡ 8 * length words.old }
     ensures { (items : List ℕ) → AreElements items → bytes.now ≡ flat_map (to_be_bytes w64) items
@@ -138,7 +136,7 @@ pub(crate) fn after_elements(alloc: Global, count: u32, bytes: &[u8]) -> Result<
 ///
 /// Each turn of the loop writes two. If it wrote one, LLVM would make a vector loop of it, which
 /// takes twice as long on processors that cannot move bytes within a register.
-pub(crate) fn write_words(bytes: &mut [u8], from: usize, words: &[u64])
+pub(crate) fn spell_words(bytes: &mut [u8], from: usize, words: &[u64])
     requires { from + 8 * length words.now ≤ length bytes.old }
     ensures { bytes.new ≡ take from bytes.old ++ flat_map (to_be_bytes w64) words.now
         ++ drop (from + 8 * length words.now) bytes.old }

@@ -5,9 +5,10 @@ ghost use Rattle.std.specs.Int.{to_be_bytes, w64};
 ghost use Rattle.std.specs.List.{flat_map};
 ghost use Rattle.math_codec.specs.Faults.{Agrees, OnMemory};
 ghost use Rattle.c_calls.specs.WordElements.{AreElements};
+ghost use Rattle.c_calls.specs.WrittenData.{WritesInFront};
 ghost use Rattle.c_calls.specs.WordEncodings.{IsCoefficientCount, IsEncodedBy, StandInFront, polynomial_spelling, scan_polynomial};
 
-use crate::elements::{after_elements, read_words, write_words};
+use crate::elements::{after_elements, read_words, spell_words};
 use commonware_math::codec::{Error, LengthRange, Mem, read_len, write_len};
 use std::alloc::Global;
 
@@ -40,7 +41,7 @@ pub fn encode(alloc: Global, coefficients: &[u64], out: &mut [u8]) -> Mem<Option
         return Ok(None);
     }
     out[..from].copy_from_slice(&front);
-    write_words(out, from, coefficients);
+    spell_words(out, from, coefficients);
     Ok(Some(n))
 }
 
@@ -74,12 +75,7 @@ fn split_encoding(alloc: Global, bytes: &[u8]) -> Result<(usize, &[u8]), Error>
 /// memory. The bytes are gone over before a word is written, so that `out` stays as it was where it
 /// refuses.
 pub fn decode(alloc: Global, bytes: &[u8], out: &mut [u64]) -> Result<Option<usize>, Error>
-    ensures some { IfOk result (λ answer. IfSome answer (λ n. (p : List ℕ)
-        × IsEncodedBy p bytes.now × (n ≡ length p) × StandInFront p out.old out.new)) }
-    ensures none { IfOk result (λ answer. IfNone answer ((p : List ℕ) × IsEncodedBy p bytes.now
-        × (length out.old < length p))) }
-    ensures kept { IfOk result (λ answer. IfNone answer (out.new ≡ out.old)) }
-    ensures err { OnErr result (out.new ≡ out.old) }
+    ensures written { WritesInFront (λ p. IsEncodedBy p bytes.now) result out.old out.new }
     ensures memory { OnMemory result ⊥ }
     ensures exact { Agrees (λ _. tt) result (scan_polynomial bytes.now) }
 {

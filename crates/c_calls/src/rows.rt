@@ -1,9 +1,14 @@
 //! Rows of words: coefficients and values of polynomials at the points of a domain, one polynomial
 //! a column.
+//!
+//! Recovery stands on `EvaluationVector::from_parts`, since `fill_row` would make a list for each
+//! row. `lg_of` tests here that its number is a power of two; the function of that name in
+//! `math_transforms` asks for one.
 
 ghost use Rattle.std.specs.Prelude.{◌≡◌, ◌↔◌, ◌<◌, ◌≤◌, ◌*◌, ◌^◌, ◌++◌, IsTrue, IsSome, IfOk, IfSome, OnOk, OnErr, length, All};
 ghost use Rattle.c_calls.specs.WordElements.{AreElements, elements};
 ghost use Rattle.c_calls.specs.WordRows.{
+  AreElementRows,
   AreElementsWhereFilled,
   AreFilledElements,
   AreRecoveredWords,
@@ -14,10 +19,13 @@ ghost use Rattle.c_calls.specs.WordRows.{
   truth,
 };
 
+mod filled;
+
 use crate::elements::{are_elements, write_numbers};
 use commonware_math::algebra::Mem;
 use commonware_math::fields::goldilocks::F;
 use commonware_math::ntt::{EvaluationVector, Matrix, PolynomialVector, VanishingPoints};
+pub use filled::FilledRows;
 use std::alloc::Global;
 
 /// 2^lg.
@@ -132,10 +140,7 @@ pub(crate) fn filled_elements(
 /// Puts the values of the polynomials whose coefficients the columns are in place of these, which
 /// are handed in as elements too.
 pub fn evaluate(alloc: Global, cells: &mut [u64], items: Vec<F>, lg: u8, cols: usize) -> Mem<()>
-    requires small { lg ≤ 32 }
-    requires count { length cells.old ≡ 2 ^ lg * cols }
-    requires below { AreElements cells.old }
-    requires items { items.items ≡ elements cells.old }
+    requires { AreElementRows lg cols cells.old items.items }
     ensures ok { OnOk result (AreWordValues cols cells.old cells.new) }
     ensures err { OnErr result (cells.new ≡ cells.old) }
 {
@@ -149,10 +154,7 @@ pub fn evaluate(alloc: Global, cells: &mut [u64], items: Vec<F>, lg: u8, cols: u
 /// Puts the coefficients of the polynomials whose values the columns are in place of these, which
 /// are handed in as elements too.
 pub fn interpolate(alloc: Global, cells: &mut [u64], items: Vec<F>, lg: u8, cols: usize) -> Mem<()>
-    requires small { lg ≤ 32 }
-    requires count { length cells.old ≡ 2 ^ lg * cols }
-    requires below { AreElements cells.old }
-    requires items { items.items ≡ elements cells.old }
+    requires { AreElementRows lg cols cells.old items.items }
     ensures ok { OnOk result (AreWordValues cols cells.new cells.old) }
     ensures err { OnErr result (cells.new ≡ cells.old) }
 {
@@ -179,17 +181,15 @@ pub(crate) fn points(alloc: Global, lg: u8, bytes: &[u8]) -> Mem<VanishingPoints
     Ok(out)
 }
 
-/// Puts the coefficients of the polynomials that fit the rows whose byte is 1 in place of the
-/// cells.
-pub fn recover(alloc: Global, cells: &mut [u64], lg: u8, cols: usize, bytes: &[u8]) -> Mem<()>
-    requires small { lg ≤ 32 }
-    requires rows { length bytes.now ≡ 2 ^ lg }
-    requires shape { HasRowsFor (length cells.old) cols (length bytes.now) }
-    requires marks { All (λ b. b ≤ 1) bytes.now }
-    requires below { AreFilledElements cols cells.old bytes.now }
-    ensures ok { OnOk result (AreRecoveredWords cols cells.old bytes.now cells.new) }
+/// Puts the coefficients of the polynomials that fit the filled rows in place of the cells.
+pub fn recover(alloc: Global, cells: &mut [u64], filled: &FilledRows<'_>) -> Mem<()>
+    requires whole { length cells.old ≡ length filled.now.bytes.now * filled.now.cols }
+    requires below { AreFilledElements filled.now.cols cells.old filled.now.bytes.now }
+    ensures ok { OnOk result (AreRecoveredWords filled.now.cols
+        cells.old filled.now.bytes.now cells.new) }
     ensures err { OnErr result (cells.new ≡ cells.old) }
 {
+    let FilledRows { lg, cols, bytes } = *filled;
     let items = filled_elements(alloc, cells, cols, bytes)?;
     let matrix = matrix_of(items, bytes.len(), cols);
     let points = points(alloc, lg, bytes)?;

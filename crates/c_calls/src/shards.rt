@@ -1,15 +1,20 @@
 //! Shards of data as words, a shard a row.
+//!
+//! A call takes `min`, `total` and the number of words of a shard once, and the indices as a list:
+//! a caller keeps them once. The words of the shards tell different splits apart, and `Mismatch`
+//! says that not 1 <= `min` <= `total`.
 
-ghost use Rattle.std.specs.Prelude.{◌≡◌, ◌↔◌, ◌<◌, ◌≤◌, ◌*◌, ℕ, List, IsTrue, IfOk, IfErr, IfSome, IfNone, OnOk, OnErr, length, ◌⊎◌};
-ghost use Rattle.math_shards.specs.Joining.{IsMemory};
-ghost use Rattle.c_calls.specs.WordElements.{AreElements};
-ghost use Rattle.c_calls.specs.WordEncodings.{StandInFront};
-ghost use Rattle.c_calls.specs.WordShards.{AreRefusedCorrecting, AreRowsOf, AreWordsOfShards, DoCorrectTo, HaveShardSizes, IsSplit};
+ghost use Rattle.std.specs.Prelude.{◌≡◌, ◌↔◌, ◌<◌, ◌≤◌, ◌*◌, ℕ, List, IsTrue, IfSome, IfNone, OnOk, OnErr, length};
+ghost use Rattle.c_calls.specs.WordShards.{AreRefused, AreRefusedCorrecting, AreRowsOf, AreWordsOfShards, DoCorrectTo, DoJoinTo, HaveShardSizes, IsSplit};
 
+mod in_hand;
+
+use crate::in_hand::ShardsInHand;
 use commonware_math::algebra::Mem;
 use commonware_math::shards::{
     Error, join_corrected, join_rows, shard_width, shards_of_rows, split_rows,
 };
+pub use in_hand::WordShards;
 use std::alloc::Global;
 
 /// 2^57: there are fewer words of data, and fewer of shards.
@@ -78,80 +83,38 @@ pub fn write_shards(
     Ok(())
 }
 
-/// Writes the data of the shards, however some are wrong, over the first words of `out`, and the
-/// positions of the wrong ones over the first items of `left_out`, and gives the numbers of both.
-///
-/// `None` where there is no room for the data. It refuses as `join_corrected` does. Sound shards are
-/// joined where they lie.
-pub fn write_corrected(
-    alloc: Global,
-    indices: &[u32],
-    min: u32,
-    total: u32,
-    cells: &[u64],
-    cols: usize,
-    out: &mut [u64],
-    left_out: &mut [usize],
-) -> Result<Option<(usize, usize)>, Error>
-    requires count { length cells.now ≡ length indices.now * cols }
-    requires below { AreElements cells.now }
-    requires room { length indices.now ≤ length left_out.old }
-    ensures some { IfOk result (λ answer. IfSome answer (λ n. (words positions : List ℕ)
-        × DoCorrectTo words positions min total indices.now cells.now
-        × (n.0 ≡ length words) × StandInFront words out.old out.new
-        × (n.1 ≡ length positions) × StandInFront positions left_out.old left_out.new)) }
-    ensures none { IfOk result (λ answer. IfNone answer ((words positions : List ℕ)
-        × DoCorrectTo words positions min total indices.now cells.now
-        × (length out.old < length words))) }
-    ensures kept { IfOk result (λ answer. IfNone answer
-        ((out.new ≡ out.old) × (left_out.new ≡ left_out.old))) }
-    ensures err { OnErr result ((out.new ≡ out.old) × (left_out.new ≡ left_out.old)) }
-    ensures due { IfErr result
-        (λ e. IsMemory e ⊎ AreRefusedCorrecting e min total indices.now cells.now) }
-{
-    match join_rows(alloc, indices, min, total, cells, cols, out) {
-        Ok(Some(n)) => Ok(Some((n, 0))),
-        Ok(None) => Ok(None),
-        Err(Error::Memory(error)) => Err(Error::Memory(error)),
-        Err(_) => write_corrected_shards(alloc, indices, min, total, cells, cols, out, left_out),
-    }
-}
+/// Words that give words back.
+impl<'a> ShardsInHand for WordShards<'a> {
+    type Item = u64;
 
-/// As `write_corrected`, of words that fit no data: from shards that are made of these.
-fn write_corrected_shards(
-    alloc: Global,
-    indices: &[u32],
-    min: u32,
-    total: u32,
-    cells: &[u64],
-    cols: usize,
-    out: &mut [u64],
-    left_out: &mut [usize],
-) -> Result<Option<(usize, usize)>, Error>
-    requires count { length cells.now ≡ length indices.now * cols }
-    requires below { AreElements cells.now }
-    requires room { length indices.now ≤ length left_out.old }
-    ensures some { IfOk result (λ answer. IfSome answer (λ n. (words positions : List ℕ)
-        × DoCorrectTo words positions min total indices.now cells.now
-        × (n.0 ≡ length words) × StandInFront words out.old out.new
-        × (n.1 ≡ length positions) × StandInFront positions left_out.old left_out.new)) }
-    ensures none { IfOk result (λ answer. IfNone answer ((words positions : List ℕ)
-        × DoCorrectTo words positions min total indices.now cells.now
-        × (length out.old < length words))) }
-    ensures kept { IfOk result (λ answer. IfNone answer
-        ((out.new ≡ out.old) × (left_out.new ≡ left_out.old))) }
-    ensures err { OnErr result ((out.new ≡ out.old) × (left_out.new ≡ left_out.old)) }
-    ensures due { IfErr result
-        (λ e. IsMemory e ⊎ AreRefusedCorrecting e min total indices.now cells.now) }
-{
-    let shards = shards_of_rows(alloc, indices, min, total, cells, cols)?;
-    let joined = join_corrected(alloc, &shards)?;
-    let n = joined.words.len();
-    let many = joined.left_out.len();
-    if n > out.len() {
-        return Ok(None);
+    ghost count = { λ s. length s.indices.now };
+
+    ghost join_to = { λ s words. DoJoinTo words s.min s.total s.indices.now s.cells.now };
+
+    ghost correct_to = { λ s words positions.
+        DoCorrectTo words positions s.min s.total s.indices.now s.cells.now };
+
+    ghost refused = { λ s e. AreRefused e s.min s.total s.indices.now s.cells.now };
+
+    ghost refused_correcting = { λ s e.
+        AreRefusedCorrecting e s.min s.total s.indices.now s.cells.now };
+
+    fn join(self, alloc: Global, out: &mut [u64]) -> Result<Option<usize>, Error> {
+        join_rows(
+            alloc,
+            self.indices,
+            self.min,
+            self.total,
+            self.cells,
+            self.cols,
+            out,
+        )
     }
-    out[..n].copy_from_slice(&joined.words);
-    left_out[..many].copy_from_slice(&joined.left_out);
-    Ok(Some((n, many)))
+
+    fn correct(self, alloc: Global) -> Result<(Vec<u64>, Vec<usize>), Error> {
+        let (min, total) = (self.min, self.total);
+        let shards = shards_of_rows(alloc, self.indices, min, total, self.cells, self.cols)?;
+        let joined = join_corrected(alloc, &shards)?;
+        Ok((joined.words, joined.left_out))
+    }
 }

@@ -2,7 +2,7 @@
 
 ghost use Rattle.std.specs.Prelude.{◌≡◌, ◌≢◌, ◌↔◌, ◌⊎◌, ◌≤◌, ◌-◌, ◌++◌, Result, length, replicate};
 ghost use Rattle.math_codec.specs.Faults.{Fault, IsMemory, Reports};
-ghost use Rattle.c_calls.specs.Statuses.{code_of, done, end_of_buffer, extra_data, out_of_memory, out_of_range, status_of_read, status_of_rows, status_of_shards, text_of};
+ghost use Rattle.c_calls.specs.Statuses.{code_of, done, end_of_buffer, extra_data, out_of_memory, out_of_range, status_of_read, status_of_roots, status_of_rows, status_of_shards, text_of};
 
 use commonware_math::codec::Error;
 use commonware_math::shards;
@@ -40,6 +40,10 @@ pub enum Status {
     ExtraData = 12,
     /// A point is there twice.
     Repeated = 13,
+    /// A block with a root has more than 2^16 shards.
+    TooMany = 14,
+    /// The data of the shards under the root have another root.
+    WrongRoot = 15,
 }
 
 impl Status {
@@ -100,6 +104,19 @@ pub fn of_rows(error: &systematic_shards::Error) -> Status
     }
 }
 
+/// The status of a commitment or of a join under a root that is refused.
+pub fn of_roots(error: &shard_roots::Error) -> Status
+    ensures { code_of result ≡ status_of_roots error.now }
+{
+    match error {
+        shard_roots::Error::Memory(_) => Status::OutOfMemory,
+        shard_roots::Error::TooMany => Status::TooMany,
+        shard_roots::Error::Masks => Status::Inconsistent,
+        shard_roots::Error::Rows(rows) => of_rows(rows),
+        shard_roots::Error::Root => Status::WrongRoot,
+    }
+}
+
 /// What a status says, in at most 31 ASCII characters.
 fn text(status: u32) -> &'static str
     ensures text { result.now ≡ text_of status }
@@ -120,6 +137,8 @@ fn text(status: u32) -> &'static str
         11 => "invalid length",
         12 => "extra data",
         13 => "repeated point",
+        14 => "more than 65536 shards",
+        15 => "the root of no data",
         _ => "no status",
     }
 }

@@ -1,4 +1,8 @@
 //! Systematic shards of a block of bytes, as bytes, a row after the other.
+//!
+//! A data shard is the data byte for byte, so no number has a place in it: the size, `min`, `total`
+//! and the mask that `encode` gave are handed to each call. The size says how many zeros follow the
+//! data.
 
 ghost use Rattle.std.specs.Prelude.{◌≡◌, ◌≢◌, ◌↔◌, ◌≤◌, ◌-◌, ◌*◌, ℕ, [], List, length};
 ghost use Rattle.std.specs.Prelude.{IsTrue, IfOk, IfErr, IfSome, IfNone, OnOk, OnErr};

@@ -1,13 +1,15 @@
 //! Weights by which values at some points give the value elsewhere, as words.
+//!
+//! They are those of `poly::weights_at`: an `Interpolator` would make a map of the points.
 
 ghost use Rattle.std.specs.Prelude.{◌≡◌, ◌↔◌, ◌<◌, ◌≤◌, ◌^◌, IsTrue, IfOk, OnOk, OnErr, length};
 ghost use Rattle.std.specs.Int.{IsNextPowerOfTwo};
 ghost use Rattle.std.specs.Map.{values_of};
 ghost use Rattle.math_numbers.specs.Goldilocks.{P};
-ghost use Rattle.math_base.specs.Elements.{root_of};
-ghost use Rattle.math_transforms.specs.RootWeights.{powers_at};
-ghost use Rattle.c_calls.specs.WordElements.{AreElements, goldilocks};
-ghost use Rattle.c_calls.specs.WordWeights.{AreRising, AreWordWeights, AreWordWeightsAtRoots};
+ghost use Rattle.math_fields.specs.Elements.{root_of};
+ghost use Rattle.math_transforms.specs.RootWeights.{AreRising, powers_at};
+ghost use Rattle.c_calls.specs.WordElements.{AreElements, goldilocks, numbers};
+ghost use Rattle.c_calls.specs.WordWeights.{AreWordWeights, AreWordWeightsAtRoots};
 
 use crate::elements::{elements, write_numbers};
 use commonware_math::algebra::{Mem, Ring};
@@ -21,8 +23,7 @@ use std::num::NonZeroU32;
 /// Writes the weights for the value at x over the points.
 pub fn write_weights(alloc: Global, points: &[u64], x: u64, weights: &mut [u64]) -> Mem<()>
     requires count { length weights.old ≡ length points.now }
-    requires below { AreElements points.now }
-    requires x_below { x < P }
+    requires below { AreElements points.now × (x < P) }
     ensures ok { OnOk result (AreWordWeights x points.now weights.new) }
     ensures err { OnErr result (weights.new ≡ weights.old) }
 {
@@ -99,52 +100,48 @@ fn are_few(count: usize, lg: u8) -> bool
     count.saturating_mul(count) <= (lg as usize) << lg
 }
 
-/// Writes the weights for the value at x over the powers, with these exponents, of the root whose
-/// order is `total` rounded up to a power of two: from these powers alone.
-fn write_weights_at_powers(
-    alloc: Global,
-    total: NonZeroU32,
-    indices: &[u32],
-    x: u64,
-    weights: &mut [u64],
-) -> Mem<()>
-    requires count { length weights.old ≡ length indices.now }
+/// The weights for the value at x over the powers, with these exponents, of the root whose order is
+/// `total` rounded up to a power of two: from these powers alone.
+fn weights_at_powers(alloc: Global, total: NonZeroU32, indices: &[u32], x: u64) -> Mem<Vec<F>>
     requires rising { AreRising total.value indices.now }
     requires x_below { x < P }
-    ensures ok { OnOk result (AreWordWeightsAtRoots x total.value indices.now weights.new) }
-    ensures err { OnErr result (weights.new ≡ weights.old) }
+    ensures { IfOk result
+        (λ v. AreWordWeightsAtRoots x total.value indices.now (numbers v.items)) }
 {
     let powers = points_at(alloc, lg_of_total(total), indices)?;
-    let found = weights_at(alloc, &powers, &F::from(x))?;
-    write_numbers(weights, &found);
-    Ok(())
+    let weights = weights_at(alloc, &powers, &F::from(x))?;
+    Ok(weights)
 }
 
-/// Writes the same weights from all points of the domain.
-fn write_weights_in_domain(
-    alloc: Global,
-    total: NonZeroU32,
-    indices: &[u32],
-    x: u64,
-    weights: &mut [u64],
-) -> Mem<()>
-    requires count { length weights.old ≡ length indices.now }
+/// The same weights, from all points of the domain.
+fn weights_in_domain(alloc: Global, total: NonZeroU32, indices: &[u32], x: u64) -> Mem<Vec<F>>
     requires rising { AreRising total.value indices.now }
     requires x_below { x < P }
-    ensures ok { OnOk result (AreWordWeightsAtRoots x total.value indices.now weights.new) }
-    ensures err { OnErr result (weights.new ≡ weights.old) }
+    ensures { IfOk result
+        (λ v. AreWordWeightsAtRoots x total.value indices.now (numbers v.items)) }
 {
     let found = lagrange_coefficients_at(alloc, total, copied(alloc, indices)?, &F::from(x))?;
-    let found = values(alloc, found)?;
-    write_numbers(weights, &found);
-    Ok(())
+    let weights = values(alloc, found)?;
+    Ok(weights)
+}
+
+/// The same weights, by whichever way takes less time: so it does not grow with `total` where few
+/// points of a large domain are taken, and memory does not either.
+fn weights_at_roots(alloc: Global, total: NonZeroU32, indices: &[u32], x: u64) -> Mem<Vec<F>>
+    requires rising { AreRising total.value indices.now }
+    requires x_below { x < P }
+    ensures { IfOk result
+        (λ v. AreWordWeightsAtRoots x total.value indices.now (numbers v.items)) }
+{
+    if are_few(indices.len(), lg_of_total(total)) {
+        weights_at_powers(alloc, total, indices, x)
+    } else {
+        weights_in_domain(alloc, total, indices, x)
+    }
 }
 
 /// Writes the weights for the value at x over the powers, with these exponents, of the root whose
 /// order is `total` rounded up to a power of two.
-///
-/// Few points of a large domain are taken by themselves, so that time and memory do not grow with
-/// `total`.
 pub fn write_weights_at_roots(
     alloc: Global,
     total: NonZeroU32,
@@ -158,10 +155,7 @@ pub fn write_weights_at_roots(
     ensures ok { OnOk result (AreWordWeightsAtRoots x total.value indices.now weights.new) }
     ensures err { OnErr result (weights.new ≡ weights.old) }
 {
-    if are_few(indices.len(), lg_of_total(total)) {
-        write_weights_at_powers(alloc, total, indices, x, weights)?;
-    } else {
-        write_weights_in_domain(alloc, total, indices, x, weights)?;
-    }
+    let found = weights_at_roots(alloc, total, indices, x)?;
+    write_numbers(weights, &found);
     Ok(())
 }

@@ -20,7 +20,7 @@ pairs_below total pairs = filter (λ p. nat_lt p.1 total) pairs
 abbrev pub pairs_at_powers : {I A : Type 0} → RingOf A → A → List (I × ℕ) → List (I × A)
 pairs_at_powers R w pairs = map (λ p. (p.0, power R.one R.product w p.1)) pairs
 
--- keyed weights for the value at x, of pairs of a key and the index of a power of w
+-- keyed weights for the value at x, of pairs of a key and the index of a power of w: these give it, and no others do
 pub record InterpolatesAtPowers {I A : Type 0} (cmp : I → I → Ordering) (R : RingOf A) (w x : A) (pairs : List (I × ℕ)) (weights : List (I × A)) : Type 0 where
   -- each key has the weight of its point
   pub keyed : InterpolatesAt cmp R x (pairs_at_powers R w pairs) weights

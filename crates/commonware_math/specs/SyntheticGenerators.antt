@@ -12,7 +12,8 @@ pub record IsNextIndex (i : ℕ) (next : Option ℕ) : Type 0 where
   pub some : i + 1 < 2 ^ 32 → next ≡ Some (i + 1)
   pub none : i + 1 ≡ 2 ^ 32 → next ≡ None
 
--- one call: it gives the generator of the next index and goes on to the index after it, or is refused and ends
+-- one call of the iterator of generators: it gives the generator of the next index and goes on to the index after it, or is refused and
+-- ends
 abbrev pub GivesGenerator : {C E : Type 0} → (ℕ → C → Type 0) → Option ℕ → Option (Result C E) → Option ℕ → Type 0
 GivesGenerator is_generator None r after = (r ≡ None) × (after ≡ None)
 GivesGenerator is_generator (Some i) None after = ⊥

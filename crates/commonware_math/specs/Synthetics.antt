@@ -23,7 +23,7 @@ pub record HasIndices {A : Type 0} (terms : List (ℕ × A)) (P : ℕ → Type 0
   pub rising : IsRising terms
   pub indices : (i : ℕ) → HasTerm terms i ↔ P i
 
--- i is the greatest index
+-- i is the greatest index at which a term stands
 pub record IsGreatestIndex {A : Type 0} (terms : List (ℕ × A)) (i : ℕ) : Type 0 where
   pub has : HasTerm terms i
   pub greatest : (j : ℕ) → HasTerm terms j → j ≤ i
@@ -37,7 +37,7 @@ AnyHasTerm (c ∷ combinations) i = HasTerm c.0 i ⊎ AnyHasTerm combinations i
 abbrev pub HaveSameWeights : {A : Type 0} → (A → A → Type 0) → A → (A → A → A) → List (ℕ × A) → List (ℕ × A) → Type 0
 HaveSameWeights same zero sum a b = (i : ℕ) → same (weight_at zero sum i a) (weight_at zero sum i b)
 
--- the weights at each index are same, and so are the sums of the points
+-- the weights at each index are same, and the sums of the points are same
 pub record AreSameCombinations {A B : Type 0} (same : A → A → Type 0) (zero : A) (sum : A → A → A) (same_point : B → B → Type 0) (c d : List (ℕ × A) × B) : Type 0 where
   pub weights : HaveSameWeights same zero sum c.0 d.0
   pub points : same_point c.1 d.1
@@ -50,7 +50,7 @@ map_weights f terms = map (λ term. (term.0, f term.1)) terms
 abbrev pub combination_zero : {A B : Type 0} → B → List (ℕ × A) × B
 combination_zero zero = ([], zero)
 
--- the terms of both, so that weights at one index add up, and the sum of the points of both
+-- the terms of both, where the weights at one index add up, and the sum of the points of both
 abbrev pub combination_sum : {A B : Type 0} → (B → B → B) → List (ℕ × A) × B → List (ℕ × A) × B → List (ℕ × A) × B
 combination_sum sum c d = (c.0 ++ d.0, sum c.1 d.1)
 

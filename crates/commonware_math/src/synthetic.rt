@@ -9,6 +9,9 @@
 //! Once points are known for the generators, `eval` puts them in. Combinations that are equal have
 //! equal values under all generators, so an equation between commitments may be worked out on
 //! combinations, and costs one `msm` in the end.
+//!
+//! Laws need no order of the terms. A clause of its own says that the indices of an answer rise,
+//! and which they are.
 
 ghost use Rattle.std.specs.Prelude.{◌≡◌, ◌<◌, ℕ, List, [], length, IfOk, IfSome, IfNone};
 ghost use Rattle.std.specs.Iterator.{IsFiniteIterable, Drains};

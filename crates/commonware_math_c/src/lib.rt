@@ -5,38 +5,49 @@
 //! contracts over elements. It answers a status; `include/commonware_math.h` says what a caller has
 //! to know. A slice crosses as a pointer and a length, and a `Global` takes no place among the
 //! arguments.
+//!
+//! No export takes a raw pointer: the same clauses as elsewhere say what is written, and there is
+//! no unsafe code. An export returns a number and no pointer. So the text of a status is written
+//! into the caller's bytes, the name of a status is an inline function of the header, and the
+//! version is one number: 10000 times the major one, 100 times the minor one, and the patch. The
+//! words of data and of all shards are below 2^57, which no memory holds, so no number of bits or
+//! bytes is past a `size_t`.
 #![tactic(auto)]
 
 ghost use Rattle.std.specs.Prelude.{◌≡◌, ◌≢◌, ◌↔◌, ◌<◌, ◌≤◌, ◌-◌, ◌+◌, ◌*◌, ◌++◌, ◌⊎◌, ℕ, List, length, replicate, All};
 ghost use Rattle.math_numbers.specs.Goldilocks.{P};
 ghost use Rattle.math_theory.specs.Interpolation.{AreApart};
 ghost use Rattle.math_theory.specs.Recovery.{count_true};
-ghost use Rattle.math_base.specs.Elements.{number, residue, same};
+ghost use Rattle.math_fields.specs.Elements.{number, residue, same};
 ghost use Rattle.math_base.specs.Polynomials.{value_in_ring};
-ghost use Rattle.c_calls.specs.Statuses.{done, end_of_buffer, extra_data, inconsistent, out_of_memory, out_of_range, repeated, too_few, wrong_size, mismatch, wrong_index, status_of_read, status_of_shards, text_of};
+ghost use Rattle.math_transforms.specs.RootWeights.{AreRising};
+ghost use Rattle.c_calls.specs.Statuses.{TestsSizes, done, end_of_buffer, extra_data, inconsistent, out_of_memory, out_of_range, repeated, too_few, wrong_size, mismatch, wrong_index, status_of_read, status_of_shards, text_of};
 ghost use Rattle.c_calls.specs.WordCorrections.{AreCorrectedWords, HaveNearRows};
 ghost use Rattle.c_calls.specs.WordDecodings.{AreDecodedWords, HasDecodingSizes, HasNearWords};
 ghost use Rattle.c_calls.specs.WordElements.{AreElements, elements, goldilocks};
 ghost use Rattle.c_calls.specs.WordRows.{AreWordValues, AreRecoveredWords, AreFilledElements, HasRows, HasRowsFor, truth};
-ghost use Rattle.c_calls.specs.WordWeights.{AreRising, AreWordWeights, AreWordWeightsAtRoots};
+ghost use Rattle.c_calls.specs.WordWeights.{AreWordWeights, AreWordWeightsAtRoots};
 ghost use Rattle.c_calls.specs.WordShards.{AreRefused, AreRefusedCorrecting, AreRowsOf, AreWordsOfShards, DoCorrectTo, DoJoinTo, HaveShardSizes, IsSplit};
 ghost use Rattle.math_shards.specs.declared.shards.Error.{Error};
 ghost use Rattle.c_calls.specs.ShardBytes.{AreBlockRefused, AreBlockRefusedCorrecting, AreByteRowsOf, AreBytesOfShards, DoCorrectToBlock, DoJoinToBlock, HaveShardBytes, SpellElements};
 ghost use Rattle.commonware_math_c.specs.Version.{version};
 ghost use Rattle.c_calls.specs.WordEncodings.{IsCoefficientCount, IsEncodedBy, StandInFront, polynomial_spelling, scan_polynomial};
 
+pub mod roots;
 pub mod systematic;
 
+use c_calls::blocks::ByteShards;
 use c_calls::corrections::correct_words;
 use c_calls::decodings::{are_decoding_sizes, decode_words};
 use c_calls::elements::{are_elements, elements_below};
+use c_calls::in_hand::ShardsInHand;
+use c_calls::joining::write_corrected;
 use c_calls::polynomials::is_coefficient_count;
-use c_calls::rows::{are_filled_elements, are_marks, lg_of_rows, lg_of_these_rows};
-use c_calls::shards::is_split;
+use c_calls::rows::{FilledRows, are_filled_elements, are_marks, lg_of_rows, lg_of_these_rows};
+use c_calls::shards::{WordShards, is_split};
 use c_calls::status::Status;
 use c_calls::{blocks, polynomials, rows, shards, status, values, weights};
 use commonware_math::fields::goldilocks::MODULUS;
-use commonware_math::shards::join_rows;
 use std::alloc::Global;
 use std::num::NonZeroU32;
 
@@ -133,7 +144,12 @@ pub extern "C" fn cwm_recover(alloc: Global, cells: &mut [u64], cols: usize, fil
     if !are_marks(filled) || !are_filled_elements(cells, cols, filled) {
         return Status::OutOfRange.code();
     }
-    match rows::recover(alloc, cells, lg, cols, filled) {
+    let rows = FilledRows {
+        lg,
+        cols,
+        bytes: filled,
+    };
+    match rows::recover(alloc, cells, &rows) {
         Ok(()) => Status::Done.code(),
         Err(_) => Status::OutOfMemory.code(),
     }
@@ -174,7 +190,12 @@ pub extern "C" fn cwm_correct(
     if !are_marks(filled) || !are_filled_elements(cells, cols, filled) {
         return Status::OutOfRange.code();
     }
-    match correct_words(alloc, cells, lg, cols, filled, count, wrong, written) {
+    let rows = FilledRows {
+        lg,
+        cols,
+        bytes: filled,
+    };
+    match correct_words(alloc, cells, &rows, count, wrong, written) {
         Ok(status) => status.code(),
         Err(_) => Status::OutOfMemory.code(),
     }
@@ -327,8 +348,7 @@ pub extern "C" fn cwm_decode_poly(
     count: &mut usize,
 ) -> u32
     ensures decoded { result ≡ done → (p : List ℕ) × IsEncodedBy p bytes.now
-        × (count.new ≡ length p)
-        × StandInFront p out.old out.new }
+        × (count.new ≡ length p) × StandInFront p out.old out.new }
     ensures kept { result ≢ done → (out.new ≡ out.old) × (count.new ≡ count.old) }
     ensures size { result ≡ wrong_size
         → (p : List ℕ) × IsEncodedBy p bytes.now × (length out.old < length p) }
@@ -379,9 +399,8 @@ pub extern "C" fn cwm_split(
     ensures shards { result ≡ done
         → IsSplit min total × AreWordsOfShards words.now min total cells.new }
     ensures kept { result ≢ done → cells.new ≡ cells.old }
-    ensures size { result ≡ wrong_size ↔ IsSplit min total × ¬ ((n : ℕ)
-        × HaveShardSizes (length words.now) min total n × (length cells.old ≡ total * n)) }
-    ensures mismatch { result ≡ mismatch ↔ ¬ (IsSplit min total) }
+    ensures sizes { TestsSizes (IsSplit min total) ((n : ℕ)
+        × HaveShardSizes (length words.now) min total n × (length cells.old ≡ total * n)) result }
     ensures statuses { (result ≡ done) ⊎ (result ≡ out_of_memory) ⊎ (result ≡ wrong_size)
         ⊎ (result ≡ mismatch) }
 {
@@ -431,7 +450,14 @@ pub extern "C" fn cwm_join(
     if !are_elements(cells) {
         return Status::OutOfRange.code();
     }
-    match join_rows(alloc, indices, min, total, cells, cols, out) {
+    let held = WordShards {
+        indices,
+        min,
+        total,
+        cells,
+        cols,
+    };
+    match held.join(alloc, out) {
         Ok(Some(many)) => {
             *written = many;
             Status::Done.code()
@@ -486,7 +512,14 @@ pub extern "C" fn cwm_join_corrected(
     if !are_elements(cells) {
         return Status::OutOfRange.code();
     }
-    match shards::write_corrected(alloc, indices, min, total, cells, cols, out, left_out) {
+    let held = WordShards {
+        indices,
+        min,
+        total,
+        cells,
+        cols,
+    };
+    match write_corrected(alloc, held, out, left_out) {
         Ok(Some((words, positions))) => {
             *written = words;
             *many = positions;
@@ -530,9 +563,8 @@ pub extern "C" fn cwm_split_bytes(
     ensures shards { result ≡ done
         → IsSplit min total × AreBytesOfShards block.now min total shards.new }
     ensures kept { result ≢ done → shards.new ≡ shards.old }
-    ensures size { result ≡ wrong_size ↔ IsSplit min total × ¬ ((n : ℕ)
-        × HaveShardBytes (length block.now) min total n × (length shards.old ≡ total * n)) }
-    ensures mismatch { result ≡ mismatch ↔ ¬ (IsSplit min total) }
+    ensures sizes { TestsSizes (IsSplit min total) ((n : ℕ)
+        × HaveShardBytes (length block.now) min total n × (length shards.old ≡ total * n)) result }
     ensures statuses { (result ≡ done) ⊎ (result ≡ out_of_memory) ⊎ (result ≡ wrong_size)
         ⊎ (result ≡ mismatch) }
 {
@@ -583,7 +615,14 @@ pub extern "C" fn cwm_join_bytes(
     if !blocks::are_elements(shards) {
         return Status::OutOfRange.code();
     }
-    match blocks::write_block(alloc, indices, min, total, shards, cols, out) {
+    let held = ByteShards {
+        indices,
+        min,
+        total,
+        bytes: shards,
+        cols,
+    };
+    match held.join(alloc, out) {
         Ok(Some(many)) => {
             *written = many;
             Status::Done.code()
@@ -639,7 +678,14 @@ pub extern "C" fn cwm_join_bytes_corrected(
     if !blocks::are_elements(shards) {
         return Status::OutOfRange.code();
     }
-    match blocks::write_corrected_block(alloc, indices, min, total, shards, cols, out, left_out) {
+    let held = ByteShards {
+        indices,
+        min,
+        total,
+        bytes: shards,
+        cols,
+    };
+    match write_corrected(alloc, held, out, left_out) {
         Ok(Some((bytes, positions))) => {
             *written = bytes;
             *many = positions;

@@ -2,12 +2,12 @@
 
 ghost use Rattle.std.specs.Prelude.{◌≡◌, ◌≢◌, ◌↔◌, ◌<◌, ◌≤◌, ◌-◌, ◌*◌, ◌⊎◌, ℕ, [], List, length};
 ghost use Rattle.systematic_shards.specs.declared.split.Split.{Split};
-ghost use Rattle.c_calls.specs.Statuses.{conflict, done, inconsistent, mismatch, out_of_memory};
-ghost use Rattle.c_calls.specs.Statuses.{out_of_range, wrong_index, wrong_size};
+ghost use Rattle.c_calls.specs.Statuses.{TestsSizes, conflict, done, inconsistent, mismatch};
+ghost use Rattle.c_calls.specs.Statuses.{out_of_memory, out_of_range, wrong_index, wrong_size};
 ghost use Rattle.c_calls.specs.SystematicRows.{AreCorrected, AreDecoded, AreEncoded, AreRebuilt};
-ghost use Rattle.c_calls.specs.SystematicRows.{GivenRows, HaveRoom, HaveRowsFor};
+ghost use Rattle.c_calls.specs.SystematicRows.{HaveRoom, HaveRowsFor, HoldsOfGiven};
 ghost use Rattle.c_calls.specs.SystematicRows.{IsCorrectingDueTo, IsDecodeDueTo, IsDueTo};
-ghost use Rattle.c_calls.specs.SystematicRows.{IsSplitOf, IsStatusWhere, IsVerified, TellsOfRows};
+ghost use Rattle.c_calls.specs.SystematicRows.{IsSplitOf, IsStatusDue, IsVerified};
 ghost use Rattle.c_calls.specs.SystematicRows.{bytes_in_row, width_of};
 ghost use Rattle.c_calls.specs.WordEncodings.{StandInFront};
 ghost use Rattle.c_calls.specs.WordShards.{IsSplit};
@@ -30,11 +30,10 @@ pub extern "C" fn cwm_systematic_sizes(
     ensures row { result ≡ done → row.new ≡ 8 * width_of size min }
     ensures part { result ≡ done → part.new ≡ bytes_in_row size (width_of size min) index }
     ensures kept { result ≢ done → (row.new ≡ row.old) × (part.new ≡ part.old) }
-    ensures size { result ≡ wrong_size
-        ↔ IsSplit min total × ¬ (HaveRoom min total (width_of size min)) }
+    ensures sizes { TestsSizes (IsSplit min total)
+        (HaveRoom min total (width_of size min)) result }
     ensures index { result ≡ wrong_index
         ↔ IsSplit min total × HaveRoom min total (width_of size min) × (total ≤ index) }
-    ensures mismatch { result ≡ mismatch ↔ ¬ (IsSplit min total) }
     ensures statuses { (result ≡ done) ⊎ (result ≡ wrong_size) ⊎ (result ≡ mismatch)
         ⊎ (result ≡ wrong_index) }
 {
@@ -65,9 +64,8 @@ pub extern "C" fn cwm_systematic_encode(
     ensures encoded { result ≡ done → (split : Split) × IsSplitOf (length block.now) min total split
         × AreEncoded split block.now mask.new parity.new }
     ensures kept { result ≢ done → (parity.new ≡ parity.old) × (mask.new ≡ mask.old) }
-    ensures size { result ≡ wrong_size ↔ IsSplit min total
-        × ¬ (HaveRowsFor (length block.now) min total (total - min) (length parity.old)) }
-    ensures mismatch { result ≡ mismatch ↔ ¬ (IsSplit min total) }
+    ensures sizes { TestsSizes (IsSplit min total)
+        (HaveRowsFor (length block.now) min total (total - min) (length parity.old)) result }
     ensures statuses { (result ≡ done) ⊎ (result ≡ out_of_memory) ⊎ (result ≡ wrong_size)
         ⊎ (result ≡ mismatch) }
 {
@@ -101,17 +99,14 @@ pub extern "C" fn cwm_systematic_rebuild(
     wanted: &[u32],
     out: &mut [u8],
 ) -> u32
-    ensures rebuilt { result ≡ done
-        → (it : GivenRows size min total mask indices.now rows.now)
-        × AreRebuilt it.code it.rows wanted.now out.new }
+    ensures rebuilt { result ≡ done → HoldsOfGiven size min total mask indices.now rows.now
+        (λ code given. AreRebuilt code given wanted.now out.new) }
     ensures kept { result ≢ done → out.new ≡ out.old }
-    ensures size { result ≡ wrong_size ↔ IsSplit min total
-        × ¬ (HaveRowsFor size min total (length indices.now) (length rows.now)
-        × HaveRowsFor size min total (length wanted.now) (length out.old)) }
-    ensures mismatch { result ≡ mismatch ↔ ¬ (IsSplit min total) }
-    ensures refused { TellsOfRows result
-        → (it : GivenRows size min total mask indices.now rows.now)
-        × IsStatusWhere (IsDueTo it.code wanted.now it.rows) result }
+    ensures sizes { TestsSizes (IsSplit min total)
+        (HaveRowsFor size min total (length indices.now) (length rows.now)
+        × HaveRowsFor size min total (length wanted.now) (length out.old)) result }
+    ensures refused { IsStatusDue size min total mask indices.now rows.now
+        (λ code. IsDueTo code wanted.now) result }
     ensures statuses { result ≤ inconsistent }
 {
     if !is_split(min, total) {
@@ -141,15 +136,13 @@ pub extern "C" fn cwm_systematic_decode(
     block: &mut [u8],
 ) -> u32
     ensures decoded { result ≡ done
-        → (it : GivenRows (length block.old) min total mask indices.now rows.now)
-        × AreDecoded it.code it.rows block.new }
+        → HoldsOfGiven (length block.old) min total mask indices.now rows.now
+        (λ code given. AreDecoded code given block.new) }
     ensures kept { result ≢ done → block.new ≡ block.old }
-    ensures size { result ≡ wrong_size ↔ IsSplit min total
-        × ¬ (HaveRowsFor (length block.old) min total (length indices.now) (length rows.now)) }
-    ensures mismatch { result ≡ mismatch ↔ ¬ (IsSplit min total) }
-    ensures refused { TellsOfRows result
-        → (it : GivenRows (length block.old) min total mask indices.now rows.now)
-        × IsStatusWhere (IsDecodeDueTo it.code it.rows) result }
+    ensures sizes { TestsSizes (IsSplit min total)
+        (HaveRowsFor (length block.old) min total (length indices.now) (length rows.now)) result }
+    ensures refused { IsStatusDue (length block.old) min total mask indices.now rows.now
+        (λ code. IsDecodeDueTo code) result }
     ensures statuses { result ≤ inconsistent }
 {
     if !is_split(min, total) {
@@ -177,16 +170,13 @@ pub extern "C" fn cwm_systematic_verify(
     mask: u32,
     belong: &mut u32,
 ) -> u32
-    ensures verified { result ≡ done
-        → (it : GivenRows size min total mask indices.now rows.now)
-        × IsVerified it.code it.rows belong.new }
+    ensures verified { result ≡ done → HoldsOfGiven size min total mask indices.now rows.now
+        (λ code given. IsVerified code given belong.new) }
     ensures kept { result ≢ done → belong.new ≡ belong.old }
-    ensures size { result ≡ wrong_size ↔ IsSplit min total
-        × ¬ (HaveRowsFor size min total (length indices.now) (length rows.now)) }
-    ensures mismatch { result ≡ mismatch ↔ ¬ (IsSplit min total) }
-    ensures refused { TellsOfRows result
-        → (it : GivenRows size min total mask indices.now rows.now)
-        × IsStatusWhere (IsDueTo it.code [] it.rows) result }
+    ensures sizes { TestsSizes (IsSplit min total)
+        (HaveRowsFor size min total (length indices.now) (length rows.now)) result }
+    ensures refused { IsStatusDue size min total mask indices.now rows.now
+        (λ code. IsDueTo code []) result }
     ensures statuses { result ≤ wrong_index }
 {
     if !is_split(min, total) {
@@ -220,20 +210,18 @@ pub extern "C" fn cwm_systematic_rebuild_corrected(
     left_out: &mut [usize],
     many: &mut usize,
 ) -> u32
-    ensures corrected { result ≡ done
-        → (it : GivenRows size min total mask indices.now rows.now) × ((positions : List ℕ)
-        × AreCorrected it.code it.rows wanted.now positions out.new
+    ensures corrected { result ≡ done → HoldsOfGiven size min total mask indices.now rows.now
+        (λ code given. (positions : List ℕ)
+        × AreCorrected code given wanted.now positions out.new
         × (many.new ≡ length positions) × StandInFront positions left_out.old left_out.new) }
     ensures kept { result ≢ done → (out.new ≡ out.old) × (left_out.new ≡ left_out.old)
         × (many.new ≡ many.old) }
-    ensures size { result ≡ wrong_size ↔ IsSplit min total
-        × ¬ (HaveRowsFor size min total (length indices.now) (length rows.now)
+    ensures sizes { TestsSizes (IsSplit min total)
+        (HaveRowsFor size min total (length indices.now) (length rows.now)
         × HaveRowsFor size min total (length wanted.now) (length out.old)
-        × (length indices.now ≤ length left_out.old)) }
-    ensures mismatch { result ≡ mismatch ↔ ¬ (IsSplit min total) }
-    ensures refused { TellsOfRows result
-        → (it : GivenRows size min total mask indices.now rows.now)
-        × IsStatusWhere (IsCorrectingDueTo it.code wanted.now it.rows) result }
+        × (length indices.now ≤ length left_out.old)) result }
+    ensures refused { IsStatusDue size min total mask indices.now rows.now
+        (λ code. IsCorrectingDueTo code wanted.now) result }
     ensures statuses { (result ≤ inconsistent) × (result ≢ out_of_range) × (result ≢ conflict) }
 {
     if !is_split(min, total) {

@@ -14,11 +14,11 @@ use Rattle.math_codec.specs.Lengths.{length_at}
 use Rattle.math_codec.specs.LengthLaws.{length_again}
 use Rattle.math_codec.specs.Lists.{AdmitsList, ListGrows}
 use Rattle.math_codec.specs.Ranges.{nonzero}
-use Rattle.math_base.specs.declared.fields.goldilocks.F.{F}
-use Rattle.math_base.specs.Elements.{number, residue, same, sum, product}
-use Rattle.math_base.specs.ElementLaws.{equality, group, commutes, ring}
-use Rattle.math_base.specs.ElementEncoding.{scan_element}
-use Rattle.math_base.specs.ElementEncodingLaws.{element_again}
+use Rattle.math_fields.specs.declared.goldilocks.F.{F}
+use Rattle.math_fields.specs.Elements.{number, residue, same, sum, product}
+use Rattle.math_fields.specs.ElementLaws.{equality, group, commutes, ring}
+use Rattle.math_fields.specs.ElementEncoding.{scan_element}
+use Rattle.math_fields.specs.ElementEncodingLaws.{element_again}
 use Rattle.goldmath_commands.specs.Lines.{line_end}
 use Rattle.goldmath_commands.specs.Evaluations.{IsEncodedPolynomial, any_length, eval_line}
 

@@ -9,10 +9,10 @@ use Rattle.math_codec.specs.declared.codec.error.Error.{Error}
 use Rattle.math_codec.specs.Faults.{Fault, Agrees, IsMemory, fault_of, scan_exactly}
 use Rattle.math_codec.specs.Lengths.{length_spelling}
 use Rattle.math_codec.specs.Lists.{list_spelling}
-use Rattle.math_base.specs.declared.fields.goldilocks.F.{F}
-use Rattle.math_base.specs.Elements.{number, residue, same}
-use Rattle.math_base.specs.ElementEncoding.{scan_element}
-use Rattle.math_base.specs.ElementEncodingLaws.{element_again, element_apart}
+use Rattle.math_fields.specs.declared.goldilocks.F.{F}
+use Rattle.math_fields.specs.Elements.{number, residue, same}
+use Rattle.math_fields.specs.ElementEncoding.{scan_element}
+use Rattle.math_fields.specs.ElementEncodingLaws.{element_again, element_apart}
 use Rattle.math_transforms.specs.Matrices.{MatrixOf, AreSameMatrices}
 use Rattle.math_ntt.specs.MatrixEncoding.{AdmitsMatrix, scan_count, scan_matrix}
 use Rattle.math_ntt.specs.MatrixEncodingLaws.{count_again, matrix_again, matrix_apart}

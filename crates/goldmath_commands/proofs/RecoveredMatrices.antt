@@ -5,8 +5,8 @@ use Rattle.std.proofs.Math.Nat.{div-lt_iff_lt-mul, mul_comm}
 use Rattle.std.proofs.lemmas.List.{get_or_past}
 use Rattle.std.specs.List.{AllZip}
 use Rattle.math_theory.specs.Recovery.{Fits}
-use Rattle.math_base.specs.declared.fields.goldilocks.F.{F}
-use Rattle.math_base.specs.Elements.{residue, same, sum, product, root_of}
+use Rattle.math_fields.specs.declared.goldilocks.F.{F}
+use Rattle.math_fields.specs.Elements.{residue, same, sum, product, root_of}
 use Rattle.math_transforms.specs.Matrices.{MatrixOf, IsOfSize, AreSameMatrices, cell_of, column_of}
 use Rattle.math_ntt.specs.Evaluations.{EvaluationsOf}
 use Rattle.math_ntt.proofs.MatrixPlaces.{columns_are_full, columns_hold_cells}

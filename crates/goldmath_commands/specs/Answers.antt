@@ -18,7 +18,7 @@ IsOutOfMemory (Refused error) = IsMemory error
 abbrev pub IsUsageOrOutOfMemory : ToolError → Type 0
 IsUsageOrOutOfMemory fault = IsUsage fault ⊎ IsOutOfMemory fault
 
--- the refusal is that of the expected fault, or memory ran out
+-- the refusal reports the expected fault, or memory ran out
 abbrev pub Refuses : {A : Type 0} → ToolError → Result A Fault → Type 0
 Refuses Usage expected = ⊥
 Refuses (Refused error) expected = Reports error expected

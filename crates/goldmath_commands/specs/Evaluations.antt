@@ -6,9 +6,9 @@ use Rattle.math_theory.specs.Values.{value_over}
 use Rattle.math_codec.specs.declared.codec.range.LengthRange.{LengthRange}
 use Rattle.math_codec.specs.Faults.{Fault, scan_exactly}
 use Rattle.math_codec.specs.Lists.{list_spelling, scan_list, ListGrows}
-use Rattle.math_base.specs.declared.fields.goldilocks.F.{F}
-use Rattle.math_base.specs.Elements.{number, residue, sum, product}
-use Rattle.math_base.specs.ElementEncoding.{scan_element}
+use Rattle.math_fields.specs.declared.goldilocks.F.{F}
+use Rattle.math_fields.specs.Elements.{number, residue, sum, product}
+use Rattle.math_fields.specs.ElementEncoding.{scan_element}
 use Rattle.goldmath_commands.specs.Lines.{line_end}
 use Rattle.goldmath_commands.specs.Numerals.{WritesPoint}
 

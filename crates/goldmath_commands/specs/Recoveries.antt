@@ -6,9 +6,9 @@ use Rattle.math_theory.specs.Powers.{power}
 use Rattle.math_theory.specs.Recovery.{count_true}
 use Rattle.math_theory.specs.Values.{value}
 use Rattle.math_codec.specs.Faults.{Fault, Invalid, scan_exactly, ◌>>=◌}
-use Rattle.math_base.specs.declared.fields.goldilocks.F.{F}
-use Rattle.math_base.specs.Elements.{number, residue, same, sum, product, root_of}
-use Rattle.math_base.specs.ElementEncoding.{scan_element}
+use Rattle.math_fields.specs.declared.goldilocks.F.{F}
+use Rattle.math_fields.specs.Elements.{number, residue, same, sum, product, root_of}
+use Rattle.math_fields.specs.ElementEncoding.{scan_element}
 use Rattle.math_transforms.specs.Matrices.{MatrixOf, IsOfSize, AreSameMatrices, cell_of, column_of}
 use Rattle.math_ntt.specs.Evaluations.{EvaluationsOf}
 use Rattle.math_ntt.specs.MatrixEncoding.{matrix_spelling, scan_count, scan_matrix}

@@ -1,10 +1,13 @@
 //! The commands of the program.
+//!
+//! To words that are no usage `run` answers `Usage` or out of memory, and nothing else: `recover`
+//! puts its words into a list before it has judged all of them.
 
 ghost use Rattle.std.specs.Prelude.{◌≡◌, ℕ, List, Some, IfOk, IfSome, MatchResult, map, string_bytes};
 ghost use Rattle.std.specs.List.{AllZip};
 ghost use Rattle.math_codec.specs.Faults.{Agrees, IsMemory, OnMemory};
-ghost use Rattle.math_base.specs.declared.fields.goldilocks.F.{F};
-ghost use Rattle.math_base.specs.Elements.{same};
+ghost use Rattle.math_fields.specs.declared.goldilocks.F.{F};
+ghost use Rattle.math_fields.specs.Elements.{same};
 ghost use Rattle.goldmath_commands.specs.Evaluations.{
   AreEvalWords,
   IsEncodedPolynomial,

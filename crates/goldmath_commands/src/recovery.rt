@@ -1,4 +1,8 @@
 //! The command `recover LG ROW..`: the polynomials that agree with some rows of values on a domain.
+//!
+//! The rows of the words are gone over twice: first the ones that are there twice are found, and
+//! then each is put in its place. A set of rows that is kept between the two would be one more
+//! field of `Recovery`, with a clause in each function that takes one.
 
 ghost use Rattle.std.specs.Prelude.{◌≡◌, ◌≢◌, ◌↔◌, ◌<◌, ◌≤◌, ◌*◌, ◌^◌, ℕ, List, Some, IsTrue, IfOk, IfSome, MatchResult, length, map, string_bytes, All, AllPairs, IsSome};
 ghost use Rattle.std.specs.List.{AllZip};

@@ -5,11 +5,5 @@ pub mod SquareAndMultiply
 pub mod WeightedSums
 pub mod Halves
 pub mod GeometricRuns
-pub mod PowerSteps
-pub mod ElementNumbers
-pub mod SampleSteps
 pub mod SampleLists
-pub mod BitFronts
-pub mod Packing
-pub mod Repacking
 pub mod Members

@@ -2,7 +2,8 @@
 use Rattle.std.specs.Prelude.{◌≡◌, ℕ, suc, List, [], ◌∷◌, Option, None, Some, Result, Ok, Err}
 use Rattle.math_theory.specs.Powers.{power}
 
--- one call: from the next power it gives that power, or is refused and ends, and leaves the product with the base
+-- one step of a geometric progression: from the next power it gives that power, or is refused and ends, and leaves the product with the
+-- base
 abbrev pub GivesPower : {A E : Type 0} → (A → A → Type 0) → (A → A → A) → A → Option A → Option (Result A E) → Option A → Type 0
 GivesPower same product base None None after = after ≡ None
 GivesPower same product base None (Some item) after = ⊥

@@ -9,7 +9,7 @@ unfoldable pub first_below : ℕ → Stream → Option ℕ × Stream
 first_below zero source = (None, source)
 first_below (suc n) source = if nat_lt (next_u64 source).0 P then (Some (next_u64 source).0, (next_u64 source).1) else first_below n (next_u64 source).1
 
--- a sample put before those that the stream after it gives, where all are there
+-- a sample in front of the samples that the stream after it gives, where all are there
 unfoldable pub before_samples : {T : Type 0} → Option T × Stream → (Stream → Option (List T) × Stream) → Option (List T) × Stream
 before_samples (None, source) rest = (None, source)
 before_samples (Some x, source) rest = (option_map (λ xs. x ∷ xs) (rest source).0, (rest source).1)

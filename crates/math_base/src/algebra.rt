@@ -5,8 +5,16 @@
 //! want of memory; where they answer `Ok`, the answer is the same as the definition's value. The
 //! laws of a trait speak of the definitions alone, up to `same`, and each implementation proves
 //! them. So code over these traits rests on the laws and on nothing else of a type.
+//!
+//! A field with roots of unity asks for the exact order of each root, and for a shift that is not
+//! zero: minus one would keep a weaker law at order four, and a zero shift would be no power of a
+//! root either. `Random` has a ghost member `sample`, what a source gives. So contracts promise
+//! that a polynomial has its samples in order, and is refused only if one of them is.
+//!
+//! A type may combine columns of cells in a call of its own. The loop over the columns that are
+//! left is no default body, since that could not call functions that are bound by the trait itself.
 
-ghost use Rattle.std.specs.Prelude.{◌≡◌, ◌↔◌, ◌⊎◌, ◌<◌, ◌≤◌, ℕ, List, [], Option, Some, None, Bool, IsTrue, IsSome, IsOk, IfOk, IfErr, IfSome, OnOk, OnErr, alloc_error};
+ghost use Rattle.std.specs.Prelude.{◌≡◌, ◌↔◌, ◌⊎◌, ◌<◌, ◌≤◌, ℕ, List, [], Option, Some, None, Bool, IsTrue, IsFalse, IsSome, IsOk, IfOk, IfErr, IfSome, OnOk, OnErr, alloc_error, ◌+◌, ◌*◌, length, if◌then◌else◌};
 ghost use Rattle.std.specs.Iterator.{YieldsThen};
 ghost use Rattle.rand_core.specs.Stream.{Stream, fill_bytes};
 ghost use Rattle.math_theory.specs.Laws.{IsEquality, IsMonoid, IsGroup, IsProduct, IsRing, IsField, IsModule};
@@ -16,15 +24,18 @@ ghost use Rattle.math_theory.specs.RootLaws.{HasRootsOfUnity};
 ghost use Rattle.math_theory.specs.Sums.{number_of_limbs, weighted_sum};
 ghost use Rattle.math_base.specs.declared.algebra.RandomError.TheVariants.{Memory, TooManyWords};
 ghost use Rattle.math_base.specs.Progressions.{AreGeometric};
+ghost use Rattle.math_base.specs.Columns.{AreCombinedBelow, AreOddEntries, AreSixteenTurned, AreTurnedBelow};
 
 mod progression;
 
-pub use math_codec::codec::Mem;
 pub use progression::Powers;
 use rand_core::{CryptoRng, Rng};
 use std::alloc::{AllocError, AllocFailed, Global};
 use std::fmt::Debug;
 use thiserror::Error;
+
+/// What a call answers that fails only if memory runs out. `math_codec`, which stands on nothing, has the same.
+pub type Mem<T> = Result<T, AllocError>;
 
 /// A value that can be cloned and compared by its type's own equality.
 pub trait Object: Sized + Debug + Drop {
@@ -402,6 +413,109 @@ pub trait FieldNTT: Field {
         second.mul_assign(alloc, y)?;
         out.add_assign(alloc, &second)?;
         Ok(out)
+    }
+
+    /// Combines the first columns of two rows of `cols` cells, which follow one another, by one
+    /// weight, and returns how many columns these are. The others stay as they were.
+    ///
+    /// Forward the cells a and b of a column become a + b w and a - b w, else a + b and (a - b) w.
+    ///
+    /// It is for types that combine several columns at once in less time than one after the other.
+    /// Such a type takes as many columns as it does so, and the caller takes the others. By default
+    /// no column is taken. Where the call is refused, the cells have some values.
+    ///
+    /// ```
+    /// let mut cells = [F::from(4), F::from(6)];
+    /// F::combine_first_columns(alloc, &mut cells, 1, &F::from(2), true)?; // 0
+    /// ```
+    fn combine_first_columns(
+        alloc: Global,
+        rows: &mut [Self],
+        cols: usize,
+        w: &Self,
+        forward: bool,
+    ) -> Mem<usize>
+        requires size { length rows.old ≡ 2 * cols }
+        ensures within { IfOk result (λ n. n ≤ cols) }
+        ensures combined { IfOk result
+            (λ n. AreCombinedBelow Self.Ring forward w.now cols n rows.old rows.new) }
+        ensures never { IsTrue Self.NEVER_REFUSES → IsOk result }
+    {
+        Ok(0)
+    }
+
+    /// Turns the first columns of four rows of `cols` cells, which follow one another, by two levels
+    /// at once, and returns how many columns these are. The others stay as they were.
+    ///
+    /// Forward the cells a, b, c and d of a column become (a + c g) + (b + d g) e,
+    /// (a + c g) - (b + d g) e, (a - c g) + (b - d g) f and (a - c g) - (b - d g) f, where f is e
+    /// times the root of order four. Else they become (a + b) + (c + d), (a - b) e + (c - d) f,
+    /// ((a + b) - (c + d)) g and ((a - b) e - (c - d) f) g, where f is e times its inverse.
+    ///
+    /// It is for such types as `combine_first_columns`, and does as that call does.
+    ///
+    /// ```
+    /// let mut cells = [F::from(4), F::from(6), F::from(8), F::from(9)];
+    /// let one = F::from(1);
+    /// let root = F::from(1 << 48);
+    /// F::turn_first_columns(alloc, &mut cells, 1, &one, &root, &one, true)?; // 0
+    /// ```
+    fn turn_first_columns(
+        alloc: Global,
+        rows: &mut [Self],
+        cols: usize,
+        e: &Self,
+        f: &Self,
+        g: &Self,
+        forward: bool,
+    ) -> Mem<usize>
+        requires order { 2 ≤ MAX_LG_ROOT_ORDER }
+        requires odd { Self.same f.now
+            (Self.product e.now (if forward then root 2 else Self.inverse (root 2))) }
+        requires size { length rows.old ≡ 4 * cols }
+        ensures within { IfOk result (λ n. n ≤ cols) }
+        ensures turned { IfOk result (λ n.
+            AreTurnedBelow Self.Ring forward e.now f.now g.now cols n rows.old rows.new) }
+        ensures never { IsTrue Self.NEVER_REFUSES → IsOk result }
+    {
+        Ok(0)
+    }
+
+    /// Turns sixteen rows of `cols` cells, which follow one another, by four levels at once, and
+    /// returns whether it did. If not, the cells stay as they were.
+    ///
+    /// The weights are entries of a tree of square roots. Four rows are turned by entry p as
+    /// `turn_first_columns` turns them: entries 2 p and 2 p + 1 are e and f, and entry p is g.
+    /// Forward the sixteen rows are turned as four rows of 4 `cols` cells, by the entry at the
+    /// place. Then each of the four is turned as four rows of `cols` cells: the first by entry
+    /// 4 `place`, the others by the entries that follow. On the way back each of the four is turned
+    /// first, and all of them in the end.
+    ///
+    /// It is for such types as `combine_first_columns`. By default no cell is turned.
+    ///
+    /// ```
+    /// let mut rows = [F::from(4); 32];
+    /// let roots = [F::from(0); 16];
+    /// F::turn_sixteen_rows(&mut rows, 2, &roots, 1, true); // false
+    /// ```
+    fn turn_sixteen_rows(
+        rows: &mut [Self],
+        cols: usize,
+        roots: &[Self],
+        place: usize,
+        forward: bool,
+    ) -> bool
+        requires order { 2 ≤ MAX_LG_ROOT_ORDER }
+        requires odd { AreOddEntries Self.Ring (if forward then root 2 else Self.inverse (root 2))
+            roots.now }
+        requires size { length rows.old ≡ 16 * cols }
+        requires some { 1 ≤ place }
+        requires inside { 8 * place + 8 ≤ length roots.now }
+        ensures turned { IsTrue result
+            → AreSixteenTurned Self.Ring forward roots.now place cols rows.old rows.new }
+        ensures kept { IsFalse result → rows.new ≡ rows.old }
+    {
+        false
     }
 
     /// The order of each root is exactly 2^lg, each is the square of the next, the shift is no

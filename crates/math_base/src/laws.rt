@@ -1,5 +1,3 @@
 //! Laws, each the contract of a function that does nothing, or only answers what the law is about.
 
-pub mod elements;
-pub mod packing;
 pub mod polynomials;

@@ -1,7 +1,6 @@
-//! Algebra by traits whose laws are proved, and the Goldilocks field.
+//! Algebra by traits whose laws are proved.
 #![tactic(auto)]
 
 pub mod algebra;
-pub mod fields;
 pub mod laws;
 pub mod weights;

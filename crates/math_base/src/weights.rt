@@ -17,6 +17,7 @@ ghost use Rattle.std.specs.Prelude.{
 };
 ghost use Rattle.math_theory.specs.Interpolation.{IsFirstPlace, IsOneAt};
 ghost use Rattle.math_theory.specs.Sums.{total};
+ghost use Rattle.math_base.specs.Quotients.{AreQuotients, AreZerosForZero};
 
 use crate::algebra::{Field, Mem, Object, Ring};
 use std::alloc::Global;
@@ -60,13 +61,9 @@ pub fn one_at<R: Ring>(alloc: Global, k: usize, n: usize) -> Mem<Vec<R>>
 /// the divisors before it and those after it.
 pub fn quotients<F: Field>(alloc: Global, numerator: F, divisors: &[F]) -> Mem<Vec<F>>
     ensures count { IfOk result (λ v. length v.items ≡ length divisors.now) }
-    ensures each { IfOk result (λ v. All (λ d. ¬ (F.same d F.zero)) divisors.now
-        → (k : ℕ) → k < length divisors.now
-        → F.same (F.product (slice_index_or v.items k F.zero)
-        (slice_index_or divisors.now k F.zero)) numerator) }
-    ensures zeros { IfOk result (λ v. (k : ℕ) → k < length divisors.now
-        → F.same (slice_index_or divisors.now k F.zero) F.zero
-        → All (λ w. F.same w F.zero) v.items) }
+    ensures each { IfOk result
+        (λ v. AreQuotients F.same F.zero F.product numerator divisors.now v.items) }
+    ensures zeros { IfOk result (λ v. AreZerosForZero F.same F.zero divisors.now v.items) }
 {
     let (mut out, whole) = products_before(alloc, divisors)?;
     let mut factor = whole.inv(alloc)?;

@@ -11,7 +11,7 @@ pub data Fault : Type 0 where
   Invalid : (kind text : List ℕ) → Fault
   ExtraData : (n : ℕ) → Fault
 
--- the fault that an error tells of; none where memory ran out
+-- the fault that an error reports; none where memory ran out
 abbrev pub fault_of : Error → Option Fault
 fault_of (errors.Memory e) = None
 fault_of errors.EndOfBuffer = Some EndOfBuffer
@@ -28,16 +28,16 @@ IsMemory e = IsNone (fault_of e)
 abbrev pub OnMemory : {X : Type 0} → Result X Error → Type 0 → Type 0
 OnMemory result P = IfErr result (λ e. IfNone (fault_of e) P)
 
--- the error tells of the fault that was expected, or memory ran out
+-- the error reports the expected fault, or memory ran out
 abbrev pub Reports : {A : Type 0} → Error → Result A Fault → Type 0
 Reports e expected = IfSome (fault_of e) (λ fault. expected ≡ Err fault)
 
--- the result, seen by view, is what was expected; or it reports the fault that was
+-- the result, seen by view, is the expected one; or it reports the expected fault
 abbrev pub Agrees : {X Y : Type 0} → (X → Y) → Result X Error → Result Y Fault → Type 0
 Agrees view (Ok x) expected = expected ≡ Ok (view x)
 Agrees view (Err e) expected = Reports e expected
 
--- a reader left the rest that was expected, or reports the fault that was
+-- a reader left the expected rest, or reports the expected fault
 abbrev pub Reads : {X : Type 0} → Result X Error → List ℕ → Result (List ℕ) Fault → Type 0
 Reads result rest expected = Agrees (λ _. rest) result expected
 
@@ -47,6 +47,6 @@ abbrev pub ◌>>=◌ : {A B : Type 0} → Result A Fault → (A → Result B Fau
 (Ok x) >>= f = f x
 (Err e) >>= f = Err e
 
--- a scan that has to leave nothing: it is a fault if bytes are left, and says how many
+-- a scan that has to leave nothing: bytes that are left are a fault, which has their number
 unfoldable pub scan_exactly : (List ℕ → Result (List ℕ) Fault) → List ℕ → Result (Unit {0}) Fault
 scan_exactly scan bytes = scan bytes >>= λ rest. if length rest == 0 then Ok tt else Err (ExtraData (length rest))

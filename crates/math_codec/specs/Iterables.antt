@@ -1,4 +1,4 @@
--- What is handed in as an iterator, or becomes one.
+-- Arguments that are iterators, or become iterators.
 use Rattle.std.specs.Prelude.{List}
 
 -- x becomes an iterator from whose start `gives` says which items it gives, and P holds of these items

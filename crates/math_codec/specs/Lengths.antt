@@ -14,7 +14,7 @@ SpellsFrom place n [] = ⊥
 SpellsFrom place n (byte ∷ []) = (byte ≡ n) × IsLastByte place n
 SpellsFrom place n (byte ∷ next ∷ after) = (byte ≡ 128 + n % 128) × (place < 4) × SpellsFrom (place + 1) (n / 128) (next ∷ after)
 
--- the bytes spell the length n
+-- the bytes spell the length n: groups of seven bits, the lowest first, in at most five bytes, of which each but the last has bit 7 set
 abbrev pub SpellsLength : ℕ → List ℕ → Type 0
 SpellsLength n bytes = SpellsFrom 0 n bytes
 

@@ -16,7 +16,7 @@ pub record AdmitsList {T : Type 0} (range : LengthRange) (admits : T → Type 0)
   pub ranged : in_range range (length items) ≡ true
   pub each : AllByRecursion admits items
 
--- what a read of so many items leaves, or the first fault
+-- what a read of n items leaves, or the first fault
 unfoldable pub scan_items : (List ℕ → Result (List ℕ) Fault) → ℕ → List ℕ → Result (List ℕ) Fault
 scan_items scan zero bytes = Ok bytes
 scan_items scan (suc n) bytes = scan bytes >>= λ rest. scan_items scan n rest
@@ -27,7 +27,7 @@ scan_list range scan bytes = do
   n ← length_at bytes
   if in_range range n.0 then scan_items scan n.0 n.1 else Err (InvalidLength n.0)
 
--- a read of so many items takes memory: the first takes some, or it is read, and is to be stored
+-- a read of n items takes memory: the first takes some, or it is read, and is to be stored
 abbrev pub ItemsGrow : (List ℕ → Result (List ℕ) Fault) → (List ℕ → Type 0) → ℕ → List ℕ → Type 0
 ItemsGrow scan grows zero bytes = ⊥
 ItemsGrow scan grows (suc n) bytes = grows bytes ⊎ ((rest : List ℕ) × (scan bytes ≡ Ok rest))

@@ -7,6 +7,27 @@ ghost use Rattle.math_codec.specs.Theorems.{EachLengthIsSpelled, EachLengthHasOn
 use crate::codec::{Error, Read, Write};
 use std::alloc::Global;
 
+/// What was written is read again, whatever follows it: this writes `value` and then `rest`, reads
+/// a value, and gives it with what is left.
+pub fn written_is_read<T: Read + Write + Drop>(
+    alloc: Global,
+    value: &T,
+    rest: &[u8],
+    cfg: &T::Cfg,
+) -> Result<(T, Vec<u8>), Error>
+    requires fits { T.fits value.now }
+    requires admitted { T.admits cfg.now value.now }
+    ensures { MatchResult result (λ x. T.alike x.0 value.now × (x.1.items ≡ rest.now)) IsMemory }
+{
+    let mut out = Vec::new(alloc);
+    value.write(alloc, &mut out)?;
+    out.extend_from_slice(rest)?;
+    let mut input = out.as_slice();
+    let read = T::read_cfg(alloc, &mut input, cfg)?;
+    let left = Vec::from_slice(alloc, input)?;
+    Ok((read, left))
+}
+
 /// Each length below 2^32 has one spelling, and no other number has one.
 pub fn each_length_has_one_spelling()
     ensures spelled { EachLengthIsSpelled }
@@ -36,24 +57,3 @@ pub fn no_spelling_begins_another<T: Read>()
 pub fn no_fault_at_an_encoding<T: Read>()
     ensures { (cfg : T.Cfg) → TakesEachSpelling T.spelling (T.admits cfg) (T.scan cfg) }
 {}
-
-/// What was written is read again, whatever follows it: this writes `value` and then `rest`, reads
-/// a value, and gives it with what is left.
-pub fn written_is_read<T: Read + Write + Drop>(
-    alloc: Global,
-    value: &T,
-    rest: &[u8],
-    cfg: &T::Cfg,
-) -> Result<(T, Vec<u8>), Error>
-    requires fits { T.fits value.now }
-    requires admitted { T.admits cfg.now value.now }
-    ensures { MatchResult result (λ x. T.alike x.0 value.now × (x.1.items ≡ rest.now)) IsMemory }
-{
-    let mut out = Vec::new(alloc);
-    value.write(alloc, &mut out)?;
-    out.extend_from_slice(rest)?;
-    let mut input = out.as_slice();
-    let read = T::read_cfg(alloc, &mut input, cfg)?;
-    let left = Vec::from_slice(alloc, input)?;
-    Ok((read, left))
-}

@@ -16,8 +16,8 @@ IsWithinRadius R points values count a = Decoding.IsWithinRadius R.same R.zero R
 abbrev pub IsKept : {A : Type 0} → RingOf A → List A → List A → List A → List A → Type 0
 IsKept R points values r v = Decoding.IsKept R.same R.zero R.sum R.product R.one points values r v
 
--- a has count coefficients, the places are those at which it differs from the values given at m points, twice their number and count
--- is at most m, and every list of at most count coefficients that agrees with all but so few values is the same
+-- a has count coefficients, the places are the ones at which it differs from the values given at m points, twice their number plus count is
+-- at most m, and every polynomial within that radius is the same
 pub record IsDecoded {A : Type 0} (R : RingOf A) (points values : List A) (count : ℕ) (a : List A) (wrong : List ℕ) : Type 0 where
   pub number : length a ≡ count
   pub places : AreWrongPlaces R points values a wrong

@@ -1,4 +1,4 @@
--- Polynomials over the ring of a trait: the same, sums, differences, products and multiples.
+-- Polynomials, as lists of coefficients from the constant upwards, over the ring of a trait: the same, sums, differences, products and multiples.
 use Rattle.std.specs.Prelude.{◌<◌, ◌-◌, ℕ, List, length}
 use Rattle.math_theory.specs.Coefficients as Coefficients
 use Rattle.math_theory.specs.Division as Division
@@ -12,9 +12,11 @@ coefficient R p i = Coefficients.coefficient R.zero p i
 abbrev pub AreSame : {A : Type 0} → RingOf A → List A → List A → Type 0
 AreSame R p q = Coefficients.HaveSameCoefficients R.same R.zero p q
 
+-- the sum of p and the negative of q
 abbrev pub difference : {A : Type 0} → RingOf A → List A → List A → List A
 difference R p q = Coefficients.polynomial_difference R.sum R.negative p q
 
+-- the product of p and q
 abbrev pub product : {A : Type 0} → RingOf A → List A → List A → List A
 product R p q = Coefficients.polynomial_product R.zero R.sum R.product p q
 

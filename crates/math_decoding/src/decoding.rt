@@ -7,6 +7,11 @@
 //! It has a factor v such that r(x) is v(x) y at each point x with value y, and v has at most (m -
 //! k) / 2 zeros. Where there is such a polynomial f, r is f v (Gao, A new algorithm for decoding
 //! Reed-Solomon codes, 2003).
+//!
+//! Any distinct points of any field serve, so no domain is needed. Interpolation takes some 2 m^2
+//! products of elements, and Euclid's algorithm at most as many. The answer has exactly as many
+//! coefficients as the caller asks for, with zeros at the end, and may have none: so it is a list,
+//! and no `Poly`.
 
 ghost use Rattle.std.specs.Prelude.{◌≡◌, ◌+◌, ◌<◌, ◌≤◌, ℕ, List, IfOk, IfSome, IfNone, length};
 ghost use Rattle.math_theory.specs.Interpolation.{AreApart};

@@ -5,7 +5,9 @@ pub mod MatrixEncodingLaws
 pub mod PolynomialRows
 pub mod Evaluations
 pub mod MatrixPlaces
+pub mod MatrixItems
 pub mod AddedWork
+pub mod DomainTrees
 pub mod RecoveredRows
 pub mod RecoveredValues
 pub mod CorrectedRows

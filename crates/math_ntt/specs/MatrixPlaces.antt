@@ -8,7 +8,7 @@ use Rattle.math_ntt.specs.Evaluations.{EvaluationsOf, IsFilledAt}
 abbrev pub IsFull : {A : Type 0} → MatrixOf A → Type 0
 IsFull m = length m.cells ≡ m.rows * m.cols
 
--- n has the size of m, and each cell that is not one of row i, and those from column k on, is that of m
+-- n has the size of m, and differs from it only in the written cells of row i
 pub record DiffersInRow {A : Type 0} (m n : MatrixOf A) (i : ℕ) (written : ℕ → Type 0) : Type 0 where
   pub size : IsOfSize n m.rows m.cols
   pub others : (d : A) (j l : ℕ) → j < m.rows → l < m.cols → (j ≡ i → written l → ⊥) → cell_of d n j l ≡ cell_of d m j l

@@ -43,22 +43,22 @@ IsNonzeroOnCoset R w s n v =
     let at = power R.one R.product w in
     (i : ℕ) → i < n → ¬ (R.same (value_in_ring R v (R.product s (at i))) R.zero)
 
--- at s times power i of w the values of column k of q and of v, multiplied, give that of column k of g
+-- at s times power i of w the value of column k of q times the value of v is the value of column k of g
 abbrev pub AreQuotientsOnCoset : {A : Type 0} → RingOf A → A → A → MatrixOf A → List A → MatrixOf A → Type 0
 AreQuotientsOnCoset R w s g v q =
     let at = power R.one R.product w in
     (i k : ℕ) → i < g.rows → k < g.cols
     → R.same (R.product (value_in_ring R (column_of R.zero q k) (R.product s (at i))) (value_in_ring R v (R.product s (at i)))) (value_in_ring R (column_of R.zero g k) (R.product s (at i)))
 
--- where the cells are 2^lg times the values on the coset of the columns of some g, and the divisors those of some v with no zero there, all in bit-reversed order, the
--- columns of q are the quotients
+-- where the cells are 2^lg times the values on the coset of the columns of some g, and the divisors are the values of some v with no zero
+-- there, all in bit-reversed order, the columns of q are the quotients
 abbrev pub AreQuotientsOfValues : {A : Type 0} → RingOf A → A → A → ℕ → ℕ → List A → List A → List A → Type 0
 AreQuotientsOfValues {A} R w s lg c cells divisors q =
     (g v : List A) → length v ≡ 2 ^ lg → AreReversedMultiples R w s lg c g cells → AreReversedMultiples R w s lg 1 v divisors
     → IsNonzeroOnCoset R w s (2 ^ lg) v → AreQuotientsOnCoset R w s (matrix_of (2 ^ lg) c g) v (matrix_of (2 ^ lg) c q)
 
--- there are products, whose values at the first n powers of w are the cells times those of v, and a divisor, whose values there are those of v:
--- where the divisor has no zero on the coset by s, the columns of q are the quotients
+-- there are products, whose values at the first n powers of w are the cells times the values of v, and a divisor, which has the values of v
+-- there: where the divisor has no zero on the coset by s, the columns of q are the quotients
 pub record AreDivided {A : Type 0} (R : RingOf A) (w s : A) (n c : ℕ) (cells v q : List A) : Type 0 where
   pub product : List A
   pub divisor : List A
@@ -67,8 +67,9 @@ pub record AreDivided {A : Type 0} (R : RingOf A) (w s : A) (n c : ℕ) (cells v
   pub same_values : HaveSameValuesOnDomain R w n v divisor
   pub quotients : IsNonzeroOnCoset R w s n divisor → AreQuotientsOnCoset R w s (matrix_of n c product) divisor (matrix_of n c q)
 
--- the work of a recovery of 2^lg rows that succeeds: with no row or all rows filled, that of one transform; with some missing, at least three
--- transforms of all columns and of one more, and with lg at most 8 just these, and v (v + 1) / 2 root products for v missing rows
+-- the work of a recovery of 2^lg rows of c cells that succeeds: with no row or all rows filled, the c 2^lg lg / 2 butterflies of one
+-- transform; with some missing, at least 2^lg lg (3 c + 3) / 2, for three transforms of all columns and of one more, and with lg at most 8
+-- just these, and v (v + 1) / 2 root products for v missing rows
 pub record IsExactWork {A : Type 0} (lg : ℕ) (e : EvaluationsOf A) (v w : WorkOf) : Type 0 where
   pub none_or_all : (count_true e.filled ≡ 0) ⊎ (count_false e.filled ≡ 0)
       → (2 * w.butterflies ≡ 2 * v.butterflies + e.matrix.cols * e.matrix.rows * lg) × (w.root_products ≡ v.root_products)
@@ -76,7 +77,8 @@ pub record IsExactWork {A : Type 0} (lg : ℕ) (e : EvaluationsOf A) (v w : Work
       → (2 * w.butterflies ≡ 2 * v.butterflies + e.matrix.rows * lg * (3 * e.matrix.cols + 3)) × (2 * w.root_products ≡ 2 * v.root_products + count_false e.filled * (count_false e.filled + 1))
   pub no_fewer : 0 < count_true e.filled → 0 < count_false e.filled → 2 * v.butterflies + e.matrix.rows * lg * (3 * e.matrix.cols + 3) ≤ 2 * w.butterflies
 
--- the work of a recovery of 2^lg rows that is refused: at most that of one that succeeds, and with lg at most 8 no butterfly before all root products
+-- the work of a recovery of 2^lg rows that is refused: with no row or all rows filled, at most the butterflies of one transform; with some
+-- missing and lg at most 8, at most the work of one that succeeds, and no butterfly before all root products
 pub record IsRefusedWork {A : Type 0} (lg : ℕ) (e : EvaluationsOf A) (v w : WorkOf) : Type 0 where
   pub none_or_all : (count_true e.filled ≡ 0) ⊎ (count_false e.filled ≡ 0) → AddsAtMost (e.matrix.cols * e.matrix.rows * lg) v w
   pub some : 0 < count_true e.filled → 0 < count_false e.filled → lg ≤ 8
@@ -100,12 +102,13 @@ pub record IsRecoveredFrom {A : Type 0} (R : RingOf A) (root : ℕ → A) (e : E
   pub size : IsOfSize m e.matrix.rows e.matrix.cols
   pub fits : AreRecovered R root e m
 
--- a recovery of 2^lg rows that succeeds, from v to w: m has the polynomials
+-- a recovery of 2^lg rows that succeeds: m has the recovered polynomials, and from v to w its work is added
 pub record IsRecovery {A : Type 0} (R : RingOf A) (root : ℕ → A) (lg : ℕ) (e : EvaluationsOf A) (m : MatrixOf A) (v w : WorkOf) : Type 0 where
   pub fits : AreRecovered R root e m
   pub exact : IsExactWork lg e v w
 
--- a recovery of 2^lg rows that is refused, from v to w; where calls on elements never are, and no row or all rows are filled, it has not begun
+-- a recovery of 2^lg rows that is refused, with its work from v to w; where calls on elements never are, and no row or all rows are filled,
+-- it has not begun
 pub record IsRefusal {A : Type 0} (never : Bool) (lg : ℕ) (e : EvaluationsOf A) (v w : WorkOf) : Type 0 where
   pub refused : IsRefusedWork lg e v w
   pub unbegun : IsTrue never → (count_true e.filled ≡ 0) ⊎ (count_false e.filled ≡ 0) → w ≡ v

@@ -8,8 +8,8 @@ mod recovery;
 
 pub use correction::Corrected;
 pub use evaluations::EvaluationVector;
+pub use math_lagrange::weights::{lagrange_coefficients, lagrange_coefficients_at};
 pub use math_transforms::columns::{EvaluationColumn, PolynomialColumn};
-pub use math_transforms::lagrange::{lagrange_coefficients, lagrange_coefficients_at};
 pub use math_transforms::vanishing_points::VanishingPoints;
 pub use math_transforms::work::Work;
 pub use matrix::{Matrix, Rows};

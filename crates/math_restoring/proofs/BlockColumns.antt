@@ -5,9 +5,9 @@ use Rattle.std.proofs.lemmas.Nat.{mul-add-lt, mul-le}
 use borrow.Rule.Slice.PartMut.{put_mid}
 use Rattle.math_theory.proofs.rings.Normal.{ring, ◌⊕◌, ◌⊗◌, 𝟙, v0, v1, v2, v3, v4}
 use Rattle.math_theory.proofs.transforms.EvenOddItems.{value-append}
-use Rattle.math_base.specs.declared.fields.goldilocks.F.{F}
-use Rattle.math_base.specs.Elements.{number, product, residue, same, sum}
-use Rattle.math_base.proofs.ElementNumbers.{same_number}
+use Rattle.math_fields.specs.declared.goldilocks.F.{F}
+use Rattle.math_fields.specs.Elements.{number, product, residue, same, sum}
+use Rattle.math_fields.proofs.ElementNumbers.{same_number}
 use Rattle.math_transforms.specs.DomainValues.{matrix_of}
 use Rattle.math_transforms.proofs.ColumnHalves.{column-halves}
 use Rattle.math_transforms.proofs.DomainSteps.{column-cell}

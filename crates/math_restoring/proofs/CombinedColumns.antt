@@ -6,8 +6,8 @@ use Rattle.math_theory.specs.OverRing as OverRing
 use Rattle.math_theory.proofs.polynomials.Coefficients.{coefficient-multiple, coefficient-sum, length-sum}
 use Rattle.math_theory.proofs.polynomials.Values.{value-horner, value-multiple, value-sum}
 use Rattle.math_theory.proofs.rings.Normal.{ring, ◌⊕◌, ◌⊗◌, 𝟘, v0, v1}
-use Rattle.math_base.specs.declared.fields.goldilocks.F.{F}
-use Rattle.math_base.specs.Elements.{residue, sum, product}
+use Rattle.math_fields.specs.declared.goldilocks.F.{F}
+use Rattle.math_fields.specs.Elements.{residue, sum, product}
 use Rattle.math_transforms.specs.DomainValues.{matrix_of}
 use Rattle.math_transforms.specs.Matrices.{column_of}
 use Rattle.math_transforms.proofs.DomainSteps.{column-cell}

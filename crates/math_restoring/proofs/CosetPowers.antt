@@ -13,12 +13,12 @@ use Rattle.math_theory.proofs.rings.Normal.{◌⊕◌, ◌⊖◌, ◌⊗◌, min
 use Rattle.math_theory.proofs.rings.PowerLaws.{power-add, power-mul, power-of_one, power-product}
 use Rattle.math_theory.proofs.rings.RingLaws.{product-one_right}
 use Rattle.math_theory.proofs.rings.ResidueLaws.{residues_power}
-use Rattle.math_base.specs.declared.fields.goldilocks.F.{F}
-use Rattle.math_base.specs.ElementLaws.{equality, group, commutes, ring}
-use Rattle.math_base.specs.ElementRootLaws.{roots}
-use Rattle.math_base.specs.Elements.{negative, number, product, residue, root_of, same, shift_of, sum, goldilocks}
-use Rattle.math_base.specs.Roots.{shift}
-use Rattle.math_base.proofs.ElementNumbers.{same_number}
+use Rattle.math_fields.specs.declared.goldilocks.F.{F}
+use Rattle.math_fields.specs.ElementLaws.{equality, group, commutes, ring}
+use Rattle.math_fields.specs.ElementRootLaws.{roots}
+use Rattle.math_fields.specs.Elements.{negative, number, product, residue, root_of, same, shift_of, sum, goldilocks}
+use Rattle.math_fields.specs.Roots.{shift}
+use Rattle.math_fields.proofs.ElementNumbers.{same_number}
 use Rattle.math_transforms.specs.RootTrees.{twos}
 use Rattle.math_transforms.proofs.PowersOfTwo.{power_of_two-double}
 use Rattle.math_restoring.specs.CosetDivisions.{coset_point, domain_point, power_below, raised}

@@ -10,11 +10,11 @@ use Rattle.math_theory.proofs.recovery.RecoveredColumns.{recovered-fits}
 use Rattle.math_theory.proofs.rings.Normal.{◌⊕◌, ◌⊗◌, minus, 𝟙, v0, v1, v2, v3, v4, v5, v6}
 use Rattle.math_theory.proofs.transforms.BitOrder.{bit_reversed-below, bit_reversed-twice}
 use Rattle.math_theory.proofs.transforms.EvenOddItems.{value-append}
-use Rattle.math_base.specs.declared.fields.goldilocks.F.{F}
-use Rattle.math_base.specs.ElementLaws.{equality, group, commutes, ring}
-use Rattle.math_base.specs.ElementRootLaws.{field}
-use Rattle.math_base.specs.Elements.{inverse, negative, number, product, residue, root_of, same, shift_of, sum, goldilocks}
-use Rattle.math_base.proofs.ElementNumbers.{same_number}
+use Rattle.math_fields.specs.declared.goldilocks.F.{F}
+use Rattle.math_fields.specs.ElementLaws.{equality, group, commutes, ring}
+use Rattle.math_fields.specs.ElementRootLaws.{field}
+use Rattle.math_fields.specs.Elements.{inverse, negative, number, product, residue, root_of, same, shift_of, sum, goldilocks}
+use Rattle.math_fields.proofs.ElementNumbers.{same_number}
 use Rattle.math_transforms.specs.DomainValues.{matrix_of}
 use Rattle.math_transforms.specs.RootTrees.{AreMultiplesBelow, AreValuesBelow, class_at, twos}
 use Rattle.math_transforms.specs.RowProducts.{AreRowProducts}

@@ -8,12 +8,12 @@ use Rattle.math_theory.proofs.classes.RingUpToSame.{combine_same, combine2_same}
 use Rattle.math_theory.proofs.recovery.RecoveredColumns.{coset_nonzero}
 use Rattle.math_theory.proofs.rings.Normal.{◌⊕◌, ◌⊖◌, ◌⊗◌, 𝟙, v0, v1, v2, v3}
 use Rattle.math_theory.proofs.transforms.BitOrder.{bit_reversed-below}
-use Rattle.math_base.specs.declared.fields.goldilocks.F.{F}
-use Rattle.math_base.specs.ElementLaws.{equality, group, commutes, ring}
-use Rattle.math_base.specs.ElementRootLaws.{field}
-use Rattle.math_base.specs.Elements.{negative, number, product, residue, root_of, same, shift_of, sum, goldilocks}
+use Rattle.math_fields.specs.declared.goldilocks.F.{F}
+use Rattle.math_fields.specs.ElementLaws.{equality, group, commutes, ring}
+use Rattle.math_fields.specs.ElementRootLaws.{field}
+use Rattle.math_fields.specs.Elements.{negative, number, product, residue, root_of, same, shift_of, sum, goldilocks}
 use Rattle.math_base.specs.Polynomials.{value_in_ring}
-use Rattle.math_base.proofs.ElementNumbers.{same_number}
+use Rattle.math_fields.proofs.ElementNumbers.{same_number}
 use Rattle.math_transforms.specs.DomainValues.{matrix_of}
 use Rattle.math_transforms.specs.Matrices.{column_of}
 use Rattle.math_transforms.specs.MissingPoints.{VanishesAtFalse}

@@ -4,8 +4,8 @@ use Rattle.std.specs.List.{All}
 use Rattle.std.proofs.lemmas.Bool.{cases_lt}
 use Rattle.std.proofs.lemmas.List.{length-drop, length-take-le}
 use Rattle.std.proofs.lemmas.Nat.{mul-add-lt}
-use Rattle.math_base.specs.declared.fields.goldilocks.F.{F}
-use Rattle.math_base.specs.Elements.{number, product, same}
+use Rattle.math_fields.specs.declared.goldilocks.F.{F}
+use Rattle.math_fields.specs.Elements.{number, product, same}
 use Rattle.math_transforms.proofs.WrittenCells.{row-within}
 use Rattle.math_transforms.proofs.WrittenRows.{part-read, put-after, put-before, put-within}
 use Rattle.math_restoring.specs.Restored.{AreDistinct, ArePlacesOf, AreTaken}

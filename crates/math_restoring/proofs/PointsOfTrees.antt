@@ -7,11 +7,11 @@ use Rattle.math_theory.proofs.classes.ClassesOfLists.{power-class}
 use Rattle.math_theory.proofs.classes.RingUpToSame.{combine2_same}
 use Rattle.math_theory.proofs.rings.Normal.{◌⊗◌, minus, 𝟙, v0, v1, v2, v3}
 use Rattle.math_theory.proofs.rings.PowerLaws.{power-of_one, power-product}
-use Rattle.math_base.specs.declared.fields.goldilocks.F.{F}
-use Rattle.math_base.specs.ElementLaws.{equality, group, commutes, ring}
-use Rattle.math_base.specs.ElementRootLaws.{field, roots}
-use Rattle.math_base.specs.Elements.{inverse, negative, number, product, residue, root_of, same, shift_of, goldilocks}
-use Rattle.math_base.proofs.ElementNumbers.{same_number}
+use Rattle.math_fields.specs.declared.goldilocks.F.{F}
+use Rattle.math_fields.specs.ElementLaws.{equality, group, commutes, ring}
+use Rattle.math_fields.specs.ElementRootLaws.{field, roots}
+use Rattle.math_fields.specs.Elements.{inverse, negative, number, product, residue, root_of, same, shift_of, goldilocks}
+use Rattle.math_fields.proofs.ElementNumbers.{same_number}
 use Rattle.math_transforms.specs.RootTrees.{IsRootTree, IsTreeOf, class_at}
 use Rattle.math_transforms.proofs.RootInverses.{inverse-tree_squares}
 use Rattle.math_transforms.proofs.TreeEntries.{root-tree}

@@ -3,11 +3,11 @@ use Rattle.std.proofs.Common.{◌≡◌, ◌∙◌, ℕ, zero, suc, ◌+◌, ◌
 use Rattle.math_theory.proofs.domains.CarriedDomains.{IsPrincipalRoot-of_order-same}
 use Rattle.math_theory.proofs.domains.RootOrders.{power_of_two-suc}
 use Rattle.math_theory.proofs.rings.PowerLaws.{power-add, power-mul, power-of_one, power-of_zero, power-one, power-product}
-use Rattle.math_base.specs.declared.fields.goldilocks.F.{F}
-use Rattle.math_base.specs.ElementLaws.{equality, group, commutes, ring}
-use Rattle.math_base.specs.ElementRootLaws.{field, roots}
-use Rattle.math_base.specs.Elements.{negative, number, residue, root_of, same, product}
-use Rattle.math_base.proofs.ElementNumbers.{same_number}
+use Rattle.math_fields.specs.declared.goldilocks.F.{F}
+use Rattle.math_fields.specs.ElementLaws.{equality, group, commutes, ring}
+use Rattle.math_fields.specs.ElementRootLaws.{field, roots}
+use Rattle.math_fields.specs.Elements.{negative, number, residue, root_of, same, product}
+use Rattle.math_fields.proofs.ElementNumbers.{same_number}
 use Rattle.math_restoring.specs.CosetDivisions.{raised}
 use Rattle.math_values.proofs.ElementRing.{elements}
 

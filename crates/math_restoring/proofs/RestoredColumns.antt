@@ -9,8 +9,8 @@ use Rattle.math_theory.specs.Coefficients.{HaveSameCoefficients}
 use Rattle.math_theory.specs.Recovery.{Fits, count_true}
 use Rattle.math_theory.proofs.rings.Normal.{ring, ◌⊗◌, 𝟘, v0}
 use Rattle.math_theory.proofs.transforms.BitOrder.{bit_reversed-below}
-use Rattle.math_base.specs.declared.fields.goldilocks.F.{F}
-use Rattle.math_base.specs.Elements.{number, product, residue, root_of, same, sum}
+use Rattle.math_fields.specs.declared.goldilocks.F.{F}
+use Rattle.math_fields.specs.Elements.{number, product, residue, root_of, same, sum}
 use Rattle.math_transforms.specs.DomainValues.{matrix_of}
 use Rattle.math_transforms.proofs.DomainSteps.{column-cell}
 use Rattle.math_transforms.proofs.MatrixRows.{length-column}

@@ -3,8 +3,8 @@ use Rattle.std.specs.Prelude.{◌≡◌, ℕ, ◌+◌, ◌-◌, ◌*◌, ◌<◌
 use Rattle.math_theory.specs.BitReversal.{bit_reversed}
 use Rattle.math_theory.specs.Powers.{power}
 use Rattle.math_theory.specs.Recovery.{Fits, count_true}
-use Rattle.math_base.specs.declared.fields.goldilocks.F.{F}
-use Rattle.math_base.specs.Elements.{inverse, negative, product, residue, root_of, same, shift_of, sum, goldilocks}
+use Rattle.math_fields.specs.declared.goldilocks.F.{F}
+use Rattle.math_fields.specs.Elements.{inverse, negative, product, residue, root_of, same, shift_of, sum, goldilocks}
 use Rattle.math_base.specs.Polynomials.{value_in_ring}
 use Rattle.math_transforms.specs.DomainValues.{matrix_of}
 use Rattle.math_transforms.specs.Matrices.{column_of}
@@ -17,7 +17,8 @@ use Rattle.math_restoring.specs.Restored.{item}
 abbrev pub raised : F → ℕ → F
 raised x n = power (residue 1) product x n
 
--- at each point whose power 2^part is the step, the columns of the first 2^part rows of c new cells have the values of those of the 2^lg rows of old ones
+-- at each point whose power 2^part is the step, the columns of the first 2^part new rows of c cells have the values of the columns of the
+-- 2^lg old rows
 abbrev pub AreFolded : ℕ → ℕ → ℕ → F → List F → List F → Type 0
 AreFolded lg part c step old new =
     (x : F) (k : ℕ) → k < c → same (raised x (2 ^ part)) step → same (column_value goldilocks part c new k x) (column_value goldilocks lg c old k x)
@@ -26,8 +27,9 @@ AreFolded lg part c step old new =
 abbrev pub domain_point : ℕ → ℕ → F
 domain_point lg t = raised (root_of lg) (bit_reversed lg t)
 
--- the first 2^(lg - 1) rows are the sums of two polynomials in each column: one has the old rows of the low half, times 2^(lg - 1), as its values at the points
--- of the low half of the domain, in the order of the tree, and the other those of the high half at the points of the high half
+-- the first 2^(lg - 1) rows are the sums of two polynomials in each column: one has the old rows of the low half, times 2^(lg - 1), as its
+-- values at the points of the low half of the domain, in the order of the tree, and the other has the old rows of the high half, times
+-- 2^(lg - 1), as its values at the points of the high half
 abbrev pub AreSumsOf : ℕ → ℕ → List F → List F → Type 0
 AreSumsOf lg c old new =
     (k : ℕ) → k < c
@@ -60,8 +62,8 @@ abbrev pub AreDividedInverses : ℕ → List F → List F → Type 0
 AreDividedInverses part v items =
     (t : ℕ) → t < 2 ^ part → same (product (product (item items t) (value_in_ring goldilocks v (coset_point part t))) (twos goldilocks part)) (residue 1)
 
--- some points of a domain of 2^lg are filled, and no more than 2^part; there are a factor for each point, the tree of the inverses of the domain, those of the
--- coset and of its inverses, an inverse for each point of the coset, and power 2^part of the shift
+-- some points of a domain of 2^lg are filled, and no more than 2^part; there are a factor for each point, the trees of the inverses of the
+-- domain, of the coset and of its inverses, an inverse for each point of the coset, and power 2^part of the shift
 pub record HasTables (d : CosetDivision) : Type 0 where
   pub domain : d.lg ≤ 32
   pub least : 1 ≤ d.part
@@ -76,8 +78,8 @@ pub record HasTables (d : CosetDivision) : Type 0 where
   pub coset_inverses : IsTreeOf goldilocks (λ l. inverse (root_of l)) (inverse shift_of) d.part d.coset_inverses.items
   pub inverse_count : length d.inverses.items ≡ 2 ^ d.part
 
--- there are tables; v vanishes at the points that are not filled, and at no other power of the root; the factors are those that it gives, and the inverses those of
--- its values on the coset
+-- there are tables; v vanishes at the points that are not filled, and at no other power of the root; the factors, and the divided inverses
+-- on the coset, are made of the values of v
 pub record IsCosetDivision (d : CosetDivision) : Type 0 where
   pub tables : HasTables d
   pub v : List F
@@ -86,8 +88,8 @@ pub record IsCosetDivision (d : CosetDivision) : Type 0 where
   pub factors : AreFactors d.lg d.part d.step v d.factors.items
   pub inverses : AreDividedInverses d.part v d.inverses.items
 
--- whatever cells of the domain, in natural order, times the factors are column k of the old rows, which are in the order of the tree: column k of the first 2^part
--- new rows fits those of them that are filled
+-- whatever cells of the domain, in natural order, times the factors are column k of the old rows, which are in the order of the tree:
+-- column k of the first 2^part new rows fits the filled ones of these cells
 abbrev pub DoColumnsFit : CosetDivision → ℕ → List F → List F → Type 0
 DoColumnsFit d c old new =
     (k : ℕ) (cells : List F) → k < c → length cells ≡ 2 ^ d.lg

@@ -2,8 +2,8 @@
 use Rattle.std.specs.Prelude.{◌≡◌, ◌≢◌, ℕ, ◌+◌, ◌*◌, ◌<◌, ◌≤◌, List, Bool, true, false, length, slice_index_or}
 use Rattle.math_theory.specs.BitReversal.{bit_reversed}
 use Rattle.math_theory.specs.Powers.{power}
-use Rattle.math_base.specs.declared.fields.goldilocks.F.{F}
-use Rattle.math_base.specs.Elements.{product, residue, root_of, same, goldilocks}
+use Rattle.math_fields.specs.declared.goldilocks.F.{F}
+use Rattle.math_fields.specs.Elements.{product, residue, root_of, same, goldilocks}
 use Rattle.math_base.specs.Polynomials.{value_in_ring}
 use Rattle.math_transforms.specs.DomainValues.{matrix_of}
 use Rattle.math_transforms.specs.Matrices.{column_of}
@@ -20,7 +20,7 @@ AreDistinct indices = (i j : ℕ) → i < j → j < length indices → slice_ind
 abbrev pub AreFilled : List ℕ → List Bool → Type 0
 AreFilled indices points = (t : ℕ) → t < length indices → slice_index_or points (slice_index_or indices t 0) false ≡ true
 
--- each place is that of the index in the order of the tree
+-- each place is the place of its index in the order of the tree
 pub record ArePlacesOf (lg : ℕ) (indices places : List ℕ) : Type 0 where
   pub count : length places ≡ length indices
   pub each : (t : ℕ) → t < length indices → slice_index_or places t 0 ≡ bit_reversed lg (slice_index_or indices t 0)
@@ -31,13 +31,15 @@ pub record ArePlaced (n : ℕ) (places : List ℕ) (factors : List F) (c : ℕ) 
       → same (item room (slice_index_or places t 0 * c + k)) (product (cell t k) (item factors (slice_index_or places t 0)))
   pub others : (p k : ℕ) → p < n → k < c → ((t : ℕ) → t < length places → slice_index_or places t 0 ≢ p) → same (item room (p * c + k)) (residue 0)
 
--- p has no more coefficients than there are indices, but for zeros, and at the powers of the root of order 2^lg that are the indices it has the values
+-- p has no coefficient other than zero from the number of indices on, and at the powers of the root of order 2^lg that are the indices it
+-- has the values
 pub record FitsAt (lg : ℕ) (indices : List ℕ) (value : ℕ → F) (p : List F) : Type 0 where
   pub few : (i : ℕ) → length indices ≤ i → same (item p i) (residue 0)
   pub values : (t : ℕ) → t < length indices
       → same (value_in_ring goldilocks p (power (residue 1) product (root_of lg) (slice_index_or indices t 0))) (value t)
 
--- c columns of rows of cells, from column `from` on, are those of the first rows of the room, and the columns before them and after them are as they were
+-- c columns of rows of cells, from column `from` on, are the columns of the first rows of the room, and the columns before them and after
+-- them are as they were
 pub record AreTaken (width from c rows : ℕ) (room old new : List F) : Type 0 where
   pub written : (r k : ℕ) → r < rows → k < c → slice_index_or new (r * width + (from + k)) (residue 0) ≡ slice_index_or room (r * c + k) (residue 0)
   pub before : (r k : ℕ) → r < rows → k < from → slice_index_or new (r * width + k) (residue 0) ≡ slice_index_or old (r * width + k) (residue 0)

@@ -1,21 +1,21 @@
 -- What restores columns of cells at given indices: the places and factors of their rows in a room, and what becomes of the room.
 use Rattle.std.specs.Prelude.{ℕ, ◌<◌, ◌^◌, List}
-use Rattle.math_base.specs.declared.fields.goldilocks.F.{F}
-use Rattle.math_base.specs.Elements.{residue}
+use Rattle.math_fields.specs.declared.goldilocks.F.{F}
+use Rattle.math_fields.specs.Elements.{residue}
 use Rattle.math_transforms.specs.DomainValues.{matrix_of}
 use Rattle.math_transforms.specs.Matrices.{column_of}
 use Rattle.math_restoring.specs.declared.restoring.Restorer.{Restorer}
 use Rattle.math_restoring.specs.Restored.{ArePlaced, FitsAt}
 
--- the indices
+-- the indices of the rows that columns are restored from
 abbrev pub indices_of : Restorer → List ℕ
 indices_of r = r.indices.items
 
--- a room has 2^lg rows, and the indices are powers of the root of this order
+-- lg, where a room has 2^lg rows, and the indices are powers of the root of this order
 abbrev pub lg_of : Restorer → ℕ
 lg_of r = r.division.lg
 
--- coefficients stand in its first 2^part rows
+-- part, where coefficients stand in the first 2^part rows of a room
 abbrev pub part_of : Restorer → ℕ
 part_of r = r.division.part
 

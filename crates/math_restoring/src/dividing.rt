@@ -20,12 +20,20 @@
 //! The transforms take rows of coefficients in natural order and rows of values in that of a tree,
 //! so no row changes its place. What is the same for all columns is made once: the values of V and
 //! their inverses, with all constant factors in them, and the trees.
+//!
+//! For example, of the four powers of i, a root of order four, the rows of 1 and -1 are there, with
+//! 34 and -30. V is 1 + X^2, which is 2 at both, so the factors are (1 + c) 2 / 4 with c = s^2. At
+//! 1 and -1 stand then 17 (1 + c) and -15 (1 + c): u is 2 (1 + c) + 32 (1 + c) X, and v is zero. At
+//! s and -s u + v divided by V is 2 + 32 s and 2 - 32 s, so f is 2 + 32 X.
+//!
+//! By halves a level of N rows is saved, and all products between the transforms. The transforms
+//! are the generic and counted ones of `math_transforms`; what they count here is dropped.
 
 ghost use Rattle.std.specs.Prelude.{◌≡◌, ◌+◌, ◌-◌, ◌*◌, ◌<◌, ◌≤◌, ◌^◌, ℕ, IfOk, OnOk, length};
 ghost use Rattle.math_theory.specs.Powers.{power};
 ghost use Rattle.math_theory.specs.Recovery.{count_true};
-ghost use Rattle.math_base.specs.Elements.{inverse, negative, product, residue, root_of, same};
-ghost use Rattle.math_base.specs.Elements.{shift_of, sum, goldilocks};
+ghost use Rattle.math_fields.specs.Elements.{inverse, negative, product, residue, root_of, same};
+ghost use Rattle.math_fields.specs.Elements.{shift_of, sum, goldilocks};
 ghost use Rattle.math_base.specs.Polynomials.{value_in_ring};
 ghost use Rattle.math_transforms.specs.MissingPoints.{VanishesAtFalse};
 ghost use Rattle.math_transforms.specs.RootTrees.{AreMultiplesAtPoints, ArePoints};
@@ -36,8 +44,8 @@ ghost use Rattle.math_restoring.specs.CosetDivisions.{IsCosetDivision};
 ghost use Rattle.math_restoring.specs.Restored.{item};
 
 use math_base::algebra::{Field, FieldNTT, Mem};
-use math_base::fields::goldilocks::F;
 use math_base::weights::quotients;
+use math_fields::goldilocks::F;
 use math_transforms::below::{Points, evaluate_below, interpolate_below};
 use math_transforms::cells::copies;
 use math_transforms::row_products::multiply_rows;

@@ -11,15 +11,15 @@
 ghost use Rattle.std.specs.Prelude.{◌≡◌, ◌+◌, ◌*◌, ◌<◌, ◌≤◌, ◌^◌, ℕ, All, length, slice_index};
 ghost use Rattle.std.specs.Prelude.{IfOk, OnErr, OnOk};
 ghost use Rattle.math_theory.specs.Recovery.{count_true};
-ghost use Rattle.math_base.specs.declared.fields.goldilocks.F.{F};
-ghost use Rattle.math_base.specs.Elements.{product, same};
+ghost use Rattle.math_fields.specs.declared.goldilocks.F.{F};
+ghost use Rattle.math_fields.specs.Elements.{product, same};
 ghost use Rattle.math_restoring.specs.CosetDivisions.{HasTables, IsCosetDivision};
 ghost use Rattle.math_restoring.specs.Restored.{AreDistinct, AreFilled, ArePlacesOf};
 ghost use Rattle.math_restoring.specs.Restored.{AreTaken, HaveCellsAsValues, item};
 
 use crate::dividing::{CosetDivision, coset_division, divide};
 use math_base::algebra::Mem;
-use math_base::fields::goldilocks::F;
+use math_fields::goldilocks::F;
 use math_transforms::transform::order::reversed;
 use math_transforms::transform::size_of;
 use math_transforms::vanishing_points::VanishingPoints;

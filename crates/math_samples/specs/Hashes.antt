@@ -1,7 +1,7 @@
 -- Elements that bytes hash to.
 use Rattle.std.specs.Prelude.{ℕ, ◌+◌, List, sum}
-use Rattle.math_base.specs.Elements.{residue}
-use Rattle.math_base.specs.declared.fields.goldilocks.F.{F}
+use Rattle.math_fields.specs.Elements.{residue}
+use Rattle.math_fields.specs.declared.goldilocks.F.{F}
 use Rattle.math_samples.specs.ByteSums.{remainder_of_sum}
 use Rattle.math_samples.specs.Quotients.{whole}
 use Rattle.math_samples.specs.declared.quotients.Quotient.{Quotient}

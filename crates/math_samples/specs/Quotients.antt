@@ -7,11 +7,11 @@ use Rattle.math_samples.specs.ModulusLaws.{remainder_below, product_above}
 use Rattle.math_samples.specs.declared.quotients.Quotient.{Quotient}
 use Rattle.math_samples.specs.declared.quotients.TheConstants.{MODULUS}
 
--- a
+-- a, of the quotient a over b
 abbrev pub numerator_of : Quotient → ℕ
 numerator_of q = q.numerator
 
--- b
+-- b, of the quotient a over b
 abbrev pub denominator_of : Quotient → ℕ
 denominator_of q = q.denominator
 
@@ -19,7 +19,7 @@ denominator_of q = q.denominator
 abbrev pub same : Quotient → Quotient → Type 0
 same q r = numerator_of q * denominator_of r % MODULUS ≡ numerator_of r * denominator_of q % MODULUS
 
--- the remainder of n by 97, over that of the product of both denominators
+-- the remainder of n by 97, over the remainder of the product of both denominators
 abbrev pub over_both : ℕ → Quotient → Quotient → Quotient
 over_both n q r = record {
   numerator = n % MODULUS;

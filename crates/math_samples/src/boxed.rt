@@ -5,18 +5,18 @@
 //! a run show as allocations.
 
 ghost use Rattle.std.specs.Prelude.{◌≡◌, IfOk, false};
-ghost use Rattle.math_base.specs.Elements.{residue, same, sum, negative, product, inverse};
-ghost use Rattle.math_base.specs.Elements.{root_of, shift_of, half_of, sample_of};
+ghost use Rattle.math_fields.specs.Elements.{residue, same, sum, negative, product, inverse};
+ghost use Rattle.math_fields.specs.Elements.{root_of, shift_of, half_of, sample_of};
 ghost use Rattle.math_samples.specs.Hashes.{element_of};
-ghost use Rattle.math_base.specs.ElementLaws.{equality, group, commutes, ring};
-ghost use Rattle.math_base.specs.ElementRootLaws.{field, roots};
+ghost use Rattle.math_fields.specs.ElementLaws.{equality, group, commutes, ring};
+ghost use Rattle.math_fields.specs.ElementRootLaws.{field, roots};
 
 use crate::quotients::remainder_of_sum;
 use math_base::algebra::{
     Additive, CryptoGroup, Field, FieldNTT, HashToGroup, Mem, Multiplicative, Object, Random,
     RandomError, Ring,
 };
-use math_base::fields::goldilocks::F;
+use math_fields::goldilocks::F;
 use rand_core::{CryptoRng, Rng};
 use std::alloc::Global;
 use std::fmt;

@@ -3,7 +3,7 @@
 use crate::boxed::Boxed;
 use crate::quotients::{MODULUS, Quotient};
 use math_base::algebra::{FieldNTT, Mem};
-use math_base::fields::goldilocks::F;
+use math_fields::goldilocks::F;
 use std::alloc::Global;
 
 /// A field with roots of unity, whose elements are made from numbers and shown as numbers.

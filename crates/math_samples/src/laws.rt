@@ -5,7 +5,7 @@ ghost use Rattle.std.specs.Prelude.{◌≡◌, IsTrue, false};
 use crate::boxed::Boxed;
 use crate::quotients::Quotient;
 use math_base::algebra::{FieldNTT, Object};
-use math_base::fields::goldilocks::F;
+use math_fields::goldilocks::F;
 
 /// `NEVER_REFUSES` and `MAX_LG_ROOT_ORDER` of quotients: no call is refused, and the greatest order of a root
 /// of unity is 2^5.

@@ -5,7 +5,7 @@ use Rattle.std.proofs.lemmas.Bool.{and_from, cases_Bool, cases_eq, eq-eqb, eqb-t
 use Rattle.std.proofs.lemmas.List.{get_or_default}
 use Rattle.std.proofs.lemmas.List.Elements.{All-filter, All-head, All-tail, All-weaker}
 use Rattle.std.proofs.lemmas.List.Folds.{list_any_at}
-use Rattle.math_base.specs.Elements.{same}
+use Rattle.math_fields.specs.Elements.{same}
 use Rattle.math_splitting.specs.declared.shards.Shard.{Shard}
 use Rattle.math_shards.specs.Correcting.{AreCorrected, CorrectTo, HasNumbersOf, are_same, is_settled, settled, settled_indices}
 use Rattle.math_splitting.specs.Shards.{IsShardOf, JoinTo, distinct_indices, has_index}

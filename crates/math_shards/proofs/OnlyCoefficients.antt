@@ -9,10 +9,10 @@ use Rattle.math_theory.specs.Powers.{power, powers}
 use Rattle.math_theory.specs.Values.{value}
 use Rattle.math_theory.proofs.domains.CarriedDomains.{powers_apart-same}
 use Rattle.math_theory.proofs.polynomials.CarriedRoots.{agreement-same}
-use Rattle.math_base.specs.declared.fields.goldilocks.F.{F}
-use Rattle.math_base.specs.ElementLaws.{equality, group, commutes, ring}
-use Rattle.math_base.specs.ElementRootLaws.{field, roots}
-use Rattle.math_base.specs.Elements.{number, product, residue, root_of, same, sum}
+use Rattle.math_fields.specs.declared.goldilocks.F.{F}
+use Rattle.math_fields.specs.ElementLaws.{equality, group, commutes, ring}
+use Rattle.math_fields.specs.ElementRootLaws.{field, roots}
+use Rattle.math_fields.specs.Elements.{number, product, residue, root_of, same, sum}
 use Rattle.math_ntt.proofs.MatrixPlaces.{columns_are_full}
 use Rattle.math_transforms.specs.DomainValues.{matrix_of}
 use Rattle.math_transforms.specs.Matrices.{AreSameMatrices, IsOfSize, MatrixOf, column_of}

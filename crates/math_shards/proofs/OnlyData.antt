@@ -7,9 +7,9 @@ use Rattle.std.proofs.lemmas.List.{take_all}
 use Rattle.std.proofs.lemmas.List.Elements.{All-head, All-weaker}
 use Rattle.std.proofs.lemmas.List.FromFn.{get_or-map-range_with_len, length-map-range_with_len}
 use Rattle.math_theory.specs.Recovery.{count_true}
-use Rattle.math_base.specs.declared.fields.goldilocks.F.{F}
-use Rattle.math_base.specs.Elements.{number, same}
-use Rattle.math_base.specs.Packing.{words_of}
+use Rattle.math_fields.specs.declared.goldilocks.F.{F}
+use Rattle.math_fields.specs.Elements.{number, same}
+use Rattle.math_fields.specs.Packing.{words_of}
 use Rattle.math_ntt.specs.MatrixPlaces.{IsFull}
 use Rattle.math_transforms.specs.Matrices.{column_of}
 use Rattle.math_ntt.specs.PolynomialRows.{HaveSamePolynomials}

@@ -5,11 +5,11 @@ use Rattle.std.specs.List.{All}
 use Rattle.math_numbers.specs.Bits.{joined, piece_count, cut}
 use Rattle.math_numbers.proofs.BitLists.{joined-are_bits}
 use Rattle.math_numbers.proofs.BitPieces.{joined-cut, cut-joined}
-use Rattle.math_base.specs.Elements.{residue}
-use Rattle.math_base.specs.Packing.{word_bits, element_bits, elements_of, words_of}
-use Rattle.math_base.specs.declared.fields.goldilocks.F.{F}
-use Rattle.math_base.proofs.BitFronts.{pieces_below}
-use Rattle.math_base.proofs.Packing.{map-number-residue, element_bits-append}
+use Rattle.math_fields.specs.Elements.{residue}
+use Rattle.math_fields.specs.Packing.{word_bits, element_bits, elements_of, words_of}
+use Rattle.math_fields.specs.declared.goldilocks.F.{F}
+use Rattle.math_fields.proofs.BitFronts.{pieces_below}
+use Rattle.math_fields.proofs.Packing.{map-number-residue, element_bits-append}
 use Rattle.math_splitting.specs.Shards.{counted, elements_for, with_zeros}
 
 -- packed words, whatever elements follow, unpack to these words and further ones

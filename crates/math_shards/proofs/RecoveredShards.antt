@@ -8,10 +8,10 @@ use Rattle.math_theory.specs.Powers.{powers}
 use Rattle.math_theory.specs.Recovery.{Fits, count_true}
 use Rattle.math_theory.proofs.domains.CarriedDomains.{powers_apart-same}
 use Rattle.math_theory.proofs.recovery.CarriedRecovery.{fits_once-same}
-use Rattle.math_base.specs.declared.fields.goldilocks.F.{F}
-use Rattle.math_base.specs.ElementLaws.{equality, group, commutes, ring}
-use Rattle.math_base.specs.ElementRootLaws.{field, roots}
-use Rattle.math_base.specs.Elements.{number, residue, same, sum, product, root_of}
+use Rattle.math_fields.specs.declared.goldilocks.F.{F}
+use Rattle.math_fields.specs.ElementLaws.{equality, group, commutes, ring}
+use Rattle.math_fields.specs.ElementRootLaws.{field, roots}
+use Rattle.math_fields.specs.Elements.{number, residue, same, sum, product, root_of}
 use Rattle.math_ntt.specs.Evaluations.{EvaluationsOf}
 use Rattle.math_ntt.specs.MatrixPlaces.{IsFull}
 use Rattle.math_transforms.specs.Matrices.{column_of, row_of}

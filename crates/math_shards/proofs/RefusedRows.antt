@@ -4,8 +4,8 @@ use Rattle.std.specs.List.{All, AllZip, Contains}
 use Rattle.std.specs.List.Sorted.{IsStrictlyIncreasing}
 use Rattle.std.proofs.lemmas.Bool.{cases_eq, cases_lt}
 use Rattle.std.proofs.lemmas.List.{get_or-replicate, get_or-set_other, get_or-set_same, get_or_default, length-replicate, length-set}
-use Rattle.math_base.specs.declared.fields.goldilocks.F.{F}
-use Rattle.math_base.specs.Elements.{same}
+use Rattle.math_fields.specs.declared.goldilocks.F.{F}
+use Rattle.math_fields.specs.Elements.{same}
 use Rattle.math_shards.specs.Joining.{ArePlacesByIndex, HaveUnequalCells}
 use Rattle.math_shards.proofs.DistinctIndices.{one_place}
 use Rattle.math_splitting.proofs.SameCells.{same_as_one, same_by_items}

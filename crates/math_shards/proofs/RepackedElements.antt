@@ -11,11 +11,11 @@ use Rattle.std.proofs.lemmas.List.Elements.{All-drop, All-take}
 use Rattle.math_numbers.specs.Goldilocks.{P}
 use Rattle.math_numbers.specs.Bits.{IsBit, bits, joined, number, piece_count, pieces, pieces-suc, pieces-zero}
 use Rattle.math_numbers.proofs.BitLists.{bits-number, joined-are_bits, length-joined}
-use Rattle.math_base.specs.declared.fields.goldilocks.F.{F}
-use Rattle.math_base.specs.Elements as Elements
-use Rattle.math_base.specs.Packing.{elements_of}
-use Rattle.math_base.proofs.BitFronts.{number-take-bits, number_below}
-use Rattle.math_base.proofs.ElementNumbers.{residue-number}
+use Rattle.math_fields.specs.declared.goldilocks.F.{F}
+use Rattle.math_fields.specs.Elements as Elements
+use Rattle.math_fields.specs.Packing.{elements_of}
+use Rattle.math_fields.proofs.BitFronts.{number-take-bits, number_below}
+use Rattle.math_fields.proofs.ElementNumbers.{residue-number}
 use Rattle.math_shards.specs.Unpacking.{AreRepacked, first_words, repacked_at}
 use Rattle.math_splitting.proofs.PackedWords.{element_bits_at, from_word}
 use Rattle.math_splitting.proofs.SameCells.{nought}

@@ -7,10 +7,10 @@ use Rattle.math_theory.proofs.polynomials.Coefficients.{coefficient-dilation, va
 use Rattle.math_theory.proofs.polynomials.Values.{value-dilation}
 use Rattle.math_theory.proofs.rings.PowerLaws.{power-add, power-one}
 use Rattle.math_theory.proofs.rings.RingLaws.{product-one_right, zero-product}
-use Rattle.math_base.specs.declared.fields.goldilocks.F.{F}
-use Rattle.math_base.specs.Elements.{number, residue, root_of, same, sum, product}
-use Rattle.math_base.specs.Roots.{root}
-use Rattle.math_base.proofs.ElementNumbers.{residue-number, same_number}
+use Rattle.math_fields.specs.declared.goldilocks.F.{F}
+use Rattle.math_fields.specs.Elements.{number, residue, root_of, same, sum, product}
+use Rattle.math_fields.specs.Roots.{root}
+use Rattle.math_fields.proofs.ElementNumbers.{residue-number, same_number}
 use Rattle.math_values.proofs.ElementRing.{elements}
 use Rattle.math_restoring.specs.CosetDivisions.{raised}
 use Rattle.math_restoring.proofs.RaisedElements.{lower_root}

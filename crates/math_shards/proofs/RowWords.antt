@@ -5,9 +5,9 @@ use Rattle.std.proofs.lemmas.Bool.{and_from, and_parts}
 use Rattle.std.proofs.lemmas.List.{drop-map, get_or_default, get_or-drop, get_or-map, get_or-take, length-drop, length-take, length-take-le, map-append, take-map, take_more}
 use Rattle.std.proofs.lemmas.List.Elements.{AllZip-get_or}
 use Rattle.math_numbers.specs.Goldilocks.{P}
-use Rattle.math_base.specs.declared.fields.goldilocks.F.{F}
-use Rattle.math_base.specs.Elements.{number, residue, same}
-use Rattle.math_base.proofs.ElementNumbers.{same_number}
+use Rattle.math_fields.specs.declared.goldilocks.F.{F}
+use Rattle.math_fields.specs.Elements.{number, residue, same}
+use Rattle.math_fields.proofs.ElementNumbers.{same_number}
 use Rattle.math_transforms.proofs.PlaceByPlace.{AllZip-next}
 use Rattle.math_transforms.proofs.WrittenRows.{part-read}
 use Rattle.math_splitting.proofs.SameCells.{nought, same_by_items}

@@ -1,8 +1,8 @@
 -- Shards that are made of the values of the polynomials of data.
 use Rattle.std.proofs.Common.{◌≡◌, ℕ, ◌*◌, ◌<◌, ◌^◌, List, length, get_or, sym, ◌∙◌, ap, ap₂, arith}
 use Rattle.std.specs.Int.{IsNextPowerOfTwo}
-use Rattle.math_base.specs.declared.fields.goldilocks.F.{F}
-use Rattle.math_base.specs.Elements.{number, same}
+use Rattle.math_fields.specs.declared.goldilocks.F.{F}
+use Rattle.math_fields.specs.Elements.{number, same}
 use Rattle.math_transforms.specs.Matrices.{IsOfSize, MatrixOf, cell_of, column_of, row_of}
 use Rattle.math_ntt.specs.PolynomialRows.{HaveSamePolynomials}
 use Rattle.math_ntt.proofs.MatrixPlaces.{rows_are_full, rows_hold_cells}

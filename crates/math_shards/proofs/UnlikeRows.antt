@@ -2,8 +2,8 @@
 use Rattle.std.proofs.Common.{◌≡◌, ℕ, ◌*◌, ◌<◌, ◌^◌, List, length, get_or, sym, ◌∙◌, ap, ap₂, subst, arith}
 use Rattle.std.specs.List.{All}
 use Rattle.std.proofs.lemmas.List.{get_or_default}
-use Rattle.math_base.specs.declared.fields.goldilocks.F.{F}
-use Rattle.math_base.specs.Elements.{number, root_of, goldilocks}
+use Rattle.math_fields.specs.declared.goldilocks.F.{F}
+use Rattle.math_fields.specs.Elements.{number, root_of, goldilocks}
 use Rattle.math_decoding.proofs.WrongPlaces.{AreGathered}
 use Rattle.math_transforms.specs.Matrices.{IsOfSize, MatrixOf, column_of, row_of}
 use Rattle.math_ntt.specs.CorrectedRows.{IsCorrected}

@@ -12,12 +12,12 @@ use Rattle.math_numbers.specs.Bits as Bits
 use Rattle.math_numbers.specs.Bits.{bits, joined, piece_count}
 use Rattle.math_numbers.proofs.BitLists.{append_below, bits-append, bits-mod, joined-are_bits, length-joined}
 use Rattle.math_numbers.proofs.BitPieces.{piece_count-enough}
-use Rattle.math_base.specs.declared.fields.goldilocks.F.{F}
-use Rattle.math_base.specs.Elements.{number, same}
-use Rattle.math_base.specs.Packing.{element_bits, elements_of, words_of}
-use Rattle.math_base.proofs.BitFronts.{drop-bits, number-take-bits, pieces_below}
-use Rattle.math_base.proofs.ElementNumbers.{same_number}
-use Rattle.math_base.proofs.Packing.{length-words_of}
+use Rattle.math_fields.specs.declared.goldilocks.F.{F}
+use Rattle.math_fields.specs.Elements.{number, same}
+use Rattle.math_fields.specs.Packing.{element_bits, elements_of, words_of}
+use Rattle.math_fields.proofs.BitFronts.{drop-bits, number-take-bits, pieces_below}
+use Rattle.math_fields.proofs.ElementNumbers.{same_number}
+use Rattle.math_fields.proofs.Packing.{length-words_of}
 use Rattle.math_transforms.proofs.WrittenRows.{part-read}
 use Rattle.math_shards.specs.Fitting.{AreDataOf}
 use Rattle.math_splitting.specs.Shards.{counted, elements_for, width_for, with_zeros}

@@ -3,9 +3,9 @@ use Rattle.std.proofs.Common.{◌≡◌, ◌∙◌, ℕ, ◌*◌, ◌<◌, List,
 use Rattle.std.proofs.lemmas.List.{ext_get_or, get_or-map, length-map}
 use Rattle.math_theory.specs.Powers.{power}
 use Rattle.math_theory.specs.Sums.{weighted_sum}
-use Rattle.math_base.specs.declared.fields.goldilocks.F.{F}
-use Rattle.math_base.specs.Elements.{number, product, residue, root_of, sum}
-use Rattle.math_base.proofs.ElementNumbers.{same_number}
+use Rattle.math_fields.specs.declared.goldilocks.F.{F}
+use Rattle.math_fields.specs.Elements.{number, product, residue, root_of, sum}
+use Rattle.math_fields.proofs.ElementNumbers.{same_number}
 use Rattle.math_ntt.proofs.MatrixPlaces.{columns_are_full, rows_are_full, rows_are_listed}
 use Rattle.math_transforms.specs.DomainValues.{matrix_of}
 use Rattle.math_transforms.specs.Matrices.{row_of, rows_of}

@@ -10,8 +10,8 @@ use Rattle.std.proofs.lemmas.Bool.{cases_lt, false≢true}
 use Rattle.std.proofs.lemmas.List.{drop-drop, length-drop, length-map, length-take, length-take-le, map-append, take_all, take_more, take-append-drop, flat_map_more}
 use Rattle.std.proofs.lemmas.List.Elements.{All-cons, All-push, All-take, All-drop}
 use Rattle.math_numbers.specs.Goldilocks.{P}
-use Rattle.math_base.specs.declared.fields.goldilocks.F.{F}
-use Rattle.math_base.specs.Elements.{number, residue}
+use Rattle.math_fields.specs.declared.goldilocks.F.{F}
+use Rattle.math_fields.specs.Elements.{number, residue}
 use Rattle.math_transforms.specs.Matrices.{pieces}
 use Rattle.math_values.specs.Values.{AreElements, elements}
 use Rattle.math_shards.specs.declared.shards.Error.{Error}

@@ -4,8 +4,8 @@ use Rattle.std.specs.Int.{IsNextPowerOfTwo}
 use Rattle.std.specs.List.{All, AllZip, Contains, filter, list_all}
 use Rattle.std.specs.List.Sorted.{IsStrictlyIncreasing}
 use Rattle.math_theory.specs.Coefficients.{coefficient}
-use Rattle.math_base.specs.declared.fields.goldilocks.F.{F}
-use Rattle.math_base.specs.Elements.{number, residue, root_of, same, goldilocks}
+use Rattle.math_fields.specs.declared.goldilocks.F.{F}
+use Rattle.math_fields.specs.Elements.{number, residue, root_of, same, goldilocks}
 use Rattle.math_ntt.specs.CorrectedRows.{IsCorrected}
 use Rattle.math_ntt.specs.Evaluations.{EvaluationsOf}
 use Rattle.math_transforms.specs.Matrices.{IsOfSize, MatrixOf, column_of, row_of}
@@ -25,7 +25,7 @@ are_same (x ∷ xs) (y ∷ ys) = (number x == number y) && are_same xs ys
 abbrev pub is_settled : List Shard → Shard → Bool
 is_settled shards s = list_all (λ t. not (t.index == s.index) || are_same t.cells.items s.cells.items) shards
 
--- the shards of the settled indices, which are those of which all shards have equal cells
+-- the shards of the settled indices, which are the indices of which all shards have equal cells
 abbrev pub settled : List Shard → List Shard
 settled shards = filter (is_settled shards) shards
 
@@ -59,7 +59,7 @@ pub record AreSound (first : Shard) (shards : List Shard) : Type 0 where
   pub some : 0 < length shards
   pub sound : All (IsSound first) shards
 
--- the shards are the first one and others, all sound, and the rows of e are filled with those of settled indices
+-- the shards are the first one and others, all sound, and the rows of e are filled with the shards of settled indices
 pub record AreSettledRows (lg : ℕ) (first : Shard) (shards : List Shard) (e : EvaluationsOf F) : Type 0 where
   pub short : first.total < 2 ^ 32
   pub next : IsNextPowerOfTwo first.total (2 ^ lg)
@@ -67,7 +67,7 @@ pub record AreSettledRows (lg : ℕ) (first : Shard) (shards : List Shard) (e : 
   pub some : 0 < length shards
   pub sound : All (IsSound first) shards
 
--- the polynomials whose coefficients are the columns of q are corrected from such rows
+-- the polynomials whose coefficients are the columns of q are corrected from rows that are filled with the shards of settled indices
 pub record AreCorrectedRows (first : Shard) (shards : List Shard) (q : MatrixOf F) : Type 0 where
   pub lg : ℕ
   pub rows : EvaluationsOf F
@@ -75,7 +75,7 @@ pub record AreCorrectedRows (first : Shard) (shards : List Shard) (q : MatrixOf 
   pub wrong : List ℕ
   pub corrected : IsCorrected goldilocks (root_of lg) rows first.min q wrong
 
--- the columns of the matrix, so many, are polynomials of at most `min` coefficients, of which none is left out
+-- the matrix has `width` columns, which are polynomials of at most `min` coefficients, of which none is left out
 pub record HaveFewCoefficients (min width : ℕ) (m : MatrixOf F) : Type 0 where
   pub some : 1 ≤ min
   pub rows : min ≤ m.rows
@@ -89,11 +89,11 @@ pub record ArePositionsWithout (P : Shard → Type 0) (shards : List Shard) (pos
   pub differ : All (λ i. (s : Shard) → slice_index_or shards i s ≡ s → ¬ (P s)) positions
   pub agree : (i : ℕ) (s : Shard) → i < length shards → slice_index_or shards i s ≡ s → ¬ (Contains positions i) → P s
 
--- the cells of the shard are those of the row of m that its index names
+-- the cells of the shard are the cells of the row of m that its index names
 abbrev pub IsRowOf : MatrixOf F → Shard → Type 0
 IsRowOf m s = AllZip same (row_of m s.index) s.cells.items
 
--- the words are the data of the shards, and the positions those of the shards that are not shards of the data
+-- the words are the data of the shards, and the positions are the positions of the shards that are not shards of the data
 abbrev pub AreCorrected : List ℕ → List ℕ → List Shard → Type 0
 AreCorrected words positions shards = (c : CorrectTo words shards) × ArePositionsWithout (IsShardOf words c.min c.total) shards positions
 
@@ -105,10 +105,10 @@ HaveOneCorrection = (words others : List ℕ) (shards : List Shard) → CorrectT
 abbrev pub JoinedAreCorrect : Type 0
 JoinedAreCorrect = (words : List ℕ) (shards : List Shard) → JoinTo words shards → CorrectTo words shards
 
--- what is wrong with shards that are corrected: there is no conflict, and settled indices count
+-- what is wrong with shards that are corrected: unequal cells of one index are no conflict, and settled indices count
 abbrev pub IsDueCorrecting : List Shard → Error → Type 0
 IsDueCorrecting = IsDueFor (λ _. ⊥) settled_indices CorrectTo
 
--- the answer is the error only where it is due; and there it is, or memory ran out
+-- shards that are corrected are refused with the error only where it is due; and where it is due, they are, or memory ran out
 abbrev pub RefusesCorrecting : {X : Type 0} → Result X Error → List Shard → Error → Type 0
 RefusesCorrecting result shards = RefusesWhereDue result (IsDueCorrecting shards)

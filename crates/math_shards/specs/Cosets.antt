@@ -3,8 +3,8 @@ use Rattle.std.specs.Prelude.{◌≡◌, ℕ, ◌+◌, ◌*◌, ◌/◌, ◌%◌
 use Rattle.std.specs.List.{AllZip}
 use Rattle.math_theory.specs.Powers.{power}
 use Rattle.math_theory.specs.Values.{value}
-use Rattle.math_base.specs.declared.fields.goldilocks.F.{F}
-use Rattle.math_base.specs.Elements.{residue, root_of, same, sum, product}
+use Rattle.math_fields.specs.declared.goldilocks.F.{F}
+use Rattle.math_fields.specs.Elements.{residue, root_of, same, sum, product}
 use Rattle.math_transforms.specs.DomainValues.{matrix_of}
 use Rattle.math_transforms.specs.Matrices.{MatrixOf, cell_of, column_of}
 use Rattle.math_splitting.specs.Shards.{value_at_index}

@@ -2,8 +2,8 @@
 use Rattle.std.specs.Prelude.{◌≡◌, ℕ, ◌*◌, ◌<◌, ◌≤◌, ◌^◌, ◌==◌, List, length, map, slice_index_or, count_by, All}
 use Rattle.std.specs.Int.{IsNextPowerOfTwo}
 use Rattle.std.specs.List.{list_any, range_with_len}
-use Rattle.math_base.specs.declared.fields.goldilocks.F.{F}
-use Rattle.math_base.specs.Elements.{residue, same}
+use Rattle.math_fields.specs.declared.goldilocks.F.{F}
+use Rattle.math_fields.specs.Elements.{residue, same}
 use Rattle.math_transforms.specs.DomainValues.{matrix_of}
 use Rattle.math_transforms.specs.Matrices.{IsOfSize, MatrixOf, column_of}
 use Rattle.math_splitting.specs.declared.shards.layouts.Layout.{Layout}
@@ -40,8 +40,9 @@ pub record AreRowsOf {R : Type 0} (index : R → ℕ) (cells : R → List F) (la
   pub below : All (λ row. index row < layout.total) rows
   pub count : All (λ row. length (cells row) ≡ layout.width) rows
 
--- rows of the layout, of which `min` have distinct indices, give these coefficients, `min` for each column: where there are no further rows, the cells of each are
--- their values; and where the cells of all rows are the values of polynomials of no more coefficients, they are those of these polynomials
+-- rows of the layout, of which `min` have distinct indices, give these coefficients, `min` for each column: where there are no further
+-- rows, the cells of each are their values; and where the cells of all rows are the values of polynomials of no more coefficients, these
+-- are the coefficients of those polynomials
 pub record AreCoefficientsOf {R : Type 0} (index : R → ℕ) (cells : R → List F) (layout : Layout) (rows : List R) (elements : List F) : Type 0 where
   pub size : length elements ≡ layout.min * layout.width
   pub enough : layout.min ≤ distinct_among layout.total (map index rows)

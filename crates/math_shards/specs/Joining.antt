@@ -2,8 +2,8 @@
 use Rattle.std.specs.Prelude.{◌≡◌, ℕ, ◌<◌, ◌≤◌, ◌^◌, ◌⊎◌, false, List, [], ◌∷◌, ◌++◌, length, map, slice_index, slice_index_or, All, Any, Result, Err, MatchResult, ⊤}
 use Rattle.std.specs.List.{AllZip, Contains}
 use Rattle.std.specs.List.Sorted.{IsStrictlyIncreasing}
-use Rattle.math_base.specs.Elements.{residue, same}
-use Rattle.math_base.specs.declared.fields.goldilocks.F.{F}
+use Rattle.math_fields.specs.Elements.{residue, same}
+use Rattle.math_fields.specs.declared.goldilocks.F.{F}
 use Rattle.math_ntt.specs.Evaluations.{EvaluationsOf}
 use Rattle.math_transforms.specs.Matrices.{MatrixOf, IsOfSize, row_of}
 use Rattle.math_ntt.specs.PolynomialRows.{HaveSamePolynomials}
@@ -42,8 +42,8 @@ HaveUnequalCells index cells rows = Any (λ r. Any (λ t. (index t ≡ index r) 
 abbrev pub HaveConflict : List Shard → Type 0
 HaveConflict shards = HaveUnequalCells (λ s. s.index) (λ s. s.cells.items) shards
 
--- there is a place for each of the indices: where some of the first n rows have the index, it is that of a row of this index that has the cells of each
--- of them; else it is none of a row
+-- there is a place for each of the indices: where some of the first n rows have the index, the place of a row of this index that has the
+-- cells of each of them; and otherwise no place of a row
 pub record ArePlacesByIndex {R : Type 0} (index : R → ℕ) (cells : R → List F) (indices : List ℕ) (rows : List R) (n : ℕ) (places : List ℕ) : Type 0 where
   pub size : length places ≡ length indices
   pub of_index : (p : ℕ) (d : R) → p < length indices → slice_index places p < length rows → index (slice_index_or rows (slice_index places p) d) ≡ slice_index indices p
@@ -51,13 +51,14 @@ pub record ArePlacesByIndex {R : Type 0} (index : R → ℕ) (cells : R → List
   pub equal : (k p : ℕ) (d : R) → k < n → p < length indices → slice_index indices p ≡ index (slice_index_or rows k d)
       → AllZip same (cells (slice_index_or rows (slice_index places p) d)) (cells (slice_index_or rows k d))
 
--- the indices rise, and those of the rows are among them; each row has so many cells
+-- the indices rise, and the index of each row is among them; each row has `width` cells
 pub record AreIndexed {R : Type 0} (index : R → ℕ) (cells : R → List F) (width : ℕ) (indices : List ℕ) (rows : List R) : Type 0 where
   pub rising : IsStrictlyIncreasing indices
   pub there : All (λ row. Contains indices (index row)) rows
   pub count : All (λ row. length (cells row) ≡ width) rows
 
--- what is wrong with rows that fit no data: unequal cells of one index, else too few distinct indices, else that there are no data
+-- what is wrong with rows that fit no data: unequal cells of one index; without these, too few distinct indices; and without both, that
+-- there are no data
 abbrev pub IsDueOfRows : {R : Type 0} → (R → ℕ) → (R → List F) → ℕ → ℕ → List R → Error → Type 0
 IsDueOfRows index cells min total rows (Memory e) = ⊥
 IsDueOfRows index cells min total rows Mismatch = ⊥
@@ -67,7 +68,8 @@ IsDueOfRows index cells min total rows TooFew = ¬ (HaveUnequalCells index cells
 IsDueOfRows index cells min total rows Inconsistent =
     ¬ (HaveUnequalCells index cells rows) × (min ≤ distinct_among total (map index rows)) × ((words : List ℕ) → ¬ (DoRowsFit index cells words min total rows))
 
--- the error says that a shard has other numbers than the first, or an index out of range, and so has the first one that is not sound
+-- the error says that a shard has other numbers than the first, or an index out of range, and the first shard that is not sound has this
+-- fault
 abbrev pub IsUnsound : Shard → List Shard → Error → Type 0
 IsUnsound first shards (Memory e) = ⊥
 IsUnsound first shards TooFew = ⊥
@@ -76,8 +78,8 @@ IsUnsound first shards Index = HasUnsound first (λ s. Matches first s × (s.tot
 IsUnsound first shards Conflict = ⊥
 IsUnsound first shards Inconsistent = ⊥
 
--- what is wrong where there is a first shard, for each error but that memory ran out; it is said what a conflict is, how many indices count, and which
--- words are data of the shards
+-- what is wrong where there is a first shard, for each error but that memory ran out; the arguments are what a conflict is, how many
+-- indices count, and which words are data of the shards
 abbrev pub IsDueBeside : Type 0 → ℕ → (List ℕ → Type 0) → Shard → List Shard → Error → Type 0
 IsDueBeside conflict indices data_of first shards (Memory e) = ⊤
 IsDueBeside conflict indices data_of first shards Mismatch = IsUnsound first shards Mismatch
@@ -96,8 +98,8 @@ IsDueOfNone Index = ⊥
 IsDueOfNone Conflict = ⊥
 IsDueOfNone Inconsistent = ⊥
 
--- what is wrong with the shards, for each error but that memory ran out, where it is said of shards what a conflict is, how many indices below a number
--- count, and which words are their data
+-- what is wrong with the shards, for each error but that memory ran out; the arguments say of shards what a conflict is, how many indices
+-- below a number count, and which words are their data
 abbrev pub IsDueFor : (List Shard → Type 0) → (ℕ → List Shard → ℕ) → (List ℕ → List Shard → Type 0) → List Shard → Error → Type 0
 IsDueFor conflict indices data_of [] e = IsDueOfNone e
 IsDueFor conflict indices data_of (first ∷ rest) e =
@@ -117,11 +119,11 @@ IsMemory Index = ⊥
 IsMemory Conflict = ⊥
 IsMemory Inconsistent = ⊥
 
--- the answer is the error only where it is due; and there it is, or memory ran out
+-- the answer is the error only where it is due; and where it is due, the answer is the error, or memory ran out
 abbrev pub RefusesWhereDue : {X : Type 0} → Result X Error → (Error → Type 0) → Error → Type 0
 RefusesWhereDue result due e = (result ≡ Err e → due e) × (due e → MatchResult result (λ _. ⊥) (λ f. (f ≡ e) ⊎ IsMemory f))
 
--- so it is of shards that are joined
+-- shards that are joined are refused with the error only where it is due; and where it is due, they are, or memory ran out
 abbrev pub RefusesExactly : {X : Type 0} → Result X Error → List Shard → Error → Type 0
 RefusesExactly result shards = RefusesWhereDue result (IsDue shards)
 

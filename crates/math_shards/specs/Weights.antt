@@ -2,8 +2,8 @@
 use Rattle.std.specs.Prelude.{◌≡◌, ◌≢◌, ℕ, ◌+◌, ◌*◌, ◌<◌, ◌≤◌, List, length, map, slice_index_or, All}
 use Rattle.std.specs.List.{Contains, flat_map}
 use Rattle.math_theory.specs.Sums.{weighted_sum}
-use Rattle.math_base.specs.declared.fields.goldilocks.F.{F}
-use Rattle.math_base.specs.Elements.{residue, same, sum, product}
+use Rattle.math_fields.specs.declared.goldilocks.F.{F}
+use Rattle.math_fields.specs.Elements.{residue, same, sum, product}
 use Rattle.math_transforms.specs.DomainValues.{matrix_of}
 use Rattle.math_transforms.specs.Matrices.{MatrixOf, column_of, row_of}
 use Rattle.math_restoring.specs.Restored.{AreDistinct}
@@ -59,3 +59,19 @@ coefficient_of weights m r k = weighted_sum (residue 0) sum product (column_of (
 pub record AreCoefficients (weights : List F) (count width : ℕ) (old new : List F) : Type 0 where
   pub size : length new ≡ count * width
   pub each : (r k : ℕ) → r < count → k < width → slice_index_or new (r * width + k) (residue 0) ≡ coefficient_of weights (matrix_of count width old) r k
+
+-- in the first columns the coefficients of the columns of the start are written, and the cells of the further ones are as they were
+pub record ArePutBefore (weights : List F) (count width : ℕ) (start : List F) (column : ℕ) (cells : List F) : Type 0 where
+  pub done : (r k : ℕ) → r < count → k < column → slice_index_or cells (r * width + k) (residue 0) ≡ coefficient_of weights (matrix_of count width start) r k
+  pub others : (r k : ℕ) → r < count → column ≤ k → k < width → slice_index_or cells (r * width + k) (residue 0) ≡ slice_index_or start (r * width + k) (residue 0)
+
+-- the cells of n columns, from column k on, of the first rows stand in a list row after row
+abbrev pub AreRead : ℕ → ℕ → ℕ → List F → ℕ → List F → Type 0
+AreRead width k n cells rows strip =
+    (r i : ℕ) → r < rows → i < n → slice_index_or strip (r * n + i) (residue 0) ≡ slice_index_or cells (r * width + (k + i)) (residue 0)
+
+-- in n columns, from column k on, the coefficients of the columns are written, and the cells of all others are as they were
+pub record AreColumnsPut (weights : List F) (count width k n : ℕ) (old new : List F) : Type 0 where
+  pub done : (r i : ℕ) → r < count → i < n → slice_index_or new (r * width + (k + i)) (residue 0) ≡ coefficient_of weights (matrix_of count width old) r (k + i)
+  pub before : (r i : ℕ) → r < count → i < k → slice_index_or new (r * width + i) (residue 0) ≡ slice_index_or old (r * width + i) (residue 0)
+  pub behind : (r i : ℕ) → r < count → k + n ≤ i → i < width → slice_index_or new (r * width + i) (residue 0) ≡ slice_index_or old (r * width + i) (residue 0)

@@ -1,7 +1,7 @@
 -- Words as the cells of shards, a shard a row, and the data that they join to.
 use Rattle.std.specs.Prelude.{◌≡◌, ℕ, ◌*◌, ◌≤◌, List, ◌++◌, length, drop, map, All}
 use Rattle.std.specs.List.{flat_map}
-use Rattle.math_base.specs.Elements.{number}
+use Rattle.math_fields.specs.Elements.{number}
 use Rattle.math_splitting.specs.declared.shards.Shard.{Shard}
 use Rattle.math_splitting.specs.Shards.{JoinTo}
 use Rattle.math_shards.specs.declared.shards.Error.{Error}

@@ -4,6 +4,17 @@
 //! `math_splitting` says which. A polynomial of `min` coefficients is the only one with its values
 //! at `min` points, so any `min` shards give the data back. If there are more, one with damaged
 //! cells fits no data with the others. If there are only `min`, damage may go unnoticed.
+//!
+//! `join` gives data back from shards of which none is wrong, and `join_corrected` though some are.
+//! A row is a shard, or a row of words or of bytes where they lie: the same functions join all
+//! three. Beside the caller's own, these lists have the size of the data:
+//!
+//! - in `split_rows`, none: strips of columns are filled from the caller's words, and written over
+//!   the caller's rows;
+//! - in `join_rows`, the elements;
+//! - in `split`, the shards, and their cells as rows, from which they are cut;
+//! - in `join`, the elements, and the words that it gives;
+//! - in `join_corrected` the same, and where some shard is wrong, several matrices of N rows.
 
 ghost use Rattle.std.specs.Prelude.{◌≡◌, alloc_error};
 ghost use Rattle.math_shards.specs.declared.shards.Error.TheVariants.{Memory};

@@ -5,8 +5,8 @@ use Rattle.std.specs.List.{All, range_with_len}
 use Rattle.std.proofs.Math.ListN.{get_or-map}
 use Rattle.std.proofs.lemmas.List.{length-drop, length-take-le, length_push}
 use Rattle.std.proofs.lemmas.List.FromFn.{get_or-range_with_len, length-range_with_len}
-use Rattle.math_base.specs.declared.fields.goldilocks.F.{F}
-use Rattle.math_base.specs.Elements.{number}
+use Rattle.math_fields.specs.declared.goldilocks.F.{F}
+use Rattle.math_fields.specs.Elements.{number}
 use Rattle.math_base.proofs.PlaceByPlace.{each_place_next}
 use Rattle.math_transforms.specs.Matrices.{column_of}
 use Rattle.math_transforms.proofs.PresentIndices.{lg-only}

@@ -8,9 +8,9 @@ use Rattle.std.proofs.lemmas.List.{length-append, length-replicate}
 use Rattle.std.proofs.Math.Nat.{mod-lt, div-add-mod}
 use Rattle.std.proofs.lemmas.Nat.{div-mul-add}
 use Rattle.math_numbers.specs.Bits.{piece_count}
-use Rattle.math_base.specs.Elements.{residue, same}
-use Rattle.math_base.specs.declared.fields.goldilocks.F.{F}
-use Rattle.math_base.proofs.ElementNumbers.{same_number}
+use Rattle.math_fields.specs.Elements.{residue, same}
+use Rattle.math_fields.specs.declared.goldilocks.F.{F}
+use Rattle.math_fields.proofs.ElementNumbers.{same_number}
 use Rattle.math_numbers.proofs.BitPieces.{piece_count-enough}
 use Rattle.math_splitting.specs.Shards.{elements_for, rows_for, width_for}
 use Rattle.math_splitting.proofs.SameCells.{nought}

@@ -7,9 +7,9 @@ use Rattle.std.proofs.lemmas.Nat.{mul-le, shr-shr, shr_below}
 use Rattle.math_numbers.specs.Bits.{bits, bits-zero, cut, joined, number, piece_count, pieces, pieces-suc}
 use Rattle.math_numbers.proofs.BitLists.{bits-of_zero, length-bits}
 use Rattle.math_numbers.proofs.BitPieces.{length-cut, piece_count-enough}
-use Rattle.math_base.specs.Elements.{residue}
-use Rattle.math_base.specs.Packing.{elements_of}
-use Rattle.math_base.proofs.BitFronts.{drop-bits, first-number}
+use Rattle.math_fields.specs.Elements.{residue}
+use Rattle.math_fields.specs.Packing.{elements_of}
+use Rattle.math_fields.proofs.BitFronts.{drop-bits, first-number}
 use Rattle.math_splitting.specs.Shards.{counted}
 use Rattle.math_splitting.specs.Strips.{packed_at, piece_of}
 use Rattle.math_splitting.proofs.SameCells.{nought}

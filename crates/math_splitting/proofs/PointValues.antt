@@ -3,8 +3,8 @@ use Rattle.std.proofs.Common.{◌≡◌, ◌∙◌, ℕ, suc, ◌+◌, ◌<◌, 
 use Rattle.math_theory.specs.Powers.{power}
 use Rattle.math_theory.specs.Sums.{weighted_sum}
 use Rattle.math_theory.specs.Values.{value_from}
-use Rattle.math_base.specs.declared.fields.goldilocks.F.{F}
-use Rattle.math_base.specs.Elements.{product, residue, root_of, sum}
+use Rattle.math_fields.specs.declared.goldilocks.F.{F}
+use Rattle.math_fields.specs.Elements.{product, residue, root_of, sum}
 use Rattle.math_values.specs.Values.{ArePowersOf}
 use Rattle.math_splitting.specs.Shards.{value_at_index}
 use Rattle.math_splitting.proofs.SameCells.{nought}

@@ -8,8 +8,8 @@ use Rattle.std.proofs.lemmas.List.{append-nil, drop_at, drop-drop, flat_map_more
 use Rattle.std.proofs.lemmas.List.Concat.{flat_map-cons}
 use Rattle.std.proofs.lemmas.List.Elements.{All-head, All-tail}
 use Rattle.std.proofs.lemmas.Nat.{be_bytes_8, from_be_bytes-to_be_bytes_8}
-use Rattle.math_base.specs.declared.fields.goldilocks.F.{F}
-use Rattle.math_base.specs.Elements.{number, residue}
+use Rattle.math_fields.specs.declared.goldilocks.F.{F}
+use Rattle.math_fields.specs.Elements.{number, residue}
 use Rattle.math_splitting.specs.DataWords.{bytes_behind, spelled_words}
 
 -- the words as bytes, eight each

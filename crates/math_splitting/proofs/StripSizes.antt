@@ -6,7 +6,7 @@ use Rattle.std.proofs.Math.Nat.{mul-div-le}
 use Rattle.std.proofs.lemmas.Nat.{le-div, mul-le}
 use Rattle.math_numbers.specs.Bits.{piece_count}
 use Rattle.math_numbers.proofs.BitPieces.{piece_count-enough, piece_count-least}
-use Rattle.math_base.proofs.Packing.{length-elements_of}
+use Rattle.math_fields.proofs.Packing.{length-elements_of}
 use Rattle.math_splitting.specs.Shards.{counted, elements_for, width_for}
 use Rattle.math_splitting.proofs.LaidOutData.{rounded_up}
 

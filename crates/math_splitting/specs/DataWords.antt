@@ -9,11 +9,11 @@ abbrev pub apart : Option ℕ → List ℕ
 apart None = []
 apart (Some word) = word ∷ []
 
--- the words of data: the first one apart, those of the slice, and the last one apart
+-- the words of data: the one that stands before the slice, the words of the slice, and the one that stands behind it
 abbrev pub words_in : {W : Type 0} → (W → ℕ) → Source W → List ℕ
 words_in word source = apart source.first ++ (map word source.words.now ++ apart source.last)
 
--- how many words of data stand before those of the slice
+-- how many words of data stand before the words of the slice
 abbrev pub front_count : {W : Type 0} → Source W → ℕ
 front_count source = length (apart source.first)
 

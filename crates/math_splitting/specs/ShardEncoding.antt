@@ -7,9 +7,9 @@ use Rattle.math_codec.specs.declared.codec.range.LengthRange.{LengthRange}
 use Rattle.math_codec.specs.Faults.{Fault, ◌>>=◌}
 use Rattle.math_codec.specs.Lengths.{length_spelling, length_at}
 use Rattle.math_codec.specs.Lists.{list_spelling, scan_list, AdmitsList, ListGrows}
-use Rattle.math_base.specs.declared.fields.goldilocks.F.{F}
-use Rattle.math_base.specs.Elements.{number, same}
-use Rattle.math_base.specs.ElementEncoding.{scan_element}
+use Rattle.math_fields.specs.declared.goldilocks.F.{F}
+use Rattle.math_fields.specs.Elements.{number, same}
+use Rattle.math_fields.specs.ElementEncoding.{scan_element}
 use Rattle.math_splitting.specs.declared.shards.Shard.{Shard}
 
 -- the lengths from 0 to most
@@ -31,7 +31,7 @@ pub record AreSameShards (s t : Shard) : Type 0 where
   pub most : s.total ≡ t.total
   pub cells : AllZip same s.cells.items t.cells.items
 
--- the shard has at most so many cells, each below P, and its three numbers are any that 32 bits can say
+-- the shard has at most `most_cells` cells, each below P, and its three numbers fit 32 bits
 pub record AdmitsShard (most_cells : ℕ) (s : Shard) : Type 0 where
   pub index_fits : s.index < 2 ^ 32
   pub min_fits : s.min < 2 ^ 32

@@ -6,9 +6,9 @@ use Rattle.math_codec.specs.Lengths.{length_spelling}
 use Rattle.math_codec.specs.LengthLaws.{length_again, lengths_apart}
 use Rattle.math_codec.specs.Lists.{list_spelling}
 use Rattle.math_codec.specs.ListLaws.{list_again, list_apart}
-use Rattle.math_base.specs.Elements.{number, same}
-use Rattle.math_base.specs.ElementEncoding.{scan_element}
-use Rattle.math_base.specs.ElementEncodingLaws.{element_again, element_apart}
+use Rattle.math_fields.specs.Elements.{number, same}
+use Rattle.math_fields.specs.ElementEncoding.{scan_element}
+use Rattle.math_fields.specs.ElementEncodingLaws.{element_again, element_apart}
 use Rattle.math_splitting.specs.declared.shards.Shard.{Shard}
 use Rattle.math_splitting.specs.ShardEncoding.{at_most, cell_spelling, shard_spelling, AreSameShards, AdmitsShard, scan_shard}
 

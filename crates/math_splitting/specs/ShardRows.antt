@@ -1,12 +1,12 @@
 -- Shards of data as words, a shard a row: how they are written column by column.
 use Rattle.std.specs.Prelude.{◌≡◌, ℕ, ◌+◌, ◌*◌, ◌<◌, ◌^◌, List, length, map, take, drop, slice_index, slice_index_or}
 use Rattle.std.specs.List.{flat_map, range_with_len}
-use Rattle.math_base.specs.declared.fields.goldilocks.F.{F}
-use Rattle.math_base.specs.Elements.{number, residue}
+use Rattle.math_fields.specs.declared.goldilocks.F.{F}
+use Rattle.math_fields.specs.Elements.{number, residue}
 use Rattle.math_transforms.specs.Matrices.{MatrixOf, column_of}
 use Rattle.math_splitting.specs.declared.shards.Shard.{Shard}
-use Rattle.math_splitting.specs.declared.shards.indices.Wanted.{Wanted}
-use Rattle.math_splitting.specs.declared.shards.indices.Wanted.TheVariants as wanted
+use Rattle.math_splitting.specs.declared.shards.indices.WantedIndices.{WantedIndices}
+use Rattle.math_splitting.specs.declared.shards.indices.WantedIndices.TheVariants as wanted
 use Rattle.math_splitting.specs.declared.shards.layouts.Layout.{Layout}
 use Rattle.math_splitting.specs.declared.shards.layouts.Strip.{Strip}
 use Rattle.math_splitting.specs.declared.shards.sources.Source.{Source}
@@ -23,12 +23,12 @@ abbrev pub AreRowsOfShards : List ℕ → ℕ → ℕ → List ℕ → Type 0
 AreRowsOfShards words min total cells = AreRowsOfShardsAt words min total (range_with_len 0 total) cells
 
 -- the indices of the shards that are asked for
-abbrev pub indices_in : Wanted → List ℕ
+abbrev pub indices_in : WantedIndices → List ℕ
 indices_in (wanted.All total) = range_with_len 0 total
 indices_in (wanted.At indices) = indices.now
 
--- there is a row of so many words for each shard that is asked for, and there are fewer than 2^64 words
-pub record IsRoomFor (width : ℕ) (wanted : Wanted) (cells : List ℕ) : Type 0 where
+-- there is a row of `width` words for each shard that is asked for, and there are fewer than 2^64 words
+pub record IsRoomFor (width : ℕ) (wanted : WantedIndices) (cells : List ℕ) : Type 0 where
   pub size : length cells ≡ length (indices_in wanted) * width
   pub fits : length cells < 2 ^ 64
 
@@ -41,7 +41,7 @@ abbrev pub HaveColumns : List ℕ → ℕ → ℕ → ℕ → List ℕ → ℕ �
 HaveColumns words min lg width indices n cells = (t k : ℕ) → t < length indices → k < n → slice_index cells (t * width + k) ≡ number_at words min lg (slice_index indices t) k
 
 -- the rows of words have the numbers of all cells of the shards that are asked for, of the data of a source
-pub record AreSplit {W : Type 0} (word : W → ℕ) (source : Source W) (layout : Layout) (wanted : Wanted) (cells : List ℕ) : Type 0 where
+pub record AreSplit {W : Type 0} (word : W → ℕ) (source : Source W) (layout : Layout) (wanted : WantedIndices) (cells : List ℕ) : Type 0 where
   pub size : length cells ≡ length (indices_in wanted) * layout.width
   pub columns : HaveColumns (words_in word source) layout.min layout.lg layout.width (indices_in wanted) layout.width cells
 
@@ -59,7 +59,7 @@ abbrev pub strip_element : ℕ → List ℕ → ℕ → List F → ℕ → ℕ �
 strip_element lg indices c strip t k = slice_index_or strip (place_of lg (slice_index indices t) * c + k) (residue 0)
 
 -- of a strip of values the row of each shard that is asked for is written over the columns of the strip in the row of that shard
-pub record IsStripWritten (strip : Strip) (wanted : Wanted) (values : List F) (old new : List ℕ) : Type 0 where
+pub record IsStripWritten (strip : Strip) (wanted : WantedIndices) (values : List F) (old new : List ℕ) : Type 0 where
   pub size : length new ≡ length old
   pub columns : AreColumnsWritten strip.layout.width strip.from strip.cols (length (indices_in wanted)) (strip_element strip.layout.lg (indices_in wanted) strip.cols values) old new
 
@@ -67,14 +67,14 @@ pub record IsStripWritten (strip : Strip) (wanted : Wanted) (values : List F) (o
 abbrev pub value_element : List ℕ → ℕ → MatrixOf F → ℕ → ℕ → F
 value_element indices lg m t k = value_at_index lg (column_of (residue 0) m k) (slice_index indices t)
 
--- s is shard t of those that rows of cells are cut into, each row of so many: it has the numbers and the cells of its row
+-- s is shard t of the shards that rows of `width` cells are cut into: it has the numbers and the cells of its row
 pub record IsCutAt (min total width : ℕ) (indices : List ℕ) (cells : List F) (t : ℕ) (s : Shard) : Type 0 where
   pub index : s.index ≡ slice_index indices t
   pub least : s.min ≡ min
   pub most : s.total ≡ total
   pub row : s.cells.items ≡ take width (drop (t * width) cells)
 
--- the shards are the first n of those that rows of cells are cut into
+-- the shards are the first n that rows of cells are cut into
 pub record AreCut (min total width : ℕ) (indices : List ℕ) (cells : List F) (n : ℕ) (shards : List Shard) : Type 0 where
   pub count : length shards ≡ n
   pub each : (t : ℕ) (d : Shard) → t < n → IsCutAt min total width indices cells t (slice_index_or shards t d)

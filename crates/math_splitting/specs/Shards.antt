@@ -5,9 +5,9 @@ use Rattle.std.specs.List.{list_any, range_with_len}
 use Rattle.math_numbers.specs.Bits.{piece_count}
 use Rattle.math_theory.specs.Powers.{power}
 use Rattle.math_theory.specs.Values.{value}
-use Rattle.math_base.specs.declared.fields.goldilocks.F.{F}
-use Rattle.math_base.specs.Elements.{residue, same, sum, product, root_of}
-use Rattle.math_base.specs.Packing.{elements_of}
+use Rattle.math_fields.specs.declared.goldilocks.F.{F}
+use Rattle.math_fields.specs.Elements.{residue, same, sum, product, root_of}
+use Rattle.math_fields.specs.Packing.{elements_of}
 use Rattle.math_transforms.specs.Matrices.{MatrixOf, column_of}
 use Rattle.math_splitting.specs.declared.shards.Shard.{Shard}
 use Rattle.math_splitting.specs.ShardEncoding.{AreSameShards}
@@ -32,7 +32,7 @@ with_zeros n elements = elements ++ replicate (n - length elements) (residue 0)
 abbrev pub rows_for : ℕ → List ℕ → MatrixOf F
 rows_for min words = let width = width_for min words in record { rows = min; cols = width; cells = with_zeros (min * width) (elements_for words) }
 
--- the value at power i of the root of order 2^lg
+-- the value of a polynomial at power i of the root of order 2^lg
 abbrev pub value_at_index : ℕ → List F → ℕ → F
 value_at_index lg coefficients i = value (residue 0) sum product (residue 1) (power (residue 1) product (root_of lg) i) coefficients
 
@@ -46,12 +46,12 @@ pub record IsShardOf (words : List ℕ) (min total : ℕ) (s : Shard) : Type 0 w
   pub values : (lg k : ℕ) → IsNextPowerOfTwo total (2 ^ lg) → k < width_for min words
       → same (slice_index_or s.cells.items k (residue 0)) (value_at_index lg (column_of (residue 0) (rows_for min words) k) s.index)
 
--- the shards are those of these indices, in this order
+-- the shards are the shards of the data with these indices, in this order
 pub record AreShardsAt (words : List ℕ) (min total : ℕ) (wanted : List ℕ) (shards : List Shard) : Type 0 where
   pub indices : map (λ s. s.index) shards ≡ wanted
   pub each : All (IsShardOf words min total) shards
 
--- the shards are those of the indices from 0 to total - 1, in order
+-- the shards are the shards of the data with the indices from 0 to total - 1, in order
 abbrev pub AreShardsOf : List ℕ → ℕ → ℕ → List Shard → Type 0
 AreShardsOf words min total shards = AreShardsAt words min total (range_with_len 0 total) shards
 

@@ -4,8 +4,8 @@ use Rattle.math_numbers.specs.Bits as Bits
 use Rattle.math_numbers.specs.Bits.{bits}
 use Rattle.math_theory.specs.BitReversal.{bit_reversed}
 use Rattle.math_theory.specs.Coefficients.{HaveSameCoefficients}
-use Rattle.math_base.specs.declared.fields.goldilocks.F.{F}
-use Rattle.math_base.specs.Elements.{residue, root_of, same, goldilocks}
+use Rattle.math_fields.specs.declared.goldilocks.F.{F}
+use Rattle.math_fields.specs.Elements.{residue, root_of, same, goldilocks}
 use Rattle.math_transforms.specs.DomainValues.{matrix_of}
 use Rattle.math_transforms.specs.Matrices.{MatrixOf, cell_of, column_of}
 use Rattle.math_transforms.specs.RootTrees.{IsTreeOf}
@@ -16,8 +16,8 @@ use Rattle.math_splitting.specs.Shards.{elements_for, rows_for, value_at_index, 
 abbrev pub IsTableOf : ℕ → List F → Type 0
 IsTableOf lg table = IsTreeOf goldilocks root_of (residue 1) lg table
 
--- the layout is that of the shards of data, which are fewer than 2^61 words: the rows that these fill have its width, and the places of their cells are numbers of a
--- word
+-- the layout is right for the shards of the data, which are fewer than 2^61 words: the rows that these fill have its width, and the places
+-- of their cells fit a word
 pub record IsLayoutOf (words : List ℕ) (layout : Layout) : Type 0 where
   pub few : length words < 2 ^ 61
   pub width : layout.width ≡ width_for layout.min words
@@ -27,7 +27,7 @@ pub record IsLayoutOf (words : List ℕ) (layout : Layout) : Type 0 where
 abbrev pub piece_of : ℕ → ℕ → ℕ → F
 piece_of before word taken = residue (Bits.number (take 63 (bits taken (before / 2 ^ (64 - taken)) ++ bits 64 word)))
 
--- the element in this place of those that the words pack to, and zero past the last one
+-- the element in this place, of the elements that the words pack to, and zero past the last one
 abbrev pub packed_at : List ℕ → ℕ → F
 packed_at words place = slice_index_or (elements_for words) place (residue 0)
 
@@ -39,13 +39,13 @@ ArePieces words taken cells = (k : ℕ) → k < length cells → same (slice_ind
 abbrev pub ArePacked : List ℕ → ℕ → List F → Type 0
 ArePacked words first cells = (k : ℕ) → k < length cells → same (slice_index_or cells k (residue 0)) (packed_at words (first + k))
 
--- n rows of c cells: their columns have the coefficients that those of the rows of data have, from column `from` on
+-- n rows of c cells: their columns have the coefficients of the columns of the rows of data, from column `from` on
 pub record IsStripOf (words : List ℕ) (min n from c : ℕ) (cells : List F) : Type 0 where
   pub count : length cells ≡ n * c
   pub columns : (k : ℕ) → k < c → HaveSameCoefficients same (residue 0) (column_of (residue 0) (matrix_of n c cells) k) (column_of (residue 0) (rows_for min words) (from + k))
 
--- the row that has the values at power i of the root of order 2^lg: of at most 2^8 rows that whose number has the lg bits of i in the opposite order, and of
--- more row i
+-- the row that has the values at power i of the root of order 2^lg: of at most 2^8 rows the one whose number has the lg bits of i in the
+-- opposite order, and of more row i
 abbrev pub place_of : ℕ → ℕ → ℕ
 place_of lg i = if nat_lt 8 lg then i else bit_reversed lg i
 

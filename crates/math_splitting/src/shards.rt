@@ -19,9 +19,9 @@ mod splitting;
 mod strips;
 
 pub use destinations::{Room, write_word};
-pub use few_points::gather;
+pub use few_points::copy_column;
 pub use layouts::{Layout, Strip};
-use math_base::fields::goldilocks::F;
+use math_fields::goldilocks::F;
 pub use math_values::words::Word;
 pub use sources::Source;
 pub use splitting::{

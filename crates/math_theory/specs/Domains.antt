@@ -8,7 +8,7 @@ pub record HasExactOrder {A : Type 0} (same : A → A → Type 0) (one : A) (pro
   pub power_is_one : same (power one product w n) one
   pub least : (m : ℕ) → 0 < m → m < n → same (power one product w m) one → ⊥
 
--- w is one where lg is zero, and else its power at half of 2 ^ lg is minus one
+-- w is one where lg is zero, and otherwise its power at half of 2 ^ lg is minus one
 abbrev pub IsPrincipalRoot : {A : Type 0} → (A → A → Type 0) → A → (A → A) → (A → A → A) → ℕ → A → Type 0
 IsPrincipalRoot same one negative product zero w = same w one
 IsPrincipalRoot same one negative product (suc lg) w = same (power one product w (2 ^ lg)) (negative one)

@@ -7,6 +7,7 @@ use Rattle.math_theory.specs.Transforms as Transforms
 use Rattle.math_theory.specs.Vanishing as Vanishing
 
 module _ {A : Type 0} (R : CommutativeRing A) where
+  -- each definition of these names over a ring, with the ring's operations and plain equality
   abbrev pub HasExactOrder : A → ℕ → Type 0
   HasExactOrder w n = Domains.HasExactOrder (λ (x y : A). x ≡ y) R.one R.product w n
 
@@ -20,6 +21,7 @@ module _ {A : Type 0} (R : CommutativeRing A) where
   abbrev pub power_of_two : ℕ → A
   power_of_two lg = Powers.power R.one R.product (R.sum R.one R.one) lg
 
+  -- each definition of these names over a ring, with the ring's operations and plain equality
   abbrev pub coset : A → A → ℕ → List A
   coset s w n = Domains.coset R.one R.product s w n
 

@@ -17,6 +17,7 @@ abbrev pub AreDistinct : {A : Type 0} → List A → Type 0
 AreDistinct {A} xs = Interpolation.AreApart (λ (x y : A). x ≡ y) xs
 
 module _ {A : Type 0} (R : CommutativeRing A) where
+  -- each definition of these names over a ring, with the ring's operations and plain equality
   abbrev pub power : A → ℕ → A
   power a n = Powers.power R.one R.product a n
 

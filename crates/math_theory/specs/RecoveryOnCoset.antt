@@ -21,7 +21,7 @@ pub record VanishesAtMissing {A : Type 0} (same : A → A → Type 0) (zero : A)
       → let x = power one product w i in
       same (value zero sum product one x v) (product u (root_product sum negative product one x (missing_items (powers one product w n) filled)))
 
--- g has at most n coefficients, and its values on the domain are the cells times those of v
+-- g has at most n coefficients, and its values on the domain are the cells times the values of v
 pub record HasProductValues {A : Type 0} (same : A → A → Type 0) (zero : A) (sum : A → A → A) (product : A → A → A) (one : A)
     (w : A) (n : ℕ) (cells v g : List A) : Type 0 where
   pub short : length g ≤ n
@@ -29,7 +29,8 @@ pub record HasProductValues {A : Type 0} (same : A → A → Type 0) (zero : A) 
       → let x = power one product w i in
       same (value zero sum product one x g) (product (slice_index_or cells i zero) (value zero sum product one x v))
 
--- q has at most m coefficients, and its values at s times the powers 0, d, 2 d and so on of w, m of them, times those of v are those of g
+-- q has at most m coefficients, and its values at s times the powers 0, d, 2 d and so on of w, m of them, times the values of v there are
+-- the values of g
 pub record DividesOnCoset {A : Type 0} (same : A → A → Type 0) (zero : A) (sum : A → A → A) (product : A → A → A) (one : A)
     (w s : A) (d m : ℕ) (v g q : List A) : Type 0 where
   pub short : length q ≤ m

@@ -7,10 +7,10 @@ use Rattle.math_theory.specs.Rings.{CommutativeRing}
 use Rattle.math_theory.proofs.classes.Classes.{Class, class, class_same, same_class, ring_of_classes}
 use Rattle.math_theory.proofs.classes.ClassesOfLists.{coefficient-class, length-classes, power-class, value-class}
 use Rattle.math_base.specs.Members.{RingOf}
-use Rattle.math_transforms.specs.CombinedCells.{IsCombined}
+use Rattle.math_base.specs.Columns.{IsCombined}
 use Rattle.math_transforms.specs.DomainValues.{matrix_of}
 use Rattle.math_transforms.specs.Matrices.{column_of}
-use Rattle.math_transforms.specs.Quarters.{IsTurned}
+use Rattle.math_base.specs.Columns.{IsTurned}
 use Rattle.math_transforms.specs.RootTrees.{AreMultiplesBelow, AreValuesBelow, IsRootTree, class_at, column_value, entry, twos}
 use Rattle.math_transforms.proofs.LevelsBelow.{AreMultiplesAt, multiples-level, row-multiples, row-values, values-level}
 use Rattle.math_transforms.proofs.PointsBelow.{plain}

@@ -5,7 +5,7 @@ use Rattle.std.proofs.lemmas.Bool.{cases_lt, eq-eqb, ne_eqb}
 use Rattle.std.proofs.lemmas.List.{get_or-set_same, get_or-set_other, length-set}
 use Rattle.math_theory.specs.Laws.{IsEquality, IsGroup, IsProduct, IsRing}
 use Rattle.math_base.specs.Members.{RingOf}
-use Rattle.math_transforms.specs.CombinedCells.{IsCombined}
+use Rattle.math_base.specs.Columns.{AreCombinedBelow, IsCombined}
 
 -- a number that stands for a truth value and is not zero stands for true
 pub true-from_number : (n : ℕ) → n ≢ 0 → IsTrue (not (eqb n 0))
@@ -53,16 +53,8 @@ module _ {A : Type 0} (R : RingOf A) where
       combined : IsCombined R forward w (at old p) (at old (c + p)) (at new p) (at new (c + p))
       others : (i : ℕ) → i ≢ p → i ≢ c + p → at new i ≡ at old i
 
-    -- the first n columns of two rows are combined, and the others are as before
-    pub record AreCombinedBelow (n : ℕ) (old new : List A) : Type 0 where
-      pub combined : (p : ℕ) → p < n → IsCombined R forward w (at old p) (at old (c + p)) (at new p) (at new (c + p))
-      pub kept : (p : ℕ) → n ≤ p → p < c → (at new p ≡ at old p) × (at new (c + p) ≡ at old (c + p))
-
-    pub combined-none : (xs : List A) → AreCombinedBelow 0 xs xs
-    combined-none xs = record { combined = λ p l. absurd (omega arith); kept = λ p l m. (refl, refl) }
-
     -- and then the next column
-    column-more : (n : ℕ) (old mid new : List A) → n < c → AreCombinedBelow n old mid → IsColumnCombined n mid new → AreCombinedBelow (n + 1) old new
+    column-more : (n : ℕ) (old mid new : List A) → n < c → AreCombinedBelow R forward w c n old mid → IsColumnCombined n mid new → AreCombinedBelow R forward w c (n + 1) old new
     column-more n old mid new l h k = record {
       combined = λ p b. elim (cases_lt p n) as (λ _. IsCombined R forward w (at old p) (at old (c + p)) (at new p) (at new (c + p))) [
         | inl before ↦ rw (k.others p (omega arith) (omega arith), k.others (c + p) (omega arith) (omega arith)) (h.combined p before)
@@ -88,6 +80,6 @@ module _ {A : Type 0} (R : RingOf A) where
         }
 
     -- and so with the next column, of which both cells are written
-    pub combined-more : (n : ℕ) (old mid : List A) (x y : A) → n < c → length mid ≡ 2 * c → AreCombinedBelow n old mid → (a b : A) → a ≡ at mid n → b ≡ at mid (c + n) → IsCombined R forward w a b x y
-        → AreCombinedBelow (n + 1) old (set (set mid n x) (c + n) y)
+    pub combined-more : (n : ℕ) (old mid : List A) (x y : A) → n < c → length mid ≡ 2 * c → AreCombinedBelow R forward w c n old mid → (a b : A) → a ≡ at mid n → b ≡ at mid (c + n) → IsCombined R forward w a b x y
+        → AreCombinedBelow R forward w c (n + 1) old (set (set mid n x) (c + n) y)
     combined-more n old mid x y l long h a b is_a is_b k = column-more n old mid _ l h (combined-column n mid a b x y l long is_a is_b k)

@@ -12,7 +12,7 @@ use Rattle.math_theory.proofs.polynomials.Coefficients.{coefficient-multiple, co
 use Rattle.math_theory.proofs.polynomials.Values.{value-horner, value-multiple, value-sum}
 use Rattle.math_theory.proofs.rings.Normal.{ring, combine, ◌⊕◌, ◌⊖◌, ◌⊗◌, minus, 𝟘, 𝟙, v0, v1, v2, v3}
 use Rattle.math_theory.proofs.transforms.EvenOddItems.{value-append}
-use Rattle.math_transforms.specs.CombinedCells.{IsCombined}
+use Rattle.math_base.specs.Columns.{IsCombined}
 use Rattle.math_transforms.specs.DomainValues.{matrix_of}
 use Rattle.math_transforms.specs.Matrices.{column_of}
 use Rattle.math_transforms.specs.RootTrees.{AreValuesBelow, IsRootTree, class_at, column_value, entry, twos}

@@ -26,9 +26,7 @@ pub mod ScaledColumns
 pub mod ScaledCells
 pub mod TreeCounts
 pub mod OnDomain
-pub mod RootWeightSteps
 pub mod PresentIndices
-pub mod RootWeightCases
 pub mod PointsBelow
 pub mod LevelsBelow
 pub mod TurnedCells

@@ -3,6 +3,7 @@ use Rattle.std.proofs.Common.{◌≡◌, inl, inr, ℕ, zero, suc, ◌+◌, ◌-
 use Rattle.std.proofs.Math.ListN.{set}
 use Rattle.std.proofs.lemmas.Bool.{cases_eq, cases_lt}
 use Rattle.std.proofs.lemmas.List.{length-append, length-map, length-take-le, take_more, get_or_default, get_or-set_same, get_or-set_other}
+use Rattle.std.proofs.lemmas.List.Kept.{AllPairs-from_increasing}
 use Rattle.std.proofs.lemmas.List.Elements.{Contains-push, Contains-push_cases, Contains-append_left}
 use Rattle.std.proofs.lemmas.List.FromFn.{length-range_with_len, get_or-range_with_len}
 use Rattle.std.proofs.lemmas.Nat.{leading_length, pow_pos}
@@ -11,7 +12,7 @@ use Rattle.std.proofs.Math.Pow.{pow_mono}
 use Rattle.std.specs.Int.{IsNextPowerOfTwo}
 use Rattle.std.specs.Int.Count.{count_leading_zeros}
 use Rattle.std.specs.Prelude.{max}
-use Rattle.std.specs.List.{All, Contains, range_with_len, slice_get}
+use Rattle.std.specs.List.{All, AllPairs, Contains, range_with_len, slice_get}
 use Rattle.std.specs.Map.{keys_of, values_of}
 use Rattle.math_theory.specs.Recovery.{count_true, filled_items, filled_places}
 use Rattle.math_theory.proofs.recovery.FilledItems.{length-filled_items}
@@ -19,7 +20,7 @@ use Rattle.math_theory.proofs.domains.FilledProducts.{filled_place, filled_place
 use Rattle.math_theory.proofs.lists.ListMaps.{range-append}
 use Rattle.math_theory.proofs.domains.RootOrders.{power_of_two-suc}
 use Rattle.math_transforms.specs.DomainValues.{HasDomain}
-use Rattle.math_transforms.specs.RootWeights.{AreTrueAt}
+use Rattle.math_transforms.specs.RootWeights.{AreIndicesBelow, AreRising, AreTrueAt}
 
 filled_items-append : {A : Type 0} (xs ys : List A) (bs cs : List Bool) → length xs ≡ length bs → filled_items (xs ++ ys) (bs ++ cs) ≡ filled_items xs bs ++ filled_items ys cs
 filled_items-append [] ys [] cs h = refl
@@ -162,3 +163,52 @@ exponent-only a b e =
 
 pub domain-of : (greatest n lg : ℕ) → n ≡ 2 ^ lg → lg ≤ greatest → HasDomain greatest n
 domain-of greatest n lg e l = λ k h. let f : k ≡ lg = exponent-only k lg (sym h ∙ e) in omega arith
+
+-- each item is below all later ones
+abbrev Rises : List ℕ → Type 0
+Rises xs = AllPairs (λ x y. x < y) xs
+
+tail : (x : ℕ) (xs : List ℕ) → Rises (x ∷ xs) → Rises xs
+tail x xs h = λ i j d l m. h (suc i) (suc j) d (omega arith) (omega arith)
+
+-- a member of a rising list is its first item, or above it and a member of the others
+member : (i x : ℕ) (xs : List ℕ) → Contains (x ∷ xs) i → (i ≡ x) ⊎ Contains xs i
+member i x xs (zero, l, e) = inl (sym e)
+member i x xs (suc k, l, e) = inr (k, omega arith, e)
+
+above : (i x : ℕ) (xs : List ℕ) → Rises (x ∷ xs) → Contains xs i → x < i
+above i x xs h (k, l, e) =
+    let less : x < get_or xs k i = h 0 (suc k) i (omega arith) (omega arith) in
+    omega (arith, e, less)
+
+-- rising lists with the same members are the same
+rising-once : (xs ys : List ℕ) → Rises xs → Rises ys → ((i : ℕ) → Contains xs i → Contains ys i) → ((i : ℕ) → Contains ys i → Contains xs i) → xs ≡ ys
+rising-once [] [] h k there back = refl
+rising-once [] (y ∷ ys) h k there back = let found = back y (0, omega arith, refl) in absurd (omega (arith, found.1))
+rising-once (x ∷ xs) [] h k there back = let found = there x (0, omega arith, refl) in absurd (omega (arith, found.1))
+rising-once (x ∷ xs) (y ∷ ys) h k there back =
+    let heads : x ≡ y = elim (member x y ys (there x (0, omega arith, refl))) [
+      | inl e ↦ e
+      | inr c ↦ elim (member y x xs (back y (0, omega arith, refl))) [
+        | inl e ↦ sym e
+        | inr d ↦ let a = above x y ys k c in let b = above y x xs h d in absurd (omega (arith, a, b))
+      ]
+    ] in
+    ap₂ (λ z zs. z ∷ zs) heads
+    (rising-once xs ys (tail x xs h) (tail y ys k)
+    (λ i c. elim (member i y ys (there i (suc c.0, omega (arith, c.1), c.2))) [
+      | inl e ↦ let a = above i x xs h c in absurd (omega (arith, a, e, heads))
+      | inr d ↦ d
+    ])
+    (λ i c. elim (member i x xs (back i (suc c.0, omega (arith, c.1), c.2))) [
+      | inl e ↦ let a = above i y ys k c in absurd (omega (arith, a, e, heads))
+      | inr d ↦ d
+    ]))
+
+-- the indices that are found are those that were given
+pub indices-given : (total : ℕ) (indices found : List ℕ) → AreRising total indices → AreIndicesBelow total indices found → found ≡ indices
+indices-given total indices found rising h =
+    rising-once found indices (AllPairs-from_increasing found h.rise) (AllPairs-from_increasing indices rising.0) (λ i c. ((h.exactly i).0 c).0) (λ i c. (h.exactly i).1 (c, member-below i c))
+  where
+    member-below : (i : ℕ) → Contains indices i → i < total
+    member-below i c = let below = rising.1 c.0 i c.1 in omega (arith, below, c.2)

@@ -6,8 +6,8 @@ use Rattle.math_theory.specs.OverRing as OverRing
 use Rattle.math_theory.specs.Rings.{CommutativeRing}
 use Rattle.math_theory.proofs.polynomials.Coefficients.{coefficient-multiple}
 use Rattle.math_theory.proofs.rings.Normal.{ring, ◌⊕◌, ◌⊖◌, ◌⊗◌, minus, 𝟙, v0, v1, v2}
-use Rattle.math_transforms.specs.CombinedCells.{IsCombined}
-use Rattle.math_transforms.specs.Quarters.{IsTurned}
+use Rattle.math_base.specs.Columns.{IsCombined}
+use Rattle.math_base.specs.Columns.{IsTurned}
 use Rattle.math_transforms.specs.RootTrees.{AreValuesBelow, IsRootTree, entry}
 use Rattle.math_transforms.proofs.LevelsBelow.{AreMultiplesAt, below, child-within, multiples-level, sums, sums-item, sums-length, values-level}
 use Rattle.math_transforms.proofs.PointsBelow.{plain}

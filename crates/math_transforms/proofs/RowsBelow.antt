@@ -3,8 +3,10 @@ use Rattle.std.proofs.Common.{◌≡◌, ◌∙◌, ℕ, ◌+◌, ◌-◌, ◌*�
 use Rattle.std.proofs.lemmas.List.{get_or_append_left, get_or-append-add, length-drop, length-take-le, take-append-drop}
 use Rattle.math_theory.specs.Laws.{IsEquality, IsGroup, IsProduct, IsRing}
 use Rattle.math_base.specs.Members.{RingOf}
-use Rattle.math_transforms.specs.CombinedCells.{AreCombined, IsCombined}
-use Rattle.math_transforms.specs.Quarters.{AreTurned, IsTurned}
+use Rattle.math_base.specs.Columns.{IsCombined}
+use Rattle.math_transforms.specs.CombinedCells.{AreCombined}
+use Rattle.math_base.specs.Columns.{AreSixteenTurned, IsTurned, IsTurnedByTree}
+use Rattle.math_transforms.specs.Quarters.{AreTurned}
 use Rattle.math_transforms.specs.RootTrees.{AreMultiplesBelow, AreValuesBelow, IsRootTree, entry}
 use Rattle.math_transforms.proofs.BelowSteps.{Quartered, quartered}
 use Rattle.math_transforms.proofs.BelowClasses.{multiples-level-same, multiples-quarters-same, row-multiples-same, row-values-same, values-level-same, values-quarters-same}
@@ -137,6 +139,28 @@ module _ {A : Type 0} (R : RingOf A) (E : IsEquality R.same) (G : IsGroup R.same
       (λ j l. combined-halves R cols false g old new _ _ _ _ o n combined j (omega (arith, l, is)))
       (row-multiples (lg - 1) (2 * place) (take cols old) none) (row-multiples (lg - 1) (2 * place + 1) (drop cols old) none)))
 
+  module _ (square : R.same (R.product turn turn) (R.negative R.one)) (some : 0 < lg) (s : ℕ) (is : s ≡ 2 ^ (lg - 1) * cols) where
+    -- two rows combined, and then each half turned into its values
+    pub values-halves : (old mid low high va vb : List A) → length old ≡ 2 * s → AreHalves s mid low high → length va ≡ s → AreCombined R true g s old mid
+        → values (lg - 1) (2 * place) low va → values (lg - 1) (2 * place + 1) high vb → values lg place old (va ++ vb)
+    values-halves old mid low high va vb long m va_count combined first second =
+        let o = halves_of s old long in
+        subst (λ xs. values lg place xs (va ++ vb)) (sym o.whole)
+        (values-level-same R E G P L turn roots tree lg place cols (λ _. square) one within some g refl
+        (take s old) (drop s old) low high va vb (o.first ∙ is) (va_count ∙ is)
+        (λ j l. combined-halves R s true g old mid _ _ low high o m combined j (omega (arith, l, is))) first second)
+
+    -- two halves of multiples, combined on the way back
+    pub multiples-halves : (old mid new low high ma mb : List A) → AreHalves s old low high → AreHalves s mid ma mb → length new ≡ 2 * s → AreCombined R false g s mid new
+        → multiples (lg - 1) (2 * place) low ma → multiples (lg - 1) (2 * place + 1) high mb → multiples lg place old new
+    multiples-halves old mid new low high ma mb o m long combined first second =
+        let n = halves_of s new long in
+        subst (λ xs. multiples lg place xs new) (sym o.whole)
+        (subst (λ ys. multiples lg place (low ++ high) ys) (sym n.whole)
+        (multiples-level-same R E G P L turn roots tree lg place cols (λ _. square) one within some g refl
+        low high ma mb (take s new) (drop s new) (o.first ∙ is) (m.first ∙ is) (n.first ∙ is)
+        (λ j l. combined-halves R s false g mid new ma mb _ _ m n combined j (omega (arith, l, is))) first second))
+
   module _ (square : R.same (R.product turn turn) (R.negative R.one)) (two : 2 ≤ lg) (s : ℕ) (is : s ≡ 2 ^ (lg - 2) * cols) where
     -- four rows turned, and then each quarter turned into its values
     pub values-turned : (old mid a b c d va vb vc vd : List A) → length old ≡ 4 * s → AreQuarters s mid a b c d → length va ≡ s → length vb ≡ s → length vc ≡ s → AreTurned R true e f g s old mid
@@ -240,3 +264,44 @@ module _ {A : Type 0} (R : RingOf A) (E : IsEquality R.same) (G : IsGroup R.same
       multiples-turned R E G P L turn roots tree lg place cols one within square (omega (arith, level)) s part_is old mid new a b c d ma mb mc md o m (omega (arith, long)) turned
       (child-multiples (4 * place) 0 (omega arith) (omega arith) a ma o.first m.first first) (child-multiples (4 * place + 1) 1 refl (omega arith) b mb o.second m.second second)
       (child-multiples (4 * place + 2) 2 refl (omega arith) c mc o.third m.third third) (child-multiples (4 * place + 3) 3 refl (omega arith) d md o.fourth m.fourth fourth)
+
+  -- the cells of one quarter that are turned, where `to` leads to its places
+  part-turned : (forward : Bool) (p : ℕ) (to : ℕ → ℕ) → ((n i : ℕ) → n + to i ≡ to (n + i)) → (old new x y : List A)
+      → ((j : ℕ) → j < s → (entry R old (to j) ≡ entry R x j) × (entry R new (to j) ≡ entry R y j))
+      → ((i : ℕ) → i < cols → IsTurnedByTree R forward roots p cols (to i) old new) → turned_at forward p x y
+  part-turned forward p to moves old new x y items turned = record {
+    turned = λ i l.
+        let h = items i (omega (arith, l)) in
+        let k = items (cols + i) (omega (arith, l)) in
+        let m = items (2 * cols + i) (omega (arith, l)) in
+        let n = items (3 * cols + i) (omega (arith, l)) in
+        rw (← h.0, ← k.0, ← m.0, ← n.0, ← h.1, ← k.1, ← m.1, ← n.1, ← moves cols i, ← moves (2 * cols) i, ← moves (3 * cols) i) (turned i l);
+  }
+
+  -- sixteen rows turned by all four levels at once
+  pub values-turned_sixteen : (old new : List A) → length old ≡ 16 * cols → length new ≡ 16 * cols → AreSixteenTurned R true roots place cols old new
+      → AreValuesBelow R roots lg place cols old new
+  values-turned_sixteen old new long new_long h =
+      let m = quarters_of s h.between (omega (arith, h.count)) in
+      let n = quarters_of s new (omega (arith, new_long)) in
+      let was = quarter-items R.zero s h.between _ _ _ _ m in
+      let is = quarter-items R.zero s new _ _ _ _ n in
+      subst (λ ys. AreValuesBelow R roots lg place cols old ys) (sym n.whole)
+      (values-sixteen old h.between _ _ _ _ _ _ _ _ long m (record { whole = refl; first = n.first; second = n.second; third = n.third; fourth = n.fourth }) (record { turned = h.all })
+      (part-turned true (4 * place) (λ j. j) (λ n i. refl) h.between new _ _ (λ j l. ((was j l).0, (is j l).0)) h.first)
+      (part-turned true (4 * place + 1) (λ j. s + j) (λ n i. omega arith) h.between new _ _ (λ j l. ((was j l).1, (is j l).1)) h.second)
+      (part-turned true (4 * place + 2) (λ j. 2 * s + j) (λ n i. omega arith) h.between new _ _ (λ j l. ((was j l).2, (is j l).2)) h.third)
+      (part-turned true (4 * place + 3) (λ j. 3 * s + j) (λ n i. omega arith) h.between new _ _ (λ j l. ((was j l).3, (is j l).3)) h.fourth))
+
+  pub multiples-turned_sixteen : (old new : List A) → length old ≡ 16 * cols → length new ≡ 16 * cols → AreSixteenTurned R false roots place cols old new
+      → AreMultiplesBelow R roots lg place cols old new
+  multiples-turned_sixteen old new long new_long h =
+      let o = quarters_of s old (omega (arith, long)) in
+      let m = quarters_of s h.between (omega (arith, h.count)) in
+      let was = quarter-items R.zero s old _ _ _ _ o in
+      let is = quarter-items R.zero s h.between _ _ _ _ m in
+      multiples-sixteen old h.between new _ _ _ _ _ _ _ _ o m new_long (record { turned = h.all })
+      (part-turned false (4 * place) (λ j. j) (λ n i. refl) old h.between _ _ (λ j l. ((was j l).0, (is j l).0)) h.first)
+      (part-turned false (4 * place + 1) (λ j. s + j) (λ n i. omega arith) old h.between _ _ (λ j l. ((was j l).1, (is j l).1)) h.second)
+      (part-turned false (4 * place + 2) (λ j. 2 * s + j) (λ n i. omega arith) old h.between _ _ (λ j l. ((was j l).2, (is j l).2)) h.third)
+      (part-turned false (4 * place + 3) (λ j. 3 * s + j) (λ n i. omega arith) old h.between _ _ (λ j l. ((was j l).3, (is j l).3)) h.fourth)

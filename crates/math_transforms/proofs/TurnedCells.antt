@@ -6,8 +6,8 @@ use Rattle.math_theory.specs.Rings.{CommutativeRing}
 use Rattle.math_theory.proofs.classes.Classes.{Class, class, class_same, same_class, ring_of_classes}
 use Rattle.math_theory.proofs.rings.Normal.{ring, ◌⊕◌, ◌⊗◌, minus, 𝟙, v0, v1, v2, v3, v4, v5, v6}
 use Rattle.math_base.specs.Members.{RingOf}
-use Rattle.math_transforms.specs.CombinedCells.{IsCombined}
-use Rattle.math_transforms.specs.Quarters.{IsTurned}
+use Rattle.math_base.specs.Columns.{IsCombined}
+use Rattle.math_base.specs.Columns.{IsTurned}
 use Rattle.math_transforms.proofs.PointsBelow.{plain}
 
 -- s and d are the sum and the difference of a and b

@@ -3,7 +3,7 @@ use Rattle.std.proofs.Common.{◌≡◌, ◌∙◌, inl, inr, ℕ, ◌+◌, ◌*
 use Rattle.std.proofs.lemmas.Bool.{cases_lt}
 use Rattle.std.proofs.lemmas.List.{get_or-set_same, get_or-set_other, length-set}
 use Rattle.math_base.specs.Members.{RingOf}
-use Rattle.math_transforms.specs.Quarters.{IsTurned}
+use Rattle.math_base.specs.Columns.{AreTurnedBelow, IsTurned}
 
 module _ {A : Type 0} (R : RingOf A) (forward : Bool) (e f g : A) (c : ℕ) where
   -- the cell at place i
@@ -21,12 +21,7 @@ module _ {A : Type 0} (R : RingOf A) (forward : Bool) (e f g : A) (c : ℕ) wher
     turned : column p old new
     others : (i : ℕ) → i ≢ p → i ≢ c + p → i ≢ 2 * c + p → i ≢ 3 * c + p → at new i ≡ at old i
 
-  -- the first n columns of four rows are turned, and the others are as before
-  pub record AreTurnedBelow (n : ℕ) (old new : List A) : Type 0 where
-    pub turned : (p : ℕ) → p < n → column p old new
-    pub kept : (p : ℕ) → n ≤ p → p < c → are_as_before p old new
-
-  pub turned-none : (xs : List A) → AreTurnedBelow 0 xs xs
+  pub turned-none : (xs : List A) → AreTurnedBelow R forward e f g c 0 xs xs
   turned-none xs = record { turned = λ p l. absurd (omega arith); kept = λ p l m. (refl, refl, refl, refl) }
 
   another : (n p : ℕ) (mid new : List A) → n < c → IsColumnTurned n mid new → p ≢ n → p < c → are_as_before p mid new
@@ -38,7 +33,7 @@ module _ {A : Type 0} (R : RingOf A) (forward : Bool) (e f g : A) (c : ℕ) wher
   )
 
   -- and then the next column
-  column-more : (n : ℕ) (old mid new : List A) → n < c → AreTurnedBelow n old mid → IsColumnTurned n mid new → AreTurnedBelow (n + 1) old new
+  column-more : (n : ℕ) (old mid new : List A) → n < c → AreTurnedBelow R forward e f g c n old mid → IsColumnTurned n mid new → AreTurnedBelow R forward e f g c (n + 1) old new
   column-more n old mid new l h k = record {
     turned = λ p b. elim (cases_lt p n) as (λ _. column p old new) [
       | inl before ↦ let same = another n p mid new l k (omega arith) (omega arith) in rw (same.0, same.1, same.2, same.3) (h.turned p before)
@@ -100,9 +95,9 @@ module _ {A : Type 0} (R : RingOf A) (forward : Bool) (e f g : A) (c : ℕ) wher
     }
 
   -- and so with the next column, of which the four cells are written
-  pub turned-more : (n : ℕ) (old mid : List A) (x y z w : A) → n < c → length mid ≡ 4 * c → AreTurnedBelow n old mid → (a b u d : A)
+  pub turned-more : (n : ℕ) (old mid : List A) (x y z w : A) → n < c → length mid ≡ 4 * c → AreTurnedBelow R forward e f g c n old mid → (a b u d : A)
       → a ≡ at mid n → b ≡ at mid (c + n) → u ≡ at mid (2 * c + n) → d ≡ at mid (3 * c + n) → IsTurned R forward e f g a b u d x y z w
-      → AreTurnedBelow (n + 1) old (set (set (set (set mid n x) (c + n) y) (2 * c + n) z) (3 * c + n) w)
+      → AreTurnedBelow R forward e f g c (n + 1) old (set (set (set (set mid n x) (c + n) y) (2 * c + n) z) (3 * c + n) w)
   turned-more n old mid x y z w l long h a b u d is_a is_b is_u is_d k =
       column-more n old mid _ l h (turned-column n mid x y z w l long a b u d is_a is_b is_u is_d k)
 

@@ -1,19 +1,15 @@
 -- Two rows of cells that are combined, and rows in bit-reversed order.
-use Rattle.std.specs.Prelude.{◌≡◌, ℕ, ◌+◌, ◌<◌, ◌^◌, Bool, if◌then◌else◌, List, slice_index_or}
+use Rattle.std.specs.Prelude.{◌≡◌, ℕ, ◌+◌, ◌<◌, ◌^◌, Bool, List, slice_index_or}
 use Rattle.math_theory.specs.BitReversal.{bit_reversed}
 use Rattle.math_base.specs.Members.{RingOf}
+use Rattle.math_base.specs.Columns.{IsCombined}
 use Rattle.math_transforms.specs.Matrices.{MatrixOf, cell_of}
 
 module _ {A : Type 0} (R : RingOf A) where
-  -- forward the pair a, b becomes a + b w, a - b w, and on the way back a + b, (a - b) w
-  pub record IsCombined (forward : Bool) (w a b low high : A) : Type 0 where
-    pub sum : R.same low (if forward then R.sum a (R.product b w) else R.sum a b)
-    pub difference : R.same high (if forward then R.sum a (R.negative (R.product b w)) else R.product (R.sum a (R.negative b)) w)
-
   -- the pair of cells in column p of two rows of c cells is combined
   abbrev pub IsCombinedAt : Bool → A → ℕ → ℕ → List A → List A → Type 0
   IsCombinedAt forward w c p old new =
-      IsCombined forward w (slice_index_or old p R.zero) (slice_index_or old (c + p) R.zero) (slice_index_or new p R.zero) (slice_index_or new (c + p) R.zero)
+      IsCombined R forward w (slice_index_or old p R.zero) (slice_index_or old (c + p) R.zero) (slice_index_or new p R.zero) (slice_index_or new (c + p) R.zero)
 
   -- two rows of c cells are combined, column by column
   pub record AreCombined (forward : Bool) (w : A) (c : ℕ) (old new : List A) : Type 0 where

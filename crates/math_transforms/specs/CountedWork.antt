@@ -1,7 +1,7 @@
 -- How much a counted call did.
 use Rattle.std.specs.Prelude.{◌≡◌, ℕ, ◌+◌, ◌*◌, ◌≤◌}
 
--- how many butterflies, and how many root products
+-- a number of butterflies, and a number of root products
 pub record WorkOf : Type 0 where
   pub butterflies : ℕ
   pub root_products : ℕ

@@ -20,11 +20,11 @@ count_false filled = count_by not filled
 unfoldable pub every : ℕ → ℕ → ℕ → List Bool → List Bool
 every start stride n filled = map (λ j. slice_index_or filled (start + j * stride) false) (range_with_len 0 n)
 
--- the truth values of the first n points
+-- the truth values of the n points from `start` on that are `stride` places apart
 abbrev pub places : ℕ → Spaced → List Bool
 places n spaced = every spaced.start spaced.stride n spaced.points.now
 
--- n points, so far apart that they are all whose index has the same remainder
+-- there are n points, so far apart that they are all points whose index has the same remainder
 pub record IsSpaced (n : ℕ) (spaced : Spaced) : Type 0 where
   pub start : spaced.start < spaced.stride
   pub covers : n * spaced.stride ≡ length spaced.points.now
@@ -67,7 +67,7 @@ IsEverywhere Nowhere = ⊥
 IsEverywhere Everywhere = Unit {0}
 IsEverywhere (Somewhere p) = ⊥
 
--- up to one factor that is not zero, v gives at each r the value of p at r times that of q at s r
+-- up to one factor that is not zero, v gives at each r the value of p at r times the value of q at s r
 pub record IsMerged {A : Type 0} (R : RingOf A) (s : A) (p q v : A → A) : Type 0 where
   pub factor : A
   pub factor_is_not_zero : ¬ (R.same factor R.zero)

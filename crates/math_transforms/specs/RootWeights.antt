@@ -1,5 +1,5 @@
 -- Weights at the points of a domain that have given indices.
-use Rattle.std.specs.Prelude.{◌≡◌, ◌↔◌, ℕ, ◌<◌, ◌≤◌, ◌^◌, List, Bool, true, false, length, map, slice_index_or, Contains}
+use Rattle.std.specs.Prelude.{◌≡◌, ◌↔◌, ℕ, ◌<◌, ◌≤◌, ◌^◌, List, Bool, true, false, length, map, slice_index_or, All, Contains}
 use Rattle.std.specs.Int.{IsNextPowerOfTwo}
 use Rattle.std.specs.List.Sorted.{IsStrictlyIncreasing}
 use Rattle.std.specs.Map.{keys_of, values_of}
@@ -20,11 +20,15 @@ pub record AreIndicesBelow (total : ℕ) (xs indices : List ℕ) : Type 0 where
   pub rise : IsStrictlyIncreasing indices
   pub exactly : (i : ℕ) → Contains indices i ↔ (Contains xs i × (i < total))
 
+-- the indices rise, and are below the total
+abbrev pub AreRising : ℕ → List ℕ → Type 0
+AreRising total indices = IsStrictlyIncreasing indices × All (λ i. i < total) indices
+
 -- the powers of w with these exponents
 abbrev pub powers_at : {A : Type 0} → RingOf A → A → List ℕ → List A
 powers_at R w exponents = map (λ i. power R.one R.product w i) exponents
 
--- where 2^lg is total rounded up to a power of two, the weights are those for the value at x at the powers of root lg, each with its index
+-- where 2^lg is total rounded up to a power of two, these are weights for the value at x at powers of root lg, each with its index
 abbrev pub AreRootWeightsAt : {A : Type 0} → RingOf A → (ℕ → A) → ℕ → A → List (ℕ × A) → Type 0
 AreRootWeightsAt R root total x weights =
     (lg : ℕ) → IsNextPowerOfTwo total (2 ^ lg) → AreWeightsAt R x (powers_at R (root lg) (keys_of weights)) (values_of weights)

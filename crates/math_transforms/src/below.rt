@@ -4,14 +4,22 @@
 //! the points, where g is the entry at the place. A polynomial is p(x) = l(x) + x^n h(x), where n
 //! is half of the rows, l has the rows of the low half and h those of the high half. x^n is g at
 //! one half of the points and -g at the other: so p has the values of l + g h at the one and those
-//! of l - g h at the other, and both have half as many rows. Two such levels are taken in one pass,
-//! and one where two rows are left. Sixteen rows have a function without a call of itself. A weight
-//! is the same for all rows and columns of a half. The rows of coefficients are in natural order
-//! and the values in that of the tree, so no row changes its place.
+//! of l - g h at the other, and both have half as many rows. Two such levels are taken in one pass.
+//! If their number is odd, one is taken alone: of thirty-two rows, or of two where there are fewer
+//! than thirty-two. Sixteen rows have a function without a call of itself, and a type may take
+//! their four levels at once. A weight is the same for all rows and columns of a half. The rows of
+//! coefficients are in natural order and the values in that of the tree, so no row changes its
+//! place.
 //!
 //! Where there are at most as many coefficients as half of the rows, h is zero: p is l at both
 //! halves of the points. So each half is given the same coefficients, until there are as many rows
 //! as coefficients.
+//!
+//! Only the two functions of a step count, before the rows are turned, and as many butterflies as
+//! the rows in hand have pairs of cells. So no loop counts, a type can turn rows in its own way,
+//! and a step that is refused has counted something. The weights are compared with one, once for
+//! all columns: that saves N - 1 products of a column, and no caller has to say where the entries
+//! are one.
 
 ghost use Rattle.std.specs.Prelude.{
   ◌≡◌,
@@ -176,6 +184,10 @@ pub fn evaluate_below<F: FieldNTT>(
         evaluate_sixteen(alloc, cells, cols, points, work)?;
         return Ok(());
     }
+    if lg == 5 {
+        evaluate_thirty_two(alloc, cells, cols, points, work)?;
+        return Ok(());
+    }
     let part = quarter_cells(count, cols, points);
     turn_rows_at::<F, true>(alloc, cells, part, points, work)?;
     let (front, behind) = cells.split_at_mut(2 * part);
@@ -284,6 +296,10 @@ pub fn interpolate_below<F: FieldNTT>(
         interpolate_sixteen(alloc, cells, cols, inverses, work)?;
         return Ok(());
     }
+    if lg == 5 {
+        interpolate_thirty_two(alloc, cells, cols, inverses, work)?;
+        return Ok(());
+    }
     let part = quarter_cells(count, cols, inverses);
     let (front, behind) = cells.split_at_mut(2 * part);
     let (a, b) = front.split_at_mut(part);
@@ -325,6 +341,12 @@ fn interpolate_sixteen<F: FieldNTT>(
     ensures refused { OnErr result (work.old.butterflies < work.new.butterflies) }
     ensures never { IsTrue F.NEVER_REFUSES → IsOk result }
 {
+    let done = F::turn_sixteen_rows(cells, cols, inverses.roots, inverses.place, false);
+    if done {
+        work.add_butterflies(cells.len());
+        work.add_butterflies(cells.len());
+        return Ok(());
+    }
     let part = 4 * cols;
     let (front, behind) = cells.split_at_mut(2 * part);
     let (a, b) = front.split_at_mut(part);
@@ -365,6 +387,12 @@ fn evaluate_sixteen<F: FieldNTT>(
     ensures refused { OnErr result (work.old.butterflies < work.new.butterflies) }
     ensures never { IsTrue F.NEVER_REFUSES → IsOk result }
 {
+    let done = F::turn_sixteen_rows(cells, cols, points.roots, points.place, true);
+    if done {
+        work.add_butterflies(cells.len());
+        work.add_butterflies(cells.len());
+        return Ok(());
+    }
     let part = 4 * cols;
     turn_rows_at::<F, true>(alloc, cells, part, points, work)?;
     let (front, behind) = cells.split_at_mut(2 * part);
@@ -381,5 +409,75 @@ fn evaluate_sixteen<F: FieldNTT>(
     turn_rows_at::<F, true>(alloc, c, cols, &Points { roots, place, lg }, work)?;
     let place = first + 3;
     turn_rows_at::<F, true>(alloc, d, cols, &Points { roots, place, lg }, work)?;
+    Ok(())
+}
+
+/// `interpolate_below` of thirty-two rows, by sixteen and sixteen. Without it, an odd number of
+/// levels would leave two rows, and one column would be combined cell by cell.
+fn interpolate_thirty_two<F: FieldNTT>(
+    alloc: Global,
+    cells: &mut [F],
+    cols: usize,
+    inverses: &Points<'_, F>,
+    work: &mut Work,
+) -> Mem<()>
+    requires points { ArePoints F.Ring F.MAX_LG_ROOT_ORDER (F.inverse (F.root 2)) inverses.now }
+    requires level { inverses.now.lg ≡ 5 }
+    requires some { 0 < cols }
+    requires inside { 16 * inverses.now.place + 16 ≤ length inverses.now.roots.now }
+    requires size { length cells.old ≡ 32 * cols }
+    requires room { work.old.butterflies + 80 * cols < 2 ^ 128 }
+    ensures values { OnOk result
+        (AreMultiplesAtPoints F.Ring inverses.now cols cells.old cells.new) }
+    ensures counted { OnOk result (work.new.butterflies ≡ work.old.butterflies + 80 * cols) }
+    ensures bounded { AddsAtMost (160 * cols) work.old work.new }
+    ensures refused { OnErr result (work.old.butterflies < work.new.butterflies) }
+    ensures never { IsTrue F.NEVER_REFUSES → IsOk result }
+{
+    let half = 16 * cols;
+    let (low, high) = cells.split_at_mut(half);
+    let roots = inverses.roots;
+    let first = 2 * inverses.place;
+    let lg = inverses.lg - 1;
+    let place = first;
+    interpolate_sixteen(alloc, low, cols, &Points { roots, place, lg }, work)?;
+    let place = first + 1;
+    interpolate_sixteen(alloc, high, cols, &Points { roots, place, lg }, work)?;
+    combine_rows_at::<F, false>(alloc, cells, half, inverses, work)?;
+    Ok(())
+}
+
+/// `evaluate_below` of thirty-two rows, by sixteen and sixteen. Without it, an odd number of
+/// levels would leave two rows, and one column would be combined cell by cell.
+fn evaluate_thirty_two<F: FieldNTT>(
+    alloc: Global,
+    cells: &mut [F],
+    cols: usize,
+    points: &Points<'_, F>,
+    work: &mut Work,
+) -> Mem<()>
+    requires points { ArePoints F.Ring F.MAX_LG_ROOT_ORDER (F.root 2) points.now }
+    requires level { points.now.lg ≡ 5 }
+    requires some { 0 < cols }
+    requires inside { 16 * points.now.place + 16 ≤ length points.now.roots.now }
+    requires size { length cells.old ≡ 32 * cols }
+    requires room { work.old.butterflies + 80 * cols < 2 ^ 128 }
+    ensures values { OnOk result
+        (AreValuesAtPoints F.Ring points.now cols cells.old cells.new) }
+    ensures counted { OnOk result (work.new.butterflies ≡ work.old.butterflies + 80 * cols) }
+    ensures bounded { AddsAtMost (160 * cols) work.old work.new }
+    ensures refused { OnErr result (work.old.butterflies < work.new.butterflies) }
+    ensures never { IsTrue F.NEVER_REFUSES → IsOk result }
+{
+    let half = 16 * cols;
+    combine_rows_at::<F, true>(alloc, cells, half, points, work)?;
+    let (low, high) = cells.split_at_mut(half);
+    let roots = points.roots;
+    let first = 2 * points.place;
+    let lg = points.lg - 1;
+    let place = first;
+    evaluate_sixteen(alloc, low, cols, &Points { roots, place, lg }, work)?;
+    let place = first + 1;
+    evaluate_sixteen(alloc, high, cols, &Points { roots, place, lg }, work)?;
     Ok(())
 }

@@ -1,7 +1,8 @@
 //! One polynomial by its coefficients, or by its values at the points of a domain.
 
-ghost use Rattle.std.specs.Prelude.{◌≡◌, ◌<◌, ◌^◌, ℕ, Some, IfOk, length, slice_get};
+ghost use Rattle.std.specs.Prelude.{◌≡◌, ◌<◌, ◌^◌, ℕ, List, Some, IfOk, length, slice_get};
 ghost use Rattle.math_theory.specs.Recovery.{count_true};
+ghost use Rattle.math_base.specs.Polynomials.{value_in_ring};
 ghost use Rattle.math_transforms.specs.DomainValues.{one_column, HasDomain, AreValuesOnDomain};
 ghost use Rattle.math_transforms.specs.MissingPoints.{IsVanishing};
 
@@ -11,7 +12,7 @@ use super::transform::{
 use super::vanishing::vanishing_values;
 use super::vanishing_points::VanishingPoints;
 use super::work::Work;
-use math_base::algebra::{FieldNTT, Mem};
+use math_base::algebra::{FieldNTT, Mem, Ring};
 use std::alloc::Global;
 use std::marker::Model;
 
@@ -153,4 +154,28 @@ impl<F: FieldNTT> EvaluationColumn<F> {
             coefficients: cells,
         })
     }
+}
+
+/// The value at x of the polynomial that has the values of the column at the points of its domain.
+pub fn value_at<F: FieldNTT>(alloc: Global, column: EvaluationColumn<F>, x: &F) -> Mem<F>
+    requires { HasDomain F.MAX_LG_ROOT_ORDER (length column) }
+    ensures { IfOk result (λ v. (a : List F) × (length a ≡ length column)
+        × AreValuesOnDomain F.Ring F.root (one_column a) (one_column column)
+        × F.same v (value_in_ring F.Ring a x.now)) }
+{
+    let polynomial = column.interpolate(alloc)?;
+    let out = horner(alloc, &polynomial.coefficients, x)?;
+    Ok(out)
+}
+
+/// The value at x, by Horner's rule.
+fn horner<F: Ring>(alloc: Global, coefficients: &[F], x: &F) -> Mem<F>
+    ensures { IfOk result (λ v. F.same v (value_in_ring F.Ring coefficients.now x.now)) }
+{
+    let mut out = F::zero(alloc)?;
+    for coefficient in coefficients.iter().rev() {
+        out.mul_assign(alloc, x)?;
+        out.add_assign(alloc, coefficient)?;
+    }
+    Ok(out)
 }

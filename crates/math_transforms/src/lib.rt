@@ -9,7 +9,6 @@
 pub mod below;
 pub mod cells;
 pub mod columns;
-pub mod lagrange;
 pub mod row_products;
 pub mod transform;
 pub mod trees;

@@ -8,7 +8,7 @@ use math_base::algebra::{Mem, Ring};
 use std::alloc::Global;
 
 /// Multiplies each cell by the factor.
-pub(super) fn multiply_row<F: Ring>(alloc: Global, cells: &mut [F], factor: &F) -> Mem<()>
+pub fn multiply_row<F: Ring>(alloc: Global, cells: &mut [F], factor: &F) -> Mem<()>
     ensures products { OnOk result ((k : ℕ) → k < length cells.old
         → F.same (slice_index_or cells.new k F.zero)
         (F.product (slice_index_or cells.old k F.zero) factor.now)) }

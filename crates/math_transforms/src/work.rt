@@ -1,4 +1,6 @@
 //! The work of counted calls.
+//!
+//! A counted call adds to what was there, so no call takes work away or sets it.
 
 ghost use Rattle.std.specs.Prelude.{◌≡◌, ◌+◌, ◌-◌, ◌<◌, ◌≤◌, ◌^◌, min};
 

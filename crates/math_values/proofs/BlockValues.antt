@@ -11,13 +11,13 @@ use Rattle.math_numbers.specs.Goldilocks.{P}
 use Rattle.math_theory.specs.Laws.{IsMonoid}
 use Rattle.math_theory.specs.Powers.{power}
 use Rattle.math_theory.proofs.polynomials.BuiltPolynomials.{value-joined}
-use Rattle.math_base.specs.declared.fields.goldilocks.F.{F}
-use Rattle.math_base.specs.Elements.{number, residue, same, sum, product, goldilocks}
-use Rattle.math_base.specs.ElementLaws.{equality, group, commutes, ring}
+use Rattle.math_fields.specs.declared.goldilocks.F.{F}
+use Rattle.math_fields.specs.Elements.{number, residue, same, sum, product, goldilocks}
+use Rattle.math_fields.specs.ElementLaws.{equality, group, commutes, ring}
 use Rattle.math_base.specs.Polynomials.{value_in_ring}
 use Rattle.math_base.proofs.PlaceByPlace.{each_place_next}
 use Rattle.math_base.proofs.SquareAndMultiply.{power-add}
-use Rattle.math_base.proofs.ElementNumbers.{same_number, residue-number}
+use Rattle.math_fields.proofs.ElementNumbers.{same_number, residue-number}
 use Rattle.math_values.specs.Values.{ArePowersOf}
 
 abbrev value_of : List F → F → F

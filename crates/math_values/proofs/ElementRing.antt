@@ -5,10 +5,10 @@ use Rattle.std.proofs.lemmas.List.Elements.{same_from_all_zip}
 use mathlib.Core.HLevel.{Discrete, hedberg}
 use Rattle.std.proofs.lemmas.Bool.{cases_eq}
 use Rattle.math_theory.specs.Rings.{CommutativeRing}
-use Rattle.math_base.specs.declared.fields.goldilocks.F.{F}
-use Rattle.math_base.specs.ElementLaws.{group, commutes, ring}
-use Rattle.math_base.specs.Elements.{number, residue, same, sum, negative, product}
-use Rattle.math_base.proofs.ElementNumbers.{same_number}
+use Rattle.math_fields.specs.declared.goldilocks.F.{F}
+use Rattle.math_fields.specs.ElementLaws.{group, commutes, ring}
+use Rattle.math_fields.specs.Elements.{number, residue, same, sum, negative, product}
+use Rattle.math_fields.proofs.ElementNumbers.{same_number}
 
 -- two elements are one or not
 pub elements_discrete : Discrete F

@@ -3,9 +3,9 @@ use Rattle.std.proofs.Common.{List, ap}
 use Rattle.math_theory.specs.Coefficients.{HaveSameCoefficients}
 use Rattle.math_theory.specs.OverRing as OverRing
 use Rattle.math_theory.proofs.polynomials.Coefficients.{value-HaveSameCoefficients}
-use Rattle.math_base.specs.declared.fields.goldilocks.F.{F}
-use Rattle.math_base.specs.Elements.{number, residue, same}
-use Rattle.math_base.proofs.ElementNumbers.{same_number}
+use Rattle.math_fields.specs.declared.goldilocks.F.{F}
+use Rattle.math_fields.specs.Elements.{number, residue, same}
+use Rattle.math_fields.proofs.ElementNumbers.{same_number}
 use Rattle.math_values.proofs.ElementRing.{elements}
 
 -- polynomials with the same coefficients have the same value at each point

@@ -3,9 +3,9 @@ use Rattle.std.proofs.Common.{◌≡◌, ◌∙◌, ℕ, suc, ◌+◌, ◌*◌, 
 use Rattle.std.proofs.lemmas.List.{drop_more}
 use Rattle.math_theory.specs.Sums.{weighted_sum}
 use Rattle.math_theory.specs.Values.{value_from}
-use Rattle.math_base.specs.declared.fields.goldilocks.F.{F}
-use Rattle.math_base.specs.Elements.{number, residue, sum, product}
-use Rattle.math_base.proofs.ElementNumbers.{residue-number}
+use Rattle.math_fields.specs.declared.goldilocks.F.{F}
+use Rattle.math_fields.specs.Elements.{number, residue, sum, product}
+use Rattle.math_fields.proofs.ElementNumbers.{residue-number}
 use Rattle.math_values.specs.Products.{products}
 use Rattle.math_values.proofs.BlockValues.{power_of, residue-joined}
 

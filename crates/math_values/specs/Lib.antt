@@ -1,3 +1,4 @@
 pub mod Values
 pub mod Products
 pub mod Tables
+pub mod ColumnSums

@@ -1,5 +1,5 @@
 -- A table of powers.
-use Rattle.math_base.specs.declared.fields.goldilocks.F.{F}
+use Rattle.math_fields.specs.declared.goldilocks.F.{F}
 use Rattle.math_values.specs.declared.values.PowerTable.{PowerTable}
 
 -- the point of which a table has the first powers

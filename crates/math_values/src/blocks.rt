@@ -1,14 +1,17 @@
 //! The value of a block of coefficients.
+//!
+//! Words of P or more are counted only if the caller asks for it: the count costs a third of the
+//! loop, and elements are never so large.
 
 ghost use Rattle.std.specs.Prelude.{◌≡◌, ◌↔◌, ◌<◌, ◌≤◌, IsTrue, All, length, map};
 ghost use Rattle.math_numbers.specs.Goldilocks.{P};
-ghost use Rattle.math_base.specs.Elements.{residue, goldilocks};
+ghost use Rattle.math_fields.specs.Elements.{residue, goldilocks};
 ghost use Rattle.math_base.specs.Polynomials.{value_in_ring};
 ghost use Rattle.math_values.specs.Values.{ArePowersOf};
 
 use crate::products::products;
 use crate::words::Word;
-use math_base::fields::goldilocks::F;
+use math_fields::goldilocks::F;
 
 /// The value at x of the polynomial with these coefficients, with a table of powers of x, and,
 /// where they are `COUNTED`, how many of the words are P or more.

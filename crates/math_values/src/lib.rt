@@ -1,8 +1,9 @@
 //! Values of polynomials over the Goldilocks field at one point, from words or from elements, sums
-//! of products of elements, and room for strips of columns.
+//! of products of elements, also in several columns at once, and room for strips of columns.
 #![tactic(auto)]
 
 mod blocks;
+pub mod columns;
 mod products;
 pub mod strips;
 pub mod sums;

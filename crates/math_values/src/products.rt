@@ -7,12 +7,12 @@
 
 ghost use Rattle.std.specs.Prelude.{◌≡◌, ◌↔◌, ◌<◌, ◌≤◌, IsTrue, All, length, map};
 ghost use Rattle.math_numbers.specs.Goldilocks.{P};
-ghost use Rattle.math_base.specs.Elements.{number};
+ghost use Rattle.math_fields.specs.Elements.{number};
 ghost use Rattle.math_values.specs.Products.{total, products};
 
 use crate::wide::WideSum;
 use crate::words::Word;
-use math_base::fields::goldilocks::{F, MODULUS};
+use math_fields::goldilocks::{F, MODULUS};
 
 /// The sum of each word times its weight, and, where they are `COUNTED`, how many of the words are
 /// P or more.

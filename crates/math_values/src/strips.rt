@@ -6,7 +6,7 @@
 ghost use Rattle.std.specs.Prelude.{◌≡◌, ◌*◌, ◌<◌, ◌≤◌, IfOk, length};
 
 use math_base::algebra::Mem;
-use math_base::fields::goldilocks::F;
+use math_fields::goldilocks::F;
 use std::alloc::{AllocError, Global};
 
 /// How many columns a strip has at least, where there are so many: a line of a cache has eight

@@ -4,11 +4,11 @@
 //! the sum is reduced modulo P, once for all products.
 
 ghost use Rattle.std.specs.Prelude.{◌≡◌, ◌≤◌, length};
-ghost use Rattle.math_base.specs.Elements.{residue, sum, product};
+ghost use Rattle.math_fields.specs.Elements.{residue, sum, product};
 ghost use Rattle.math_theory.specs.Sums.{weighted_sum};
 
 use crate::products::paired_products;
-use math_base::fields::goldilocks::F;
+use math_fields::goldilocks::F;
 
 /// Returns the sum of each element times its weight: the first element times the first weight, and
 /// so on.

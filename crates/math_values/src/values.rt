@@ -6,18 +6,20 @@
 //! only the sum is reduced modulo P, once a block. The value of each block is multiplied by the
 //! power of the point at which the block begins, and added to those before it: the words are gone
 //! over once, block after block.
+//!
+//! A table keeps its point, so that contracts can name it, and serves any number of lists.
 
 ghost use Rattle.std.specs.Prelude.{◌≡◌, ◌↔◌, ◌<◌, IfOk, IfSome, IsTrue, None, All, length, map};
 ghost use Rattle.math_numbers.specs.Goldilocks.{P};
 ghost use Rattle.math_theory.specs.Powers.{power};
-ghost use Rattle.math_base.specs.Elements.{residue, product, goldilocks};
+ghost use Rattle.math_fields.specs.Elements.{residue, product, goldilocks};
 ghost use Rattle.math_base.specs.Polynomials.{value_in_ring};
 ghost use Rattle.math_values.specs.Values.{elements, AreElements, ArePowersOf};
 
 use crate::blocks::block_value;
 use crate::words::Word;
 use math_base::algebra::Mem;
-use math_base::fields::goldilocks::F;
+use math_fields::goldilocks::F;
 use std::alloc::Global;
 
 /// The greatest number of powers in a table.

@@ -1,10 +1,10 @@
 //! Sums of products of two words, which may pass 128 bits.
 
 ghost use Rattle.std.specs.Prelude.{◌≡◌, ◌+◌, ◌*◌, ◌<◌, ◌≤◌, ◌^◌};
-ghost use Rattle.math_base.specs.Elements.{residue};
+ghost use Rattle.math_fields.specs.Elements.{residue};
 ghost use Rattle.math_values.specs.Products.{total};
 
-use math_base::fields::goldilocks::F;
+use math_fields::goldilocks::F;
 
 /// 2^32.
 const HALF_WORD: u64 = 0x1_0000_0000;

@@ -2,7 +2,7 @@
 
 ghost use Rattle.std.specs.Prelude.{◌≡◌, ℕ};
 
-use math_base::fields::goldilocks::F;
+use math_fields::goldilocks::F;
 
 /// A word, the element whose number it is, or the eight bytes that it is, the lowest first.
 pub trait Word: Copy {
@@ -22,7 +22,7 @@ impl Word for u64 {
 }
 
 impl Word for F {
-    ghost use Rattle.math_base.specs.Elements.{number};
+    ghost use Rattle.math_fields.specs.Elements.{number};
 
     ghost word = { number };
 

@@ -4,6 +4,9 @@
 //! partial file. It takes no place of another file, unless regular files may be replaced, and gives
 //! no right beyond those that it may give in the end. Where it is refused, the partial file is
 //! removed. A run holds a lock on its first partial file as long as it has one.
+//!
+//! It knows no shard, and stands on no crate of the library. So its faults are few, and a function
+//! that may be refused is cheaper to prove the fewer these are.
 #![tactic(auto)]
 
 pub mod fault;

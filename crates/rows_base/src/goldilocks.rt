@@ -5,13 +5,13 @@
 ghost use Rattle.std.specs.Prelude.{◌≡◌, ◌<◌, ◌*◌, ◌^◌, min, length, IfOk};
 ghost use Rattle.std.specs.Iterator.{IsFinite};
 ghost use Rattle.math_numbers.specs.Bits.{piece_count};
-ghost use Rattle.math_base.specs.Packing.{elements_of, words_of};
+ghost use Rattle.math_fields.specs.Packing.{elements_of, words_of};
 
 use crate::answer::{put, put_all, put_bytes};
 use crate::fault::Fault;
 use crate::words::{element, elements, number, numbers, parted, short, two_numbers};
 use math_base::algebra::Mem;
-use math_base::fields::goldilocks::{ElementsToWords, F, WordsToElements};
+use math_fields::goldilocks::{ElementsToWords, F, WordsToElements};
 use math_samples::elements::Element;
 use std::alloc::Global;
 use std::cell::Cell;
@@ -104,14 +104,14 @@ fn put_packed_count(alloc: Global, words: &[u64], text: &mut String) -> Mem<()> 
 }
 
 /// The words that the elements hold which these words are packed into.
-fn there_and_back(alloc: Global, words: &[u64]) -> Mem<Vec<u64>>
+fn repacked(alloc: Global, words: &[u64]) -> Mem<Vec<u64>>
     ensures { IfOk result (λ v. v.items ≡ words_of (elements_of words.now)) }
 {
     F::stream_to_u64s(F::stream_from_u64s(words.iter().copied())).collect(alloc)
 }
 
 /// The words of any iterator, there and back.
-fn all_there_and_back<I: Iterator<Item = u64> + Drop>(alloc: Global, words: I) -> Mem<Vec<u64>>
+fn repacked_items<I: Iterator<Item = u64> + Drop>(alloc: Global, words: I) -> Mem<Vec<u64>>
     requires can { I.can_next words }
     requires ends { IsFinite (I.remaining words) }
 {
@@ -139,8 +139,8 @@ fn pair_count(words: &[u64], elements: &[F]) -> usize
 /// Adds the words, there and back, of the list or of its iterator.
 fn put_back(alloc: Global, call: &str, words: &[u64], text: &mut String) -> Mem<()> {
     let back = match call {
-        "pack_unpack" => there_and_back(alloc, words),
-        _ => all_there_and_back(alloc, words.iter().copied()),
+        "pack_unpack" => repacked(alloc, words),
+        _ => repacked_items(alloc, words.iter().copied()),
     };
     put_all(text, &back?)
 }

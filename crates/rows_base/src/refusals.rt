@@ -5,6 +5,11 @@
 //! the begin and the end of each. It is told by asking for a block of an impossible size, and it
 //! answers a question by whether it gives a block. Without it each such request is refused, and
 //! nothing else is.
+//!
+//! A receiver and arguments are compared by hashes of their `Debug` texts, before and after a
+//! refused call. A text shows what is stored, which `equals` does not, and a hash takes no memory:
+//! so the mark of a call is a plain number. What a row reads and compares is no part of a call, and
+//! no count is threaded through all functions.
 
 use std::alloc::Global;
 use std::fmt;

@@ -17,7 +17,7 @@ use std::alloc::Global;
 pub fn run(alloc: Global, call: &str, arguments: &str, text: &mut String) -> Result<bool, Fault> {
     let done = match call {
         "bitmap" => put_bitmap(alloc, arguments, text),
-        "full_bitmap" => put_full(alloc, arguments, text),
+        "full_bitmap" => put_count_of_full_bitmap(alloc, arguments, text),
         "bitmap_equals" => same(alloc, arguments, text),
         "bitmap_too_large" => put_too_large(alloc, arguments, text),
         _ => return Ok(false),
@@ -26,7 +26,11 @@ pub fn run(alloc: Global, call: &str, arguments: &str, text: &mut String) -> Res
 }
 
 /// `full_bitmap LG`: how many points don't vanish, which all do not.
-fn put_full(alloc: Global, arguments: &str, text: &mut String) -> Result<(), Fault> {
+fn put_count_of_full_bitmap(
+    alloc: Global,
+    arguments: &str,
+    text: &mut String,
+) -> Result<(), Fault> {
     let points = full(alloc, arguments)?;
     put(text, points.count_non_vanishing()).map_err(Fault::Memory)
 }

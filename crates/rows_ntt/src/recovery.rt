@@ -6,7 +6,7 @@ use crate::refusing::recover_below;
 use crate::transforms::has_domain;
 use crate::vectors::{Values, filled};
 use math_base::algebra::{Additive, Mem, Object, Ring};
-use math_base::fields::goldilocks::MODULUS;
+use math_fields::goldilocks::MODULUS;
 use math_ntt::ntt::{PolynomialVector, Work};
 use math_samples::elements::Element;
 use rows_base::answer::{Answer, put};
@@ -245,7 +245,12 @@ fn recover_ones<R: Element>(
 }
 
 /// Adds `within` where the work is at most so much, else how much it is.
-fn put_within(work: &Work, butterflies: u64, root_products: u64, text: &mut String) -> Mem<()> {
+fn put_work_unless_within(
+    work: &Work,
+    butterflies: u64,
+    root_products: u64,
+    text: &mut String,
+) -> Mem<()> {
     if work.butterflies() <= u128::from(butterflies)
         && work.root_products() <= u128::from(root_products)
     {
@@ -266,7 +271,9 @@ fn recover_within<R: Element>(
     let (butterflies, root_products) = two_numbers(bounds)?;
     let (polynomials, work) = counted(alloc, ones::<R>(alloc, lg, rule)?)?;
     put_rows(alloc, &polynomials, answer)?;
-    put_within(&work, butterflies, root_products, &mut answer.text).map_err(Fault::Memory)
+    put_work_unless_within(&work, butterflies, root_products, &mut answer.text).map_err(
+        Fault::Memory,
+    )
 }
 
 /// Whether the first row of coefficients is one in each column.
@@ -351,7 +358,7 @@ fn next_elements<R: Element>(alloc: Global, state: &mut u64) -> Result<Vec<R>, F
 }
 
 /// One step of the hash FNV-1a, for the eight bytes of a number, lowest first.
-fn hashed(hash: u64, n: u64) -> u64 {
+fn fnv1a_step(hash: u64, n: u64) -> u64 {
     let mut out = hash;
     for byte in n.to_le_bytes() {
         out = (out ^ u64::from(byte)).wrapping_mul(0x0000_0100_0000_01b3);
@@ -360,11 +367,11 @@ fn hashed(hash: u64, n: u64) -> u64 {
 }
 
 /// The hash FNV-1a of all coefficients.
-fn hash<R: Element>(polynomials: &PolynomialVector<R>) -> u64 {
+fn fnv1a_hash<R: Element>(polynomials: &PolynomialVector<R>) -> u64 {
     let mut hash = 0xcbf2_9ce4_8422_2325;
     for row in polynomials.coefficients_up_to(usize::MAX) {
         for cell in row {
-            hash = hashed(hash, cell.parts().0);
+            hash = fnv1a_step(hash, cell.parts().0);
         }
     }
     hash
@@ -403,5 +410,5 @@ fn recover_words<R: Element>(
 ) -> Result<(), Fault> {
     let (lg, rule) = lg_and_rule(arguments)?;
     let polynomials = recovered(alloc, words::<R>(alloc, lg, rule)?)?;
-    write!(answer.text, " fnv {:016x}", hash(&polynomials)).map_err(Fault::Memory)
+    write!(answer.text, " fnv {:016x}", fnv1a_hash(&polynomials)).map_err(Fault::Memory)
 }

@@ -4,12 +4,12 @@ ghost use Rattle.std.specs.Prelude.{◌≡◌, ◌≤◌, ◌<◌, ◌*◌, ◌^
 
 use crate::polynomials::polynomial;
 use math_base::algebra::Mem;
-use math_base::fields::goldilocks::F;
 use math_codec::codec::{
     EncodeSize, Error, FixedSize, LengthRange, MaxEncodeSize, Read, Write, decode, len_size,
     list_size, read_len, write_len, write_list,
 };
 use math_codec::laws::written_is_read;
+use math_fields::goldilocks::F;
 use math_ntt::ntt::Matrix;
 use math_poly::poly::Poly;
 use rows_base::answer::{put, put_all, put_bytes, put_rest};

@@ -10,8 +10,8 @@ ghost use Rattle.std.specs.Prelude.{◌<◌, ◌≡◌, IfOk};
 
 use crate::encodings::{read_from, write_matrix, write_to};
 use math_base::algebra::Mem;
-use math_base::fields::goldilocks::F;
 use math_codec::codec::{Error, LengthRange, Read};
+use math_fields::goldilocks::F;
 use math_ntt::ntt::Matrix;
 use math_poly::poly::Poly;
 use math_shards::shards::Shard;
@@ -268,13 +268,13 @@ fn changed(alloc: Global, bytes: &[u8], state: &mut u64) -> Mem<Vec<u8>> {
         1 => (&bytes[i..i + 1], i),
         2 => (&byte, i),
         3 => (&[], n),
-        _ => return joined(alloc, bytes, next_encoding(state), &[]),
+        _ => return concatenated(alloc, bytes, next_encoding(state), &[]),
     };
-    joined(alloc, &bytes[..i], middle, &bytes[rest..])
+    concatenated(alloc, &bytes[..i], middle, &bytes[rest..])
 }
 
 /// The bytes of all three.
-fn joined(alloc: Global, a: &[u8], b: &[u8], c: &[u8]) -> Mem<Vec<u8>> {
+fn concatenated(alloc: Global, a: &[u8], b: &[u8], c: &[u8]) -> Mem<Vec<u8>> {
     let mut out = Vec::from_slice(alloc, a)?;
     out.extend_from_slice(b)?;
     out.extend_from_slice(c)?;

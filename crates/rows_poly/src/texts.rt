@@ -1,7 +1,7 @@
 //! Texts for debugging, of values over the Goldilocks field.
 
 use crate::polynomials::polynomial;
-use math_base::fields::goldilocks::F;
+use math_fields::goldilocks::F;
 use rows_base::answer::put_debug;
 use rows_base::fault::Fault;
 use rows_base::words::{element, number, parted};

@@ -1,8 +1,8 @@
 //! Bytes as elements, and shares of these as bytes and as lines.
 
 use math_base::algebra::Mem;
-use math_base::fields::goldilocks::F;
 use math_codec::codec::{self, Read, Write};
+use math_fields::goldilocks::F;
 use rows_base::answer::{put, put_bytes, put_rest};
 use rows_base::fault::Fault;
 use rows_base::goldilocks::put_element;

@@ -2,8 +2,8 @@
 #![tactic(auto)]
 
 use math_base::algebra::Mem;
-use math_base::fields::goldilocks::F;
 use math_codec::codec::{self, EncodeSize, Read, Write};
+use math_fields::goldilocks::F;
 use math_samples::elements::Element;
 use math_shards::shards::{Error, Joined, Shard, join, join_corrected, split};
 use rows_base::answer::{put, put_all, put_bytes, put_rest};

@@ -4,9 +4,9 @@ use Rattle.std.specs.List.{Contains, range_with_len}
 use Rattle.std.proofs.lemmas.List.{length-map}
 use Rattle.std.proofs.lemmas.List.FromFn.{get_or-range_with_len, length-range_with_len}
 use Rattle.math_numbers.specs.Goldilocks.{P}
-use Rattle.math_base.specs.declared.fields.goldilocks.F.{F}
-use Rattle.math_base.specs.Elements.{number, residue, same, goldilocks}
-use Rattle.math_base.proofs.ElementNumbers.{residue-number}
+use Rattle.math_fields.specs.declared.goldilocks.F.{F}
+use Rattle.math_fields.specs.Elements.{number, residue, same, goldilocks}
+use Rattle.math_fields.proofs.ElementNumbers.{residue-number}
 use Rattle.shared_secret.specs.Explanations.{AreAllElements}
 use Rattle.shared_secret.proofs.ListsOfElements.{contains-map, pairs-map}
 

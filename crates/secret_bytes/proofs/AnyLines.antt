@@ -7,7 +7,7 @@ use Rattle.std.proofs.lemmas.List.Elements.{All-contains, All-cons, All-head, Al
 use Rattle.rand_core.specs.Stream.{Stream}
 use Rattle.math_numbers.specs.Goldilocks.{P}
 use Rattle.math_codec.specs.Lists.{AdmitsList}
-use Rattle.math_base.specs.Elements.{number}
+use Rattle.math_fields.specs.Elements.{number}
 use Rattle.secret_bytes.specs.declared.share.SecretShare.{SecretShare}
 use Rattle.secret_bytes.specs.Refusals as line
 use Rattle.secret_bytes.specs.SecretShares.{AdmitsShare, AreSameShares, at_most}

@@ -9,11 +9,11 @@ use Rattle.rand_core.specs.Stream.{Stream}
 use Rattle.math_theory.specs.ModuleLaws.{ring_is_module}
 use Rattle.math_theory.proofs.polynomials.Horner.{value_over-at_zero}
 use Rattle.math_theory.specs.Interpolation.{AreApart}
-use Rattle.math_base.specs.declared.fields.goldilocks.F.{F}
-use Rattle.math_base.specs.ElementLaws.{commutes, equality, group, ring}
-use Rattle.math_base.specs.Elements.{number, residue, same, goldilocks}
+use Rattle.math_fields.specs.declared.goldilocks.F.{F}
+use Rattle.math_fields.specs.ElementLaws.{commutes, equality, group, ring}
+use Rattle.math_fields.specs.Elements.{number, residue, same, goldilocks}
 use Rattle.math_base.specs.Polynomials.{value_in_ring}
-use Rattle.math_base.proofs.ElementNumbers.{same_number}
+use Rattle.math_fields.proofs.ElementNumbers.{same_number}
 use Rattle.secret_bytes.specs.declared.share.SecretShare.{SecretShare}
 use Rattle.secret_bytes.specs.SecretShares.{AreSameShares}
 use Rattle.shared_secret.specs.declared.shares.Share.{Share}

@@ -15,11 +15,11 @@ use Rattle.math_theory.proofs.classes.RingUpToSame.{combine_same, ring_same}
 use Rattle.math_theory.proofs.polynomials.Coefficients.{length-difference}
 use Rattle.math_theory.proofs.polynomials.Values.{value-difference}
 use Rattle.math_theory.proofs.rings.Normal.{◌⊕◌, ◌⊖◌, 𝟙, v0, v1, v2}
-use Rattle.math_base.specs.declared.fields.goldilocks.F.{F}
-use Rattle.math_base.specs.ElementLaws.{commutes, equality, group, ring}
-use Rattle.math_base.specs.Elements.{negative, residue, same, sum, goldilocks}
+use Rattle.math_fields.specs.declared.goldilocks.F.{F}
+use Rattle.math_fields.specs.ElementLaws.{commutes, equality, group, ring}
+use Rattle.math_fields.specs.Elements.{negative, residue, same, sum, goldilocks}
 use Rattle.math_base.specs.Polynomials.{value_in_ring}
-use Rattle.math_base.proofs.ElementNumbers.{same_number}
+use Rattle.math_fields.proofs.ElementNumbers.{same_number}
 use Rattle.math_decoding.specs.Polynomials.{difference}
 use Rattle.shared_secret.specs.declared.shares.Share.{Share}
 use Rattle.shared_secret.specs.CorrectedShares.{AreSharesWithinRadius}

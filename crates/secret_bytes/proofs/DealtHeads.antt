@@ -3,7 +3,7 @@ use Rattle.std.proofs.Common.{◌≡◌, ◌∙◌, ℕ, ◌+◌, List, [], ◌�
 use Rattle.std.specs.List.{All}
 use Rattle.std.specs.Option.{unwrap_or}
 use Rattle.std.proofs.lemmas.List.Elements.{All-head, All-tail}
-use Rattle.math_base.specs.declared.fields.goldilocks.F.{F}
+use Rattle.math_fields.specs.declared.goldilocks.F.{F}
 use Rattle.secret_bytes.specs.Packings.{number_count}
 use Rattle.secret_bytes.specs.declared.share.SecretShare.{SecretShare}
 use Rattle.secret_bytes.specs.DealingLaws.{SharesDifferInValuesAlone, head_of}

@@ -5,10 +5,10 @@ use Rattle.std.proofs.lemmas.List.{append-nil, drop_all, map-id, take_all}
 use Rattle.std.proofs.lemmas.List.Elements.{All-cons, All-head, All-nil, All-tail}
 use Rattle.std.proofs.lemmas.List.FromFn.{length-range_with_len, get_or-range_with_len, map-range_with_len_more}
 use Rattle.rand_core.specs.Stream.{Stream}
-use Rattle.math_base.specs.declared.fields.goldilocks.F.{F}
-use Rattle.math_base.specs.Elements.{number, residue, same, sample_of, goldilocks}
+use Rattle.math_fields.specs.declared.goldilocks.F.{F}
+use Rattle.math_fields.specs.Elements.{number, residue, same, sample_of, goldilocks}
 use Rattle.math_base.specs.Polynomials.{value_in_ring}
-use Rattle.math_base.proofs.ElementNumbers.{same_number}
+use Rattle.math_fields.proofs.ElementNumbers.{same_number}
 use Rattle.math_values.specs.Tables as Tables
 use Rattle.shared_secret.specs.declared.shares.Share.{Share}
 use Rattle.shared_secret.specs.Shares.{AreDealt, AreSharesOf, IsSampled, point}

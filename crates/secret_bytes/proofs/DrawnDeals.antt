@@ -10,13 +10,13 @@ use Rattle.std.proofs.lemmas.List.Elements.{All-contains, All-contains_itself, A
 use Rattle.std.proofs.lemmas.Option.{get_or_from_slice_get, none-some, same_Some}
 use Rattle.rand_core.specs.Stream.{Stream, next_u64}
 use Rattle.math_numbers.specs.Goldilocks.{P}
-use Rattle.math_base.specs.declared.fields.goldilocks.F.{F}
-use Rattle.math_base.specs.Elements.{number, residue, same, sample_of, goldilocks}
+use Rattle.math_fields.specs.declared.goldilocks.F.{F}
+use Rattle.math_fields.specs.Elements.{number, residue, same, sample_of, goldilocks}
 use Rattle.math_base.specs.Polynomials.{value_in_ring}
 use Rattle.math_base.specs.Samples.{before_samples, first_below, samples}
-use Rattle.math_base.proofs.ElementNumbers.{residue-number, same_number}
+use Rattle.math_fields.proofs.ElementNumbers.{residue-number, same_number}
 use Rattle.math_base.proofs.SampleLists.{rest_of, samples_behind_first}
-use Rattle.math_base.proofs.SampleSteps.{word_found}
+use Rattle.math_fields.proofs.SampleSteps.{word_found}
 use Rattle.shared_secret.specs.declared.shares.Share.{Share}
 use Rattle.shared_secret.specs.Explanations.{Explains}
 use Rattle.shared_secret.specs.Shares.{AreSharesOf, point}

@@ -6,8 +6,8 @@ use Rattle.std.proofs.Math.Nat.{mul-le-mul_right, zero-mul}
 use Rattle.std.proofs.lemmas.List.{length-take-le}
 use Rattle.std.proofs.lemmas.Option.{none-some, same_Some}
 use Rattle.rand_core.specs.Stream.{Stream}
-use Rattle.math_base.specs.declared.fields.goldilocks.F.{F}
-use Rattle.math_base.specs.Elements.{sample_of}
+use Rattle.math_fields.specs.declared.goldilocks.F.{F}
+use Rattle.math_fields.specs.Elements.{sample_of}
 use Rattle.math_base.specs.Samples.{before_samples, samples}
 use Rattle.math_base.proofs.SampleLists.{no_samples, rest_of, sample_behind, samples_end}
 use Rattle.secret_bytes.specs.Deals.{AreSampled, IsDueSampling}

@@ -3,7 +3,7 @@ use Rattle.std.proofs.Common.{◌≡◌, ◌≢◌, ◌∙◌, ℕ, zero, suc, �
 use Rattle.std.specs.List.{All, AllPairs}
 use Rattle.std.proofs.lemmas.List.{get_or-map, length-map}
 use Rattle.std.proofs.lemmas.List.Elements.{All-head, All-tail}
-use Rattle.math_base.proofs.ElementNumbers.{same_number}
+use Rattle.math_fields.proofs.ElementNumbers.{same_number}
 use Rattle.math_numbers.specs.Goldilocks.{P}
 use Rattle.math_theory.specs.Interpolation.{AreApart}
 use Rattle.math_theory.specs.Powers.{power-suc, power-zero}
@@ -12,10 +12,10 @@ use Rattle.math_theory.proofs.classes.ClassesOfLists.{value-class}
 use Rattle.math_theory.proofs.classes.ClassesOfProducts.{HaveSameCoefficients-classes}
 use Rattle.math_theory.proofs.decoding.CarriedDecoding.{decoding_once-same}
 use Rattle.math_theory.proofs.polynomials.Coefficients.{value-HaveSameCoefficients}
-use Rattle.math_base.specs.declared.fields.goldilocks.F.{F}
-use Rattle.math_base.specs.ElementLaws.{commutes, equality, group, ring}
-use Rattle.math_base.specs.ElementRootLaws.{field}
-use Rattle.math_base.specs.Elements.{number, residue, same, sum, goldilocks}
+use Rattle.math_fields.specs.declared.goldilocks.F.{F}
+use Rattle.math_fields.specs.ElementLaws.{commutes, equality, group, ring}
+use Rattle.math_fields.specs.ElementRootLaws.{field}
+use Rattle.math_fields.specs.Elements.{number, residue, same, sum, goldilocks}
 use Rattle.math_base.specs.Polynomials.{value_in_ring}
 use Rattle.math_decoding.specs.Polynomials.{AreSame}
 use Rattle.secret_bytes.specs.declared.share.SecretShare.{SecretShare}

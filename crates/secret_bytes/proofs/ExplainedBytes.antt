@@ -4,11 +4,11 @@ use Rattle.std.specs.List.{All, AllPairs, AllZip, Contains}
 use Rattle.std.proofs.lemmas.List.{ext_get_or, length-map}
 use Rattle.std.proofs.lemmas.List.Elements.{All-cons, All-map, All-nil, same_from_all_zip}
 use Rattle.math_numbers.specs.Goldilocks.{P}
-use Rattle.math_base.specs.declared.fields.goldilocks.F.{F}
-use Rattle.math_base.specs.ElementLaws.{commutes, equality, group, ring}
-use Rattle.math_base.specs.ElementRootLaws.{field}
-use Rattle.math_base.specs.Elements.{number, residue, same, goldilocks}
-use Rattle.math_base.proofs.ElementNumbers.{same_number}
+use Rattle.math_fields.specs.declared.goldilocks.F.{F}
+use Rattle.math_fields.specs.ElementLaws.{commutes, equality, group, ring}
+use Rattle.math_fields.specs.ElementRootLaws.{field}
+use Rattle.math_fields.specs.Elements.{number, residue, same, goldilocks}
+use Rattle.math_fields.proofs.ElementNumbers.{same_number}
 use Rattle.secret_bytes.specs.declared.share.SecretShare.{SecretShare}
 use Rattle.shared_secret.specs.Explanations.{AreAllElements, AreAllExplanations, Explains}
 use Rattle.shared_secret.specs.Shares.{AreAtDistinctPoints}

@@ -1,10 +1,10 @@
 -- Every list of elements explains the values of t - 1 shares, element by element.
 use Rattle.std.proofs.Common.{◌≡◌, ℕ, zero, suc, ◌+◌, ◌<◌, List, [], ◌∷◌, length, get_or, refl, ap, subst, arith}
 use Rattle.std.proofs.lemmas.List.{length-map}
-use Rattle.math_base.specs.declared.fields.goldilocks.F.{F}
-use Rattle.math_base.specs.ElementLaws.{commutes, equality, group, ring}
-use Rattle.math_base.specs.ElementRootLaws.{field}
-use Rattle.math_base.specs.Elements.{residue, goldilocks}
+use Rattle.math_fields.specs.declared.goldilocks.F.{F}
+use Rattle.math_fields.specs.ElementLaws.{commutes, equality, group, ring}
+use Rattle.math_fields.specs.ElementRootLaws.{field}
+use Rattle.math_fields.specs.Elements.{residue, goldilocks}
 use Rattle.secret_bytes.specs.declared.share.SecretShare.{SecretShare}
 use Rattle.shared_secret.specs.Explanations.{ExplainsAlone}
 use Rattle.shared_secret.specs.Shares.{AreAtDistinctPoints}

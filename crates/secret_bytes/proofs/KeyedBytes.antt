@@ -2,8 +2,8 @@
 use Rattle.std.proofs.Common.{◌≡◌, ◌∙◌, ℕ, List, [], ◌∷◌, ◌++◌, map, Result, Ok, Err, Option, Some, None, IfOk, sym, ap, append_assoc}
 use Rattle.std.specs.Option.{IfNone, IsSomeAnd}
 use Rattle.std.proofs.lemmas.List.{same_from_push}
-use Rattle.math_base.specs.declared.fields.goldilocks.F.{F}
-use Rattle.math_base.specs.Elements.{number}
+use Rattle.math_fields.specs.declared.goldilocks.F.{F}
+use Rattle.math_fields.specs.Elements.{number}
 use Rattle.secret_bytes.proofs.UnpackedBytes.{packed-once}
 use Rattle.secret_bytes.specs.Keyed.{AreKeyed}
 

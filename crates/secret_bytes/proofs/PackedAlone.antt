@@ -3,10 +3,10 @@ use Rattle.std.proofs.Common.{◌≡◌, ◌∙◌, ℕ, zero, suc, ◌+◌, ◌
 use Rattle.std.specs.List.{All}
 use Rattle.std.proofs.lemmas.List.{length-append, length-take}
 use Rattle.std.proofs.lemmas.List.Elements.{All-cons, All-drop, All-nil, All-take}
-use Rattle.math_base.specs.declared.fields.goldilocks.F.{F}
-use Rattle.math_base.specs.Elements.{number, residue}
-use Rattle.math_base.proofs.ElementNumbers.{same_number}
-use Rattle.math_base.proofs.Packing.{map-number-residue}
+use Rattle.math_fields.specs.declared.goldilocks.F.{F}
+use Rattle.math_fields.specs.Elements.{number, residue}
+use Rattle.math_fields.proofs.ElementNumbers.{same_number}
+use Rattle.math_fields.proofs.Packing.{map-number-residue}
 use Rattle.secret_bytes.specs.KeyChecks.{check_at}
 use Rattle.secret_bytes.specs.Packings.{AreBytes, ArePackedBytes, number_count, number_of_bytes, packed, sevens}
 use Rattle.secret_bytes.proofs.PackedBytes.{number-below}

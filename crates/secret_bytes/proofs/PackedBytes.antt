@@ -5,8 +5,8 @@ use Rattle.std.proofs.lemmas.List.{length-append, length-drop, map-append, take_
 use Rattle.std.proofs.Math.Seq.{take-append_seam}
 use Rattle.std.proofs.lemmas.List.Elements.{All-drop, All-head, All-tail}
 use Rattle.math_numbers.proofs.ByteLists.{all_bytes}
-use Rattle.math_base.specs.declared.fields.goldilocks.F.{F}
-use Rattle.math_base.specs.Elements.{number}
+use Rattle.math_fields.specs.declared.goldilocks.F.{F}
+use Rattle.math_fields.specs.Elements.{number}
 use Rattle.secret_bytes.specs.Packings.{number_count, number_of_bytes, packed, sevens}
 
 pub number-below : (k : ℕ) (bytes : List ℕ) → All (λ byte. byte < 256) bytes → length bytes ≤ k → number_of_bytes bytes < 256 ^ k

@@ -10,11 +10,11 @@ use Rattle.math_theory.specs.Interpolation.{AreApart}
 use Rattle.math_theory.specs.Powers.{multiple, power-suc, power-zero}
 use Rattle.math_theory.proofs.classes.RingUpToSame.{combine2_same}
 use Rattle.math_theory.proofs.rings.Normal.{◌⊗◌, ◌⊖◌, 𝟘, 𝟙, v0, v1, v2}
-use Rattle.math_base.specs.declared.fields.goldilocks.F.{F}
-use Rattle.math_base.specs.ElementLaws.{commutes, equality, group, ring}
-use Rattle.math_base.specs.ElementRootLaws.{field}
-use Rattle.math_base.specs.Elements.{inverse, number, product, residue, same, sum}
-use Rattle.math_base.proofs.ElementNumbers.{same_number}
+use Rattle.math_fields.specs.declared.goldilocks.F.{F}
+use Rattle.math_fields.specs.ElementLaws.{commutes, equality, group, ring}
+use Rattle.math_fields.specs.ElementRootLaws.{field}
+use Rattle.math_fields.specs.Elements.{inverse, number, product, residue, same, sum}
+use Rattle.math_fields.proofs.ElementNumbers.{same_number}
 use Rattle.secret_bytes.specs.declared.share.SecretShare.{SecretShare}
 use Rattle.secret_bytes.specs.Combined.{AreCombined}
 use Rattle.secret_bytes.specs.KeyChecks.{added, check_of}

@@ -4,11 +4,11 @@ use Rattle.std.specs.List.{All, AllPairs, Contains, filter}
 use Rattle.std.proofs.lemmas.Bool.{cases_Bool, eq-eqb}
 use Rattle.std.proofs.lemmas.List.{get_or_default}
 use Rattle.std.proofs.lemmas.List.Elements.{All-append, All-contains, All-head, All-tail}
-use Rattle.math_base.specs.declared.fields.goldilocks.F.{F}
+use Rattle.math_fields.specs.declared.goldilocks.F.{F}
 use Rattle.secret_bytes.specs.declared.share.SecretShare.{SecretShare}
 use Rattle.shared_secret.specs.CorrectedShares.{AreSharesWithinRadius, IsCorrectedSecret}
 use Rattle.math_decoding.specs.Polynomials.{AreSame}
-use Rattle.math_base.specs.Elements.{goldilocks}
+use Rattle.math_fields.specs.Elements.{goldilocks}
 use Rattle.secret_bytes.specs.Columns.{column}
 use Rattle.secret_bytes.specs.Combined.{AreElementsOfShares, FitsShare, IsWrong, is_outside, others}
 use Rattle.secret_bytes.specs.Passes.{AreReady, indices_at}

@@ -2,9 +2,9 @@
 use Rattle.std.proofs.Common.{◌≡◌, false, not, eqb, inl, inr, ap}
 use Rattle.std.specs.Bool.{Decides}
 use Rattle.std.proofs.lemmas.Bool.{cases_Bool, eq-eqb, eqb-true}
-use Rattle.math_base.specs.declared.fields.goldilocks.F.{F}
-use Rattle.math_base.specs.Elements.{number}
-use Rattle.math_base.proofs.ElementNumbers.{same_number}
+use Rattle.math_fields.specs.declared.goldilocks.F.{F}
+use Rattle.math_fields.specs.Elements.{number}
+use Rattle.math_fields.proofs.ElementNumbers.{same_number}
 
 -- elements are equal where their numbers are
 pub element-Decides : (a b : F) → Decides (eqb (number a) (number b)) (a ≡ b)

@@ -4,8 +4,8 @@ use Rattle.std.specs.List.{All}
 use Rattle.std.specs.Option.{IfSome, IfNone, IsSomeAnd}
 use Rattle.std.proofs.lemmas.List.{length-append, length-drop, length-map, length-take, take-append-drop}
 use Rattle.std.proofs.lemmas.List.Elements.{All-append, All-cons, All-drop, All-head, All-nil, All-tail, All-take}
-use Rattle.math_base.specs.declared.fields.goldilocks.F.{F}
-use Rattle.math_base.specs.Elements.{number}
+use Rattle.math_fields.specs.declared.goldilocks.F.{F}
+use Rattle.math_fields.specs.Elements.{number}
 use Rattle.secret_bytes.specs.Packings.{AllFit, ArePackedBytes, lowest_bytes, number_count, number_of_bytes, packed, sevens, unpacked, without_lowest}
 use Rattle.secret_bytes.proofs.PackedBytes.{first_seven, after_seven}
 

@@ -3,8 +3,8 @@ use Rattle.std.proofs.Common.{◌≡◌, ◌∙◌, ℕ, ◌+◌, ◌<◌, inl, 
 use Rattle.std.specs.Prelude.{IfOk}
 use Rattle.std.proofs.lemmas.Bool.{cases_lt}
 use Rattle.std.proofs.lemmas.List.{get_or_append_left, get_or_push, length-map}
-use Rattle.math_base.specs.declared.fields.goldilocks.F.{F}
-use Rattle.math_base.specs.Elements.{residue, goldilocks}
+use Rattle.math_fields.specs.declared.goldilocks.F.{F}
+use Rattle.math_fields.specs.Elements.{residue, goldilocks}
 use Rattle.shared_secret.specs.declared.weighing.Weights.{Weights}
 use Rattle.shared_secret.specs.CorrectedShares.{IsCorrectedSecret}
 use Rattle.shared_secret.specs.Shares.{AreAtDistinctPoints, points}

@@ -2,8 +2,8 @@
 use Rattle.std.specs.List.{Contains, filter, list_any}
 use Rattle.std.specs.List.Sorted.{IsStrictlyIncreasing}
 use Rattle.std.specs.Prelude.{◌≡◌, ◌↔◌, ◌+◌, ◌<◌, ◌≤◌, ◌==◌, ℕ, Bool, not, List, length, slice_get, slice_index_or, Some, All}
-use Rattle.math_base.specs.declared.fields.goldilocks.F.{F}
-use Rattle.math_base.specs.Elements.{residue, same, goldilocks}
+use Rattle.math_fields.specs.declared.goldilocks.F.{F}
+use Rattle.math_fields.specs.Elements.{residue, same, goldilocks}
 use Rattle.math_base.specs.Polynomials.{value_in_ring}
 use Rattle.math_decoding.specs.Polynomials.{AreSame}
 use Rattle.secret_bytes.specs.declared.share.SecretShare.{SecretShare}
@@ -24,18 +24,20 @@ is_outside wrong index = not (list_any (λ i. i == index) wrong)
 abbrev pub others : List ℕ → List SecretShare → List SecretShare
 others wrong shares = filter (λ s. is_outside wrong s.index) shares
 
--- value j of the share is that of the polynomial p at the point of its index
+-- value j of the share is the value of the polynomial p at the point of its index
 abbrev pub FitsShare : ℕ → List F → SecretShare → Type 0
 FitsShare j p s = let u : Share F = share_of j s in same u.value (value_in_ring goldilocks p (point goldilocks s.index))
 
--- the element is the value at zero of a polynomial of at most t coefficients that has all but so few of the shares, and every other such polynomial is the same
+-- the element is the value at zero of a polynomial of at most t coefficients that has all of m shares but at most (m - t) / 2, and every
+-- other such polynomial is the same
 pub record IsElementOf (t : ℕ) (shares : List (Share F)) (a : F) : Type 0 where
   pub polynomial : List F
   pub within : AreSharesWithinRadius goldilocks t polynomial shares
   pub constant : same a (value_in_ring goldilocks polynomial (residue 0))
   pub only : (q : List F) → AreSharesWithinRadius goldilocks t q shares → AreSame goldilocks q polynomial
 
--- one of the values of the share is not that of the polynomial of at most t coefficients that has all but so few of these shares
+-- one of the values of the share is not the value of the polynomial of at most t coefficients that has all of these m shares but at most (m
+-- - t) / 2
 abbrev pub IsWrong : ℕ → ℕ → List SecretShare → SecretShare → Type 0
 IsWrong t width shares s = (j : ℕ) × (p : List F) × (j < width) × AreSharesWithinRadius goldilocks t p (column j shares) × ¬ (FitsShare j p s)
 
@@ -48,12 +50,13 @@ pub record AreElementsOfShares (t width : ℕ) (shares : List SecretShare) (all 
   pub among : All (λ i. (s : SecretShare) × Contains shares s × (s.index ≡ i)) wrong
   pub rising : IsStrictlyIncreasing wrong
 
--- the shares stand with one another, and so with the first one
+-- the shares stand with one another, by the threshold, the deal and the number of values of the first one
 pub record AreOfOneDeal (first : SecretShare) (shares : List SecretShare) : Type 0 where
   pub first_is : slice_get shares 0 ≡ Some first
   pub stand : StandBelow first.threshold first.deal (length first.values.items) shares (length shares)
 
--- the shares stand with one another, and the elements that have the bytes are those of the first share of each index, where those of these indices are wrong
+-- the shares stand with one another, and the first share of each index, of which the shares with these indices are wrong, give the elements
+-- of the bytes
 pub record AreCombined (shares : List SecretShare) (bytes wrong : List ℕ) : Type 0 where
   pub first : SecretShare
   pub all : List F
@@ -61,7 +64,8 @@ pub record AreCombined (shares : List SecretShare) (bytes wrong : List ℕ) : Ty
   pub recovered : AreElementsOfShares first.threshold (length first.values.items) (firsts shares) all wrong
   pub keyed : AreKeyed bytes all
 
--- why shares are not combined: there is none; or the first that does not stand; or so few of distinct indices; or there are no elements, or they are those of no bytes
+-- why shares are not combined: there is none; or the first that does not stand; or too few have distinct indices; or there are no elements,
+-- or they are the elements of no bytes
 abbrev pub IsDueCombining : List SecretShare → CombineError → Type 0
 IsDueCombining shares (Memory e) = Unit {0}
 IsDueCombining shares NoShare = length shares ≡ 0

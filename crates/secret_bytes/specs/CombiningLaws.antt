@@ -3,8 +3,8 @@ use Rattle.std.specs.List.{AllZip, Contains}
 use Rattle.std.specs.Prelude.{◌≡◌, ◌≢◌, ◌-◌, ◌<◌, ◌≤◌, ◌^◌, ℕ, List, [], length, All, AllPairs}
 use Rattle.rand_core.specs.Stream.{Stream}
 use Rattle.math_theory.specs.Interpolation.{AreApart}
-use Rattle.math_base.specs.declared.fields.goldilocks.F.{F}
-use Rattle.math_base.specs.Elements.{same, sum}
+use Rattle.math_fields.specs.declared.goldilocks.F.{F}
+use Rattle.math_fields.specs.Elements.{same, sum}
 use Rattle.secret_bytes.specs.declared.share.SecretShare.{SecretShare}
 use Rattle.secret_bytes.specs.Refusals as line
 use Rattle.secret_bytes.specs.SecretShares.{AreSameShares}
@@ -18,7 +18,7 @@ use Rattle.secret_bytes.specs.declared.error.CombineError.{CombineError}
 use Rattle.secret_bytes.specs.declared.error.CombineError.TheVariants.{Memory}
 use Rattle.secret_bytes.specs.declared.text.LineFault.{LineFault}
 
--- the refusal is for want of memory
+-- the refusal says that memory ran out
 abbrev pub IsMemory : CombineError → Type 0
 IsMemory (Memory e) = Unit {0}
 IsMemory _ = ⊥
@@ -27,18 +27,20 @@ IsMemory _ = ⊥
 abbrev pub IsSameAsOne : List SecretShare → SecretShare → Type 0
 IsSameAsOne dealt s = (u : SecretShare) × Contains dealt u × AreSameShares s u
 
--- the shares are refused for want of memory alone, and are combined to the bytes alone, none of them being wrong
+-- the shares are refused only because memory ran out, and are combined to the bytes alone, none of them being wrong
 abbrev pub CombineToAlone : List ℕ → List SecretShare → Type 0
 CombineToAlone bytes shares =
     ((error : CombineError) → IsDueCombining shares error → IsMemory error)
     × ((found wrong : List ℕ) → AreCombined shares found wrong → (found ≡ bytes) × (wrong ≡ []))
 
--- so it is of shares of a deal of the bytes, or copies of them, in any order, of which at least t have distinct indices
+-- shares of a deal of the bytes, or copies of them, in any order, of which at least t have distinct indices, are refused only because
+-- memory ran out, and combined to the bytes alone
 abbrev pub AnySharesOfBytesCombine : Type 0
 AnySharesOfBytesCombine = (bytes : List ℕ) (t n : ℕ) (before after : Stream) (dealt shares : List SecretShare) → 0 < t → n < 2 ^ 32 → AreDealtBytes bytes t n before after dealt
     → All (IsSameAsOne dealt) shares → t ≤ length (firsts shares) → CombineToAlone bytes shares
 
--- and of a text whose lines are those of such shares, blank ones aside: it is read but for want of memory, and the shares that are read are so combined
+-- a text whose lines are the lines of shares of a deal, at least t of distinct indices, blank lines aside, is refused only because memory
+-- ran out, and its shares are combined to the bytes alone
 abbrev pub AnyLinesCombine : Type 0
 AnyLinesCombine = (bytes text : List ℕ) (t n : ℕ) (before after : Stream) (dealt chosen : List SecretShare) (numbers : List ℕ) → 0 < t → t ≤ n → n < 2 ^ 32 → length bytes ≤ 65536
     → AreDealtBytes bytes t n before after dealt → AreLinesOf text chosen numbers → All (Contains dealt) chosen → t ≤ length (firsts chosen)
@@ -54,7 +56,7 @@ pub record IsChanged (dealt : List SecretShare) (s : SecretShare) (change : ℕ 
   pub same_index : change.0 ≡ before.index
   pub values : s.values.items ≡ added sum before.values.items change.1
 
--- with this key, shares of some deal of the bytes, so changed, are combined to other bytes
+-- with this key, shares of some deal of the bytes, with these changes, are combined to other bytes
 pub record PassesChanged (bytes : List ℕ) (t n : ℕ) (changes : List (ℕ × List F)) (key : F) : Type 0 where
   pub before : Stream
   pub after : Stream

@@ -2,8 +2,8 @@
 use Rattle.std.specs.List.{range_with_len}
 use Rattle.std.specs.Prelude.{◌≡◌, ◌+◌, ◌-◌, ◌*◌, ◌<◌, ◌≤◌, ℕ, List, [], ◌∷◌, length, map, slice_index_or, Some, None, All}
 use Rattle.rand_core.specs.Stream.{Stream}
-use Rattle.math_base.specs.declared.fields.goldilocks.F.{F}
-use Rattle.math_base.specs.Elements.{sample_of, goldilocks}
+use Rattle.math_fields.specs.declared.goldilocks.F.{F}
+use Rattle.math_fields.specs.Elements.{sample_of, goldilocks}
 use Rattle.math_base.specs.Samples.{samples}
 use Rattle.math_base.specs.declared.algebra.RandomError.{RandomError}
 use Rattle.math_base.specs.declared.algebra.RandomError.TheVariants as random
@@ -21,14 +21,15 @@ AreSampled t before after [] (p ∷ polynomials) = ⊥
 AreSampled t before after (a ∷ all) [] = ⊥
 AreSampled t before after (a ∷ all) (p ∷ polynomials) = (between : Stream) × IsSampled sample_of a t before between p × AreSampled t between after all polynomials
 
--- the share has this threshold, is of the deal with this identity, and has so many values
+-- the share has this threshold, is of the deal with this identity, and has `width` values
 pub record IsOfDeal (t : ℕ) (identity : F) (width : ℕ) (s : SecretShare) : Type 0 where
   pub threshold : s.threshold ≡ t
   pub deal : s.deal ≡ identity
   pub count : length s.values.items ≡ width
 
--- the shares with the indices 1 to n in order, of one deal and with the threshold t, whose values j are those of a polynomial of t coefficients with element j as its constant, for each of the
--- elements that the bytes have with a key and a check; the deal, the key and all other coefficients are the next samples of a source
+-- The shares of a deal have the indices 1 to n in order, one deal and the threshold t, and value j of each is the value of a polynomial of
+-- t coefficients whose constant is element j of the elements that the bytes have with a key and a check. The deal, the key and all other
+-- coefficients are the next samples of a source.
 pub record AreDealtBytes (bytes : List ℕ) (t n : ℕ) (before after : Stream) (shares : List SecretShare) : Type 0 where
   pub deal : F
   pub all : List F
@@ -52,7 +53,7 @@ abbrev pub refusal_of : RandomError → DealError
 refusal_of (random.Memory e) = Memory e
 refusal_of random.TooManyWords = TooManyWords
 
--- why so many samples are not drawn: one of them is refused; or memory ran out, and those that were drawn before are there
+-- why n samples are not drawn: one of them is refused; or memory ran out, and the samples drawn before are there
 abbrev pub IsDueSampling : ℕ → Stream → Stream → DealError → Type 0
 IsDueSampling n before after TooManyWords = samples sample_of n before ≡ (None, after)
 IsDueSampling n before after (Memory e) = (k : ℕ) × (xs : List F) × (k ≤ n) × (samples sample_of k before ≡ (Some xs, after))

@@ -2,15 +2,15 @@
 use Rattle.std.specs.List.{AllZip, Contains}
 use Rattle.std.specs.Prelude.{◌≡◌, ◌≢◌, ◌+◌, ◌-◌, ◌*◌, ◌<◌, ◌^◌, ℕ, List, [], length, slice_index_or, All, AllPairs}
 use Rattle.math_numbers.specs.Goldilocks.{P}
-use Rattle.math_base.specs.declared.fields.goldilocks.F.{F}
-use Rattle.math_base.specs.Elements.{residue, same, goldilocks}
+use Rattle.math_fields.specs.declared.goldilocks.F.{F}
+use Rattle.math_fields.specs.Elements.{residue, same, goldilocks}
 use Rattle.secret_bytes.specs.Packings.{AreBytes}
 use Rattle.secret_bytes.specs.declared.share.SecretShare.{SecretShare}
 use Rattle.shared_secret.specs.Explanations.{Explains}
 use Rattle.secret_bytes.specs.Columns.{column}
 use Rattle.secret_bytes.specs.Keyed.{AreKeyed, AreKeyedBy, element_count}
 
--- each share has so many values
+-- each share has `width` values
 abbrev pub HaveWidth : ℕ → List SecretShare → Type 0
 HaveWidth width shares = All (λ s. length s.values.items ≡ width) shares
 
@@ -20,7 +20,7 @@ pub record AreExplained (t : ℕ) (all : List F) (shares : List SecretShare) (po
   pub count : length polynomials ≡ length all
   pub each : (j : ℕ) → j < length all → Explains goldilocks t (slice_index_or all j (residue 0)) (column j shares) (slice_index_or polynomials j [])
 
--- the shares have distinct indices other than zero, each of which 32 bits can say
+-- the shares have distinct indices other than zero, each of which fits 32 bits
 pub record HaveDistinctIndices (shares : List SecretShare) : Type 0 where
   pub apart : AllPairs (λ s u. s.index ≢ u.index) shares
   pub some : All (λ s. 0 < s.index) shares
@@ -48,17 +48,19 @@ abbrev pub EachSecretOfBytesExplains : Type 0
 EachSecretOfBytesExplains = (shares : List SecretShare) (bytes : List ℕ) (key : F) → HaveDistinctIndices shares → AreBytes bytes → HaveWidth (element_count (length bytes)) shares
     → IsExplainedOnce shares bytes key
 
--- a dealing, by a list of elements and a list of polynomials: the elements are those of the bytes with some key, and explain the values of the shares by these polynomials of t coefficients
+-- a dealing, by a list of elements and a list of polynomials: the elements of the bytes with some key explain the values of the shares by
+-- these polynomials of t coefficients
 abbrev pub IsDealing : ℕ → List SecretShare → List ℕ → List F × List (List F) → Type 0
 IsDealing t shares bytes d = AreKeyed bytes d.0 × AreExplained t d.0 shares d.1
 
--- each of these is such a dealing, no two are the same, and there is no other one
+-- these are all dealings: no two are the same, and there is no other one
 pub record AreAllDealings (t : ℕ) (shares : List SecretShare) (bytes : List ℕ) (dealings : List (List F × List (List F))) : Type 0 where
   pub each : All (IsDealing t shares bytes) dealings
   pub apart : AllPairs (λ d e. d ≢ e) dealings
   pub every : (d : List F × List (List F)) → IsDealing t shares bytes d → Contains dealings d
 
--- so j shares, fewer than t, are explained by every secret of bytes in exactly as many ways: one for each of the P keys and each choice of t - 1 - j coefficients for each of the elements that are dealt
+-- j shares, fewer than t, are explained by every secret of bytes in exactly as many ways: one for each of the P keys and each choice of t -
+-- 1 - j coefficients for each of the elements that are dealt
 abbrev pub EachSecretOfBytesExplainsEquallyOften : Type 0
 EachSecretOfBytesExplainsEquallyOften = (t : ℕ) (shares : List SecretShare) (bytes : List ℕ) → HaveDistinctIndices shares → AreBytes bytes → HaveWidth (element_count (length bytes)) shares
     → length shares < t

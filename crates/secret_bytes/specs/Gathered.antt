@@ -28,7 +28,7 @@ pub record IsPassed (text : List ℕ) (number : ℕ) (rest : List ℕ) : Type 0 
 abbrev pub IsAtShare : List ℕ → Type 0
 IsAtShare text = going_on (text_lines text) ≡ []
 
--- so many lines are the first one and those that go on with it, and this is what follows them
+-- `count` lines are the first one and those that go on with it, and this is what follows them
 pub record AreOwn (text : List ℕ) (count : ℕ) (after : List ℕ) : Type 0 where
   pub lines : text_lines text ≡ own_lines (text_lines text) ++ text_lines after
   pub number : count ≡ length (own_lines (text_lines text))

@@ -2,8 +2,8 @@
 use Rattle.std.specs.Prelude.{◌≡◌, ◌+◌, ◌<◌, ◌≤◌, ℕ, List, [], ◌∷◌, length, slice_index_or, All}
 use Rattle.math_theory.specs.Interpolation.{AreApart}
 use Rattle.math_theory.specs.Powers.{multiple}
-use Rattle.math_base.specs.declared.fields.goldilocks.F.{F}
-use Rattle.math_base.specs.Elements.{sum, product}
+use Rattle.math_fields.specs.declared.goldilocks.F.{F}
+use Rattle.math_fields.specs.Elements.{sum, product}
 use Rattle.math_base.specs.Members.{RingOf}
 
 -- s_1 + x (s_2 + .. x (s_n + x x)), where x stands for what follows the last
@@ -15,7 +15,7 @@ within sum product (s ∷ elements) x = sum s (product x (within sum product ele
 abbrev pub check_of : {A : Type 0} → (A → A → A) → (A → A → A) → List A → A → A
 check_of sum product elements x = product x (within sum product elements x)
 
--- the same in the Goldilocks field
+-- x to the power n + 2, and the sum of s_i times x to the power i, in the Goldilocks field
 abbrev pub check_at : List F → F → F
 check_at elements x = check_of sum product elements x
 

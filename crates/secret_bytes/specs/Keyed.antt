@@ -1,7 +1,7 @@
 -- Bytes, a key and a check as elements.
 use Rattle.std.specs.Prelude.{◌≡◌, ◌+◌, ℕ, List, [], ◌∷◌, ◌++◌}
-use Rattle.math_base.specs.declared.fields.goldilocks.F.{F}
-use Rattle.math_base.specs.Elements.{same}
+use Rattle.math_fields.specs.declared.goldilocks.F.{F}
+use Rattle.math_fields.specs.Elements.{same}
 use Rattle.secret_bytes.specs.KeyChecks.{check_at}
 use Rattle.secret_bytes.specs.Packings.{ArePackedBytes, number_count}
 
@@ -18,6 +18,6 @@ pub record AreKeyed (bytes : List ℕ) (all : List F) : Type 0 where
 abbrev pub AreKeyedBy : F → List ℕ → List F → Type 0
 AreKeyedBy key bytes all = (k : AreKeyed bytes all) × (k.key ≡ key)
 
--- how many elements so many bytes have with a key and a check
+-- how many elements n bytes have with a key and a check
 abbrev pub element_count : ℕ → ℕ
 element_count n = number_count n + 3

@@ -1,7 +1,7 @@
 -- Bytes as numbers of fifty-six bits: how many there are, and then seven a number.
 use Rattle.std.specs.Prelude.{◌≡◌, ℕ, zero, suc, ◌+◌, ◌*◌, ◌/◌, ◌%◌, ◌<◌, List, [], ◌∷◌, length, take, drop, map, min, ◌++◌, ◌-◌, All}
-use Rattle.math_base.specs.declared.fields.goldilocks.F.{F}
-use Rattle.math_base.specs.Elements.{number}
+use Rattle.math_fields.specs.declared.goldilocks.F.{F}
+use Rattle.math_fields.specs.Elements.{number}
 
 -- these are bytes, and fewer than 2^32
 pub record AreBytes (bytes : List ℕ) : Type 0 where
@@ -13,12 +13,12 @@ abbrev pub number_of_bytes : List ℕ → ℕ
 number_of_bytes [] = 0
 number_of_bytes (b ∷ bytes) = b + 256 * number_of_bytes bytes
 
--- so many numbers of seven bytes each, as far as there are bytes
+-- k numbers of seven bytes each, as far as there are bytes
 abbrev pub sevens : ℕ → List ℕ → List ℕ
 sevens zero bytes = []
 sevens (suc k) bytes = number_of_bytes (take 7 bytes) ∷ sevens k (drop 7 bytes)
 
--- how many numbers hold so many bytes
+-- how many numbers hold n bytes
 abbrev pub number_count : ℕ → ℕ
 number_count n = (n + 6) / 7
 
@@ -26,11 +26,11 @@ number_count n = (n + 6) / 7
 abbrev pub packed : List ℕ → List ℕ
 packed bytes = length bytes ∷ sevens (number_count (length bytes)) bytes
 
--- the elements are those of these bytes
+-- the elements are the elements of these bytes
 abbrev pub ArePackedBytes : List F → List ℕ → Type 0
 ArePackedBytes elements bytes = AreBytes bytes × (map number elements ≡ packed bytes)
 
--- the lowest bytes of a number, so many
+-- the k lowest bytes of a number
 abbrev pub lowest_bytes : ℕ → ℕ → List ℕ
 lowest_bytes zero n = []
 lowest_bytes (suc k) n = n % 256 ∷ lowest_bytes k (n / 256)
@@ -40,7 +40,7 @@ abbrev pub without_lowest : ℕ → ℕ → ℕ
 without_lowest zero n = n
 without_lowest (suc k) n = without_lowest k (n / 256)
 
--- the lowest seven bytes of each number, so many in all as are left
+-- the lowest seven bytes of each number, `left` bytes in all
 abbrev pub unpacked : ℕ → List ℕ → List ℕ
 unpacked left [] = []
 unpacked left (n ∷ numbers) = lowest_bytes (min 7 left) n ++ unpacked (left - 7) numbers

@@ -28,7 +28,7 @@ space_size text =
     let c = slice_index_or text 2 0 in
     if is_space a then 1 else if is_space_of_two a b then 2 else if is_space_of_three a b c then 3 else 0
 
--- the text without white space and marks of the byte order; so many bytes of one are still to be passed over
+-- the text without white space and marks of the byte order; the next n bytes of one are still to be passed over
 abbrev pub unspaced : ℕ → List ℕ → List ℕ
 unspaced n [] = []
 unspaced n (b ∷ text) = let m = (if n == 0 then space_size (b ∷ text) else n) in if m == 0 then b ∷ unspaced 0 text else unspaced (m - 1) text
@@ -54,7 +54,7 @@ letters_of line = capitals (unnumbered (unquoted (unspaced 0 line)))
 abbrev pub has_mark : List ℕ → Bool
 has_mark text = slice_index_or text 0 0 == 83 && slice_index_or text 1 0 == 49
 
--- the text with a dash before each group of four; so many characters of a group are still to come
+-- the text with a dash before each group of four; the next n characters of a group are still to come
 abbrev pub dashed : ℕ → List ℕ → List ℕ
 dashed n [] = []
 dashed n (c ∷ text) = if n == 0 then dash ∷ c ∷ dashed 3 text else c ∷ dashed (n - 1) text

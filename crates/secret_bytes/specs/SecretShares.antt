@@ -7,16 +7,16 @@ use Rattle.math_codec.specs.Faults.{Fault, ◌>>=◌}
 use Rattle.math_codec.specs.Lengths.{length_spelling, length_at}
 use Rattle.math_codec.specs.Lists.{list_spelling, scan_list, AdmitsList, ListGrows}
 use Rattle.math_codec.specs.declared.codec.range.LengthRange.{LengthRange}
-use Rattle.math_base.specs.declared.fields.goldilocks.F.{F}
-use Rattle.math_base.specs.Elements.{number, same}
-use Rattle.math_base.specs.ElementEncoding.{scan_element}
+use Rattle.math_fields.specs.declared.goldilocks.F.{F}
+use Rattle.math_fields.specs.Elements.{number, same}
+use Rattle.math_fields.specs.ElementEncoding.{scan_element}
 use Rattle.secret_bytes.specs.declared.share.SecretShare.{SecretShare}
 
 -- an element is spelled by its number as a word
 abbrev pub element_spelling : F → List ℕ
 element_spelling a = to_be_bytes w64 (number a)
 
--- a share is spelled by its threshold, its index, its deal, and the list of its values
+-- a share is spelled by its threshold and its index as lengths, its deal as a word, and the list of its values
 abbrev pub share_spelling : SecretShare → List ℕ
 share_spelling s = length_spelling s.threshold ++ (length_spelling s.index ++ (element_spelling s.deal ++ list_spelling element_spelling s.values.items))
 
@@ -27,11 +27,11 @@ pub record AreSameShares (s u : SecretShare) : Type 0 where
   pub deal : same s.deal u.deal
   pub values : AllZip same s.values.items u.values.items
 
--- the range of at most so many values
+-- the range of at most n values
 abbrev pub at_most : ℕ → LengthRange
 at_most n = record { low = 0; high = n }
 
--- the share has at most so many values, each below P, and its two numbers are any that 32 bits can say
+-- the share has at most `most_values` values, each below P, its deal is below P, and its two numbers fit 32 bits
 pub record AdmitsShare (most_values : ℕ) (s : SecretShare) : Type 0 where
   pub threshold_fits : s.threshold < 2 ^ 32
   pub index_fits : s.index < 2 ^ 32

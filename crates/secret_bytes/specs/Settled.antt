@@ -1,7 +1,7 @@
 -- Shares of one deal, and of each index the first.
 use Rattle.std.specs.List.{Contains, list_any}
 use Rattle.std.specs.Prelude.{◌≡◌, ◌<◌, ◌==◌, ℕ, Bool, List, [], ◌∷◌, ◌++◌, if◌then◌else◌, length, slice_index_or, take, All, Option, Some, None}
-use Rattle.math_base.specs.declared.fields.goldilocks.F.{F}
+use Rattle.math_fields.specs.declared.goldilocks.F.{F}
 use Rattle.secret_bytes.specs.declared.share.SecretShare.{SecretShare}
 use Rattle.secret_bytes.specs.Deals.{IsOfDeal}
 use Rattle.secret_bytes.specs.declared.error.CombineError.{CombineError}
@@ -47,7 +47,7 @@ abbrev pub IsFirstFault : ℕ → F → ℕ → List SecretShare → CombineErro
 IsFirstFault t identity width shares error =
     (k : ℕ) × (s : SecretShare) × (k < length shares) × (slice_index_or shares k s ≡ s) × StandBelow t identity width shares k × IsFault t identity width (take k shares) s k error
 
--- the refusal is that fault, or memory ran out
+-- the refusal is the fault of the first share that does not stand with those before it, or memory ran out
 abbrev pub IsDueSettling : ℕ → F → ℕ → List SecretShare → CombineError → Type 0
 IsDueSettling t identity width shares (Memory e) = Unit {0}
 IsDueSettling t identity width shares error = IsFirstFault t identity width shares error
@@ -61,7 +61,7 @@ IsPlaceOf shares n i (Some p) = (p < n) × ((s : SecretShare) → (slice_index_o
 abbrev pub has_index : List SecretShare → ℕ → Bool
 has_index shares index = list_any (λ s. s.index == index) shares
 
--- those that are kept, and after them each share whose index is none of those before it
+-- the shares that are kept, and after them each share whose index is none of those before it
 abbrev pub firsts_after : List SecretShare → List SecretShare → List SecretShare
 firsts_after kept [] = kept
 firsts_after kept (s ∷ shares) = firsts_after (if has_index kept s.index then kept else kept ++ (s ∷ [])) shares

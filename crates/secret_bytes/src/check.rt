@@ -1,10 +1,13 @@
 //! A key and a check.
+//!
+//! The bound holds over every field whose characteristic does not divide n + 2, which it has as a
+//! premise: otherwise a change of the key can leave the leading coefficient zero.
 
 ghost use Rattle.std.specs.Prelude.{◌≡◌, ◌↔◌, IsTrue};
-ghost use Rattle.math_base.specs.Elements.{number, same};
+ghost use Rattle.math_fields.specs.Elements.{number, same};
 ghost use Rattle.secret_bytes.specs.KeyChecks.{check_at};
 
-use math_base::fields::goldilocks::F;
+use math_fields::goldilocks::F;
 
 /// Returns the check of the elements s_1 to s_n under the key x: the sum of x^(n + 2) and of each
 /// s_i times x^i, by Horner's rule.

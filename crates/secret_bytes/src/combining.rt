@@ -1,13 +1,17 @@
 //! Combining of shares of bytes.
+//!
+//! All elements have the same indices. Points, their comparison and Euclid's steps would be
+//! repeated for each element; if no share is wrong, only sums of products are left, each reduced
+//! once.
 
 ghost use Rattle.std.specs.Prelude.{◌≡◌, ◌<◌, ◌≤◌, ◌++◌, ℕ, List, [], length, map, All};
 ghost use Rattle.std.specs.Prelude.{IfOk, IfErr, IfSome, IfNone};
-ghost use Rattle.math_base.specs.declared.fields.goldilocks.F.{F};
+ghost use Rattle.math_fields.specs.declared.goldilocks.F.{F};
 ghost use Rattle.shared_secret.specs.CorrectedShares.{IsCorrectedSecret};
 ghost use Rattle.shared_secret.specs.Shares.{points, values};
 ghost use Rattle.math_theory.specs.Interpolation.{AreApart};
 ghost use Rattle.shared_secret.specs.Weights.{AreWeightsOfShares};
-ghost use Rattle.math_base.specs.Elements.{goldilocks, product, residue, same, sum};
+ghost use Rattle.math_fields.specs.Elements.{goldilocks, product, residue, same, sum};
 ghost use Rattle.math_theory.specs.Sums.{weighted_sum};
 ghost use Rattle.secret_bytes.specs.Columns.{column};
 ghost use Rattle.secret_bytes.specs.Combined.{AreCombined, AreElementsOfShares, IsDueCombining, others};
@@ -15,11 +19,11 @@ ghost use Rattle.secret_bytes.specs.Passes.{AreFirstElements, AreReady, IsDecode
 
 use crate::error::CombineError;
 use crate::keyed::unkeyed;
-use crate::settling::{Deal, firsts, settled};
+use crate::one_deal::{Deal, firsts, settled};
 use crate::share::SecretShare;
 use math_base::algebra::Mem;
-use math_base::fields::goldilocks::F;
 use math_decoding::decoding::decode;
+use math_fields::goldilocks::F;
 use math_values::sums::sum_of_products;
 use shared_secret::{Weights, secret_of, weigh_points};
 use std::alloc::Global;

@@ -1,10 +1,16 @@
 //! Dealing of bytes.
+//!
+//! The coefficients are drawn by a loop of its own: `Poly::new_with_constant` is for any type, and
+//! says of the source no more than `Random` does. A sample of `F` takes no memory, so the source
+//! gave each sample that was drawn before memory ran out. The powers of each point are made once
+//! for all elements, and each share gets its value as soon as a polynomial is drawn: no table of
+//! all values is needed.
 
 ghost use Rattle.std.specs.List.{AllZip};
 ghost use Rattle.std.specs.Prelude.{◌≡◌, ◌-◌, ◌*◌, ◌<◌, ◌≤◌, ℕ, List, [], length, map};
 ghost use Rattle.std.specs.Prelude.{IfOk, IfErr, OnOk};
-ghost use Rattle.math_base.specs.declared.fields.goldilocks.F.{F};
-ghost use Rattle.math_base.specs.Elements.{sample_of};
+ghost use Rattle.math_fields.specs.declared.goldilocks.F.{F};
+ghost use Rattle.math_fields.specs.Elements.{sample_of};
 ghost use Rattle.shared_secret.specs.Shares.{IsSampled};
 ghost use Rattle.secret_bytes.specs.Deals.{AreDealtBytes, IsDueSampling, sample_count};
 ghost use Rattle.secret_bytes.specs.Rows.{AreDealtRows, AreRows, IsGrown};
@@ -13,7 +19,7 @@ use crate::error::DealError;
 use crate::keyed::{drawn, keyed};
 use crate::share::SecretShare;
 use math_base::algebra::Mem;
-use math_base::fields::goldilocks::F;
+use math_fields::goldilocks::F;
 use math_values::values::PowerTable;
 use rand_core::{CryptoRng, Rng};
 use std::alloc::Global;

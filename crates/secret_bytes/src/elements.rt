@@ -6,11 +6,11 @@
 
 ghost use Rattle.std.specs.Prelude.{◌≡◌, ◌↔◌, ◌<◌, ◌≤◌, ◌^◌, ◌*◌, ◌++◌, ℕ, List, length, map};
 ghost use Rattle.std.specs.Prelude.{IsTrue, IfOk, IfSome, IfNone, IsSomeAnd, OnOk};
-ghost use Rattle.math_base.specs.Elements.{number};
+ghost use Rattle.math_fields.specs.Elements.{number};
 ghost use Rattle.secret_bytes.specs.Packings.{AllFit, ArePackedBytes, lowest_bytes, number_of_bytes, packed, unpacked, without_lowest};
 
 use math_base::algebra::Mem;
-use math_base::fields::goldilocks::F;
+use math_fields::goldilocks::F;
 use std::alloc::{AllocError, Global};
 
 /// The number of bytes of an element.

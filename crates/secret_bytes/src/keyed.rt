@@ -2,7 +2,7 @@
 
 ghost use Rattle.std.specs.Prelude.{◌≡◌, ◌<◌, ◌^◌, ℕ, List, length, Some, None};
 ghost use Rattle.std.specs.Prelude.{IfOk, IfErr, IfSome, IfNone};
-ghost use Rattle.math_base.specs.Elements.{sample_of};
+ghost use Rattle.math_fields.specs.Elements.{sample_of};
 ghost use Rattle.secret_bytes.specs.declared.error.DealError.TheVariants.{TooManyWords};
 ghost use Rattle.secret_bytes.specs.Keyed.{AreKeyed, AreKeyedBy};
 
@@ -10,7 +10,7 @@ use crate::check::{fits, key_check};
 use crate::elements::{bytes_of, elements_of};
 use crate::error::DealError;
 use math_base::algebra::{Mem, Random};
-use math_base::fields::goldilocks::F;
+use math_fields::goldilocks::F;
 use rand_core::{CryptoRng, Rng};
 use std::alloc::Global;
 

@@ -1,4 +1,7 @@
 //! Bytes as letters, and back.
+//!
+//! There are 16 letters, two for each byte, and not 32: so of letters that are mistaken for each
+//! other at most one is among them. Lines are a third longer than they need be.
 
 ghost use Rattle.std.specs.Prelude.{◌≡◌, ◌≢◌, ◌<◌, ◌/◌, ◌%◌, ◌++◌, ◌∷◌, ℕ, List, All, true, IfOk, IfSome, IfNone, OnOk};
 ghost use Rattle.secret_bytes.specs.Letters.{letter, gap, grouped};

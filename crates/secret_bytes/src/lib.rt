@@ -19,8 +19,8 @@ mod keyed;
 pub mod laws;
 mod letters;
 mod line;
+mod one_deal;
 mod reading;
-mod settling;
 mod share;
 mod text;
 

@@ -1,8 +1,12 @@
 //! The line of a share.
+//!
+//! The check of a line is a value of the polynomial whose coefficients are its characters, dashes
+//! too. A slip of the hand is then seen whatever it does to the groups, and the proof says nothing
+//! of groups.
 
 ghost use Rattle.std.specs.Prelude.{◌≡◌, ◌≢◌, ◌↔◌, ◌⊎◌, ◌<◌, ◌^◌, ◌++◌, ℕ, List, length, true, codes, alloc_error, IfOk, IfErr, IfSome, IfNone, MatchResult};
 ghost use Rattle.math_codec.specs.Faults as Faults;
-ghost use Rattle.math_base.specs.Elements.{number};
+ghost use Rattle.math_fields.specs.Elements.{number};
 ghost use Rattle.secret_bytes.specs.SecretShares.{AdmitsShare, AreSameShares};
 ghost use Rattle.secret_bytes.specs.Letters.{grouped};
 ghost use Rattle.secret_bytes.specs.LineChecks.{check_bytes, check_value};
@@ -12,8 +16,8 @@ ghost use Rattle.secret_bytes.specs.declared.line.LineError.TheVariants.{Memory,
 
 use crate::letters::{bytes_in_front, push_grouped, ungrouped};
 use crate::share::{MOST_VALUES, SecretShare};
-use math_base::fields::goldilocks::F;
 use math_codec::codec::{Error, Mem, Read, Write, decode};
+use math_fields::goldilocks::F;
 use std::alloc::{AllocError, AllocFailed, Global};
 use thiserror::Error;
 

@@ -7,11 +7,11 @@ ghost use Rattle.std.specs.Prelude.{◌≡◌, ◌<◌, ◌^◌, ◌++◌, lengt
 ghost use Rattle.secret_bytes.specs.SecretShares.{share_spelling, AreSameShares, AdmitsShare, scan_share, ShareGrows};
 ghost use Rattle.secret_bytes.specs.SecretShareLaws.{share_again, share_apart};
 
-use math_base::fields::goldilocks::F;
 use math_codec::codec::{
     Encoding, Error, LengthRange, Mem, Read, Write, read_len, read_list, roll_back, write_len,
     write_list,
 };
+use math_fields::goldilocks::F;
 use std::alloc::Global;
 
 /// The greatest number of values of a share.

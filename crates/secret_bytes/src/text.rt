@@ -1,4 +1,7 @@
 //! Lines of shares.
+//!
+//! If something stands behind a whole share, `read_lines` may also refuse it as `Mistyped`: no
+//! clause tells this from `Behind`.
 
 ghost use Rattle.std.specs.Prelude.{◌≡◌, ◌+◌, ◌<◌, ◌≤◌, ◌^◌, ◌∷◌, ◌⊎◌, length, take, alloc_error, All, IfOk, IfErr, IfSome, IfNone};
 ghost use Rattle.secret_bytes.specs.declared.line.LineError.TheVariants.{Memory};

@@ -9,11 +9,11 @@ use Rattle.secret_bytes.specs.declared.error.CombineError.TheVariants as combine
 use Rattle.secretshares_commands.specs.declared.fault.Fault.{Fault}
 use Rattle.secretshares_commands.specs.declared.fault.Fault.TheVariants.{Combine, Line, Memory, Share, TooGreat}
 
--- the threshold and the index are at most 255, as those of each share that the program deals
+-- the threshold and the index are at most 255, as in each share that the program deals
 abbrev pub CanBeDealt : SecretShare → Type 0
 CanBeDealt s = (s.threshold ≤ 255) × (s.index ≤ 255)
 
--- the bytes are those that the shares of the text's lines combine to, each of which can be one that the program dealt
+-- the bytes are what the shares of the text's lines combine to, each of which can be one that the program dealt
 abbrev pub IsAnswerTo : List ℕ → List ℕ → Type 0
 IsAnswerTo text bytes = (shares : List SecretShare) × (numbers : List ℕ) × (wrong : List ℕ) × AreReadAs text shares numbers × All CanBeDealt shares × AreCombined shares bytes wrong
 

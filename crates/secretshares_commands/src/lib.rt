@@ -3,6 +3,10 @@
 //! `secretshares deal T N` reads the secret's bytes from standard input and prints N lines, a share
 //! each; `secretshares combine` reads such lines from standard input and prints exactly the bytes.
 //! No secret and no share is taken from the words.
+//!
+//! `combine` leaves wrong shares out, names them on standard error, and ends with status 0: what
+//! comes out fits its check under the key. Of just T shares one that is wrong is refused by that
+//! check.
 #![tactic(auto)]
 
 mod calls;

@@ -4,7 +4,7 @@ use Rattle.std.specs.List.{All}
 use Rattle.std.proofs.lemmas.List.{get_or-map, get_or_default, length-map}
 use Rattle.std.proofs.lemmas.List.Elements.{All-cons}
 use Rattle.std.proofs.lemmas.List.FromFn.{get_or-range_with_len, length-range_with_len}
-use Rattle.math_base.proofs.BitFronts.{pieces_below}
+use Rattle.math_fields.proofs.BitFronts.{pieces_below}
 use Rattle.math_numbers.specs.Bits.{cut, piece_count}
 use Rattle.math_numbers.proofs.BitLists.{joined-are_bits, length-joined}
 use Rattle.math_numbers.proofs.BitPieces.{length-cut}

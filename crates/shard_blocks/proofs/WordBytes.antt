@@ -12,7 +12,7 @@ use Rattle.std.specs.Simd.{first_chunks}
 use Rattle.math_numbers.specs.Bits.{IsBit, bits, bits-zero, cut, joined, piece_count}
 use Rattle.math_numbers.proofs.BitLists.{bits-add, bits-mod, bits-of_zero, joined-append, length-joined}
 use Rattle.math_numbers.proofs.BitPieces.{cut-of_joined, joined-cut, piece_count-enough, piece_count-least}
-use Rattle.math_base.proofs.BitFronts.{pieces_below}
+use Rattle.math_fields.proofs.BitFronts.{pieces_below}
 
 -- the lowest k bytes of n, the lowest first
 abbrev low_bytes : ℕ → ℕ → List ℕ

@@ -22,7 +22,7 @@ JoinToBlock bytes shards = AreBytes bytes × JoinTo (words_of_bytes bytes) shard
 abbrev pub IsBlockDue : List Shard → Error → Type 0
 IsBlockDue = IsDueFor HaveConflict distinct_indices JoinToBlock
 
--- the answer is the error only where it is due; and there it is, or memory ran out
+-- shards of a block are refused with the error only where it is due; and where it is due, they are, or memory ran out
 abbrev pub RefusesBlockExactly : {X : Type 0} → Result X Error → List Shard → Error → Type 0
 RefusesBlockExactly result shards = RefusesWhereDue result (IsBlockDue shards)
 
@@ -44,7 +44,8 @@ ChosenShardsGiveBlock =
     (bytes : List ℕ) (min total : ℕ) (shards chosen : List Shard) → AreBytes bytes → 1 ≤ min → min ≤ total → total < 2 ^ 32
     → AreShardsOf (words_of_bytes bytes) min total shards → All (IsSameAsOne shards) chosen → min ≤ distinct_indices total chosen → JoinToBlock bytes chosen
 
--- a shard of the block that some shards give back is the same as the one of its index among those that these were taken of: so lost shards come back
+-- lost shards come back: a shard of the block that some shards give back is the same as the one of its index among the shards that these
+-- were taken from
 abbrev pub LostShardsComeBack : Type 0
 LostShardsComeBack =
     (bytes other : List ℕ) (min total : ℕ) (shards chosen : List Shard) (s : Shard) → AreBytes bytes → 1 ≤ min → min ≤ total → total < 2 ^ 32

@@ -13,7 +13,8 @@ use Rattle.shard_blocks.specs.BlockWords.{AreBytes, words_of_bytes}
 abbrev pub CorrectToBlock : List ℕ → List Shard → Type 0
 CorrectToBlock bytes shards = AreBytes bytes × CorrectTo (words_of_bytes bytes) shards
 
--- and the positions those of the shards that are not shards of the block
+-- the bytes are the block of the shards, of which some are wrong, and the positions are the positions of the shards that are not shards of
+-- the block
 abbrev pub AreCorrectedBlock : List ℕ → List ℕ → List Shard → Type 0
 AreCorrectedBlock bytes positions shards = AreBytes bytes × AreCorrected (words_of_bytes bytes) positions shards
 
@@ -21,7 +22,7 @@ AreCorrectedBlock bytes positions shards = AreBytes bytes × AreCorrected (words
 abbrev pub IsBlockDueCorrecting : List Shard → Error → Type 0
 IsBlockDueCorrecting = IsDueFor (λ _. ⊥) settled_indices CorrectToBlock
 
--- the answer is the error only where it is due; and there it is, or memory ran out
+-- shards that are corrected to a block are refused with the error only where it is due; and where it is due, they are, or memory ran out
 abbrev pub RefusesBlockCorrecting : {X : Type 0} → Result X Error → List Shard → Error → Type 0
 RefusesBlockCorrecting result shards = RefusesWhereDue result (IsBlockDueCorrecting shards)
 

@@ -13,7 +13,7 @@ ghost use Rattle.shard_blocks.specs.BlockWords.{words_of_bytes};
 ghost use Rattle.shard_blocks.specs.Blocks.{AreByteRows, AreRowsRefused, DoRowsJoinTo};
 ghost use Rattle.shard_blocks.specs.Blocks.{IsBlockDue, JoinToBlock, RefusesBlockExactly};
 
-use crate::words::{block_in, block_size, source_of, write_block};
+use crate::words::{block_in, block_size, block_source, write_block};
 use math_base::algebra::Mem;
 use math_shards::shards::{
     Error, Room, Shard, join_cells, join_packed, shard_width, split_source, split_source_rows,
@@ -39,7 +39,7 @@ pub fn split_block(alloc: Global, bytes: &[u8], min: u32, total: u32) -> Mem<Vec
     ensures { IfOk result
         (λ shards. AreShardsOf (words_of_bytes bytes.now) min total shards.items) }
 {
-    let shards = split_source(alloc, &source_of(bytes), min, total)?;
+    let shards = split_source(alloc, &block_source(bytes), min, total)?;
     Ok(shards)
 }
 
@@ -70,7 +70,7 @@ pub fn split_block_rows(
     ensures ok { OnOk result (AreByteRows bytes.now min total out.new) }
     ensures err { OnErr result (out.new ≡ out.old) }
 {
-    split_source_rows(alloc, &source_of(bytes), min, total, out)?;
+    split_source_rows(alloc, &block_source(bytes), min, total, out)?;
     Ok(())
 }
 
@@ -107,7 +107,7 @@ pub fn split_block_rows_at<R: Room>(
         (R.words out.new)) }
     ensures err { OnErr result (out.new ≡ out.old) }
 {
-    split_source_rows_at(alloc, &source_of(bytes), min, total, indices, out)?;
+    split_source_rows_at(alloc, &block_source(bytes), min, total, indices, out)?;
     Ok(())
 }
 

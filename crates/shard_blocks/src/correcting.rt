@@ -1,4 +1,7 @@
 //! Shards to blocks, where some shards are wrong.
+//!
+//! No shard is left out by trial: one call of `join_corrected` corrects as many shards as any
+//! could.
 
 ghost use Rattle.std.specs.Prelude.{◌≡◌, ℕ, List, IfOk, IfErr, MatchResult};
 ghost use Rattle.math_shards.specs.Joining.{IsMemory};
@@ -45,11 +48,11 @@ pub fn join_block_corrected(alloc: Global, shards: &[Shard]) -> Result<JoinedBlo
     ensures conflict { RefusesBlockCorrecting result shards.now Conflict }
     ensures inconsistent { RefusesBlockCorrecting result shards.now Inconsistent }
 {
-    corrected_block(alloc, shards)
+    correct_to_block(alloc, shards)
 }
 
 /// The block of the shards and the positions of those that are left out, or what is wrong.
-fn corrected_block(alloc: Global, shards: &[Shard]) -> Result<JoinedBlock, Error>
+fn correct_to_block(alloc: Global, shards: &[Shard]) -> Result<JoinedBlock, Error>
     ensures ok { IfOk result (λ j. AreCorrectedBlock j.bytes.items j.left_out.items shards.now) }
     ensures err { IfErr result (IsBlockDueCorrecting shards.now) }
 {

@@ -17,7 +17,7 @@ const RUN: usize = 63;
 
 /// The number of the bytes, and then the bytes, eight a word, the lowest first, with zeros after
 /// the last. They are read from the bytes as they are wanted.
-pub(crate) fn source_of<'a>(bytes: &'a [u8]) -> Source<'a, [u8; 8]>
+pub(crate) fn block_source<'a>(bytes: &'a [u8]) -> Source<'a, [u8; 8]>
     ensures { words_in (from_le_bytes w64) result ≡ words_of_bytes bytes.now }
 {
     let (words, rest) = bytes.as_chunks::<8>();
@@ -88,7 +88,7 @@ pub(crate) fn write_block(packed: &PackedData, out: &mut [u8])
 {
     let whole = out.len() / 8;
     let (front, rest) = out.split_at_mut(8 * whole);
-    write_words(packed, whole, front);
+    write_block_words(packed, whole, front);
     let last = packed.word(1 + whole).to_le_bytes();
     rest.copy_from_slice(&last[..rest.len()]);
 }
@@ -97,7 +97,7 @@ pub(crate) fn write_block(packed: &PackedData, out: &mut [u8])
 /// first.
 ///
 /// Some words at a time are unpacked to the stack.
-fn write_words(packed: &PackedData, count: usize, bytes: &mut [u8])
+fn write_block_words(packed: &PackedData, count: usize, bytes: &mut [u8])
     requires { length bytes.old ≡ 8 * count }
     ensures { (words : List ℕ) → HoldsWords words packed.now → 1 + count ≤ length words
         → bytes.new ≡ flat_map (to_le_bytes w64) (take count (drop 1 words)) }

@@ -7,7 +7,7 @@ use crate::fault::Fault;
 use crate::names::{name_before_number, shard_name};
 use crate::sources::{IMPOSSIBLE_HEADER, ShardFile, is_shard_file};
 use crate::split::Split;
-use crate::wanted::{Wanted, distinct, numbers_there};
+use crate::wanted::{WantedFiles, distinct, numbers_there};
 use crate::writer::MOST_KEPT_OPEN;
 use partial_files::fault::owned;
 use shard_format::header::{Header, Verdict};
@@ -15,10 +15,14 @@ use shard_format::splits::{Choice, chosen_split};
 use std::alloc::{AllocError, Global};
 
 /// Adds the files that are meant, by rising numbers; those with no number come first.
-fn open_files(rt: &HostRuntime, wanted: &Wanted, files: &mut Vec<ShardFile>) -> Result<(), Fault> {
+fn open_files(
+    rt: &HostRuntime,
+    wanted: &WantedFiles,
+    files: &mut Vec<ShardFile>,
+) -> Result<(), Fault> {
     match wanted {
-        Wanted::Beside(file) => open_beside(rt, file, files),
-        Wanted::Named(names) => open_named(rt, names, files),
+        WantedFiles::Beside(file) => open_beside(rt, file, files),
+        WantedFiles::Named(names) => open_named(rt, names, files),
     }
 }
 
@@ -72,7 +76,7 @@ fn leave_out_others(file: &mut ShardFile, split: &Header) {
 /// as its header says or longer: then its last block is in none.
 pub fn gather(
     rt: &HostRuntime,
-    wanted: &Wanted,
+    wanted: &WantedFiles,
     files: &mut Vec<ShardFile>,
     may_end_before: bool,
 ) -> Result<Split, Fault>
@@ -85,7 +89,7 @@ pub fn gather(
     let split = split_of(rt, wanted, files)?;
     for shard in files.iter_mut() {
         leave_out_others(shard, &split.header);
-        if matches!(wanted, Wanted::Named(_)) && !shard.is_used() {
+        if matches!(wanted, WantedFiles::Named(_)) && !shard.is_used() {
             shard.number = None;
         }
     }
@@ -100,7 +104,7 @@ pub fn gather(
 }
 
 /// The split that the files give.
-fn split_of(rt: &HostRuntime, wanted: &Wanted, files: &[ShardFile]) -> Result<Split, Fault>
+fn split_of(rt: &HostRuntime, wanted: &WantedFiles, files: &[ShardFile]) -> Result<Split, Fault>
     ensures { IfOk result (λ split. IsPossible split.header) }
 {
     let headers = headers_of(rt.alloc(), files)?;
@@ -117,7 +121,7 @@ fn split_of(rt: &HostRuntime, wanted: &Wanted, files: &[ShardFile]) -> Result<Sp
 /// The fault of files of two splits, of which equally many are there.
 fn tie(
     alloc: Global,
-    wanted: &Wanted,
+    wanted: &WantedFiles,
     files: &[ShardFile],
     one: &Header,
     other: &Header,
@@ -131,9 +135,9 @@ fn tie(
 
 /// The fault of files of which none counts. Where the name that is meant is that of a shard file,
 /// it says what is to be given in its place.
-fn no_shard(rt: &HostRuntime, wanted: &Wanted) -> Result<Fault, Fault> {
+fn no_shard(rt: &HostRuntime, wanted: &WantedFiles) -> Result<Fault, Fault> {
     let label = owned(rt.alloc(), wanted.label())?;
-    let Wanted::Beside(name) = wanted else {
+    let WantedFiles::Beside(name) = wanted else {
         return Ok(Fault::NoShard(label));
     };
     if let Some(file) = file_of_shard(rt, name)? {
@@ -235,7 +239,7 @@ pub fn count_there(files: &[ShardFile]) -> usize {
 /// Refuses where fewer shards of the split are there than give the file back.
 pub fn check_count(
     alloc: Global,
-    wanted: &Wanted,
+    wanted: &WantedFiles,
     split: &Split,
     files: &[ShardFile],
 ) -> Result<(), Fault> {

@@ -1,13 +1,16 @@
 //! What is known of a split, and the sizes of its blocks, its shards and its files.
+//!
+//! `Split` is a header with three of the facts of `IsPossible`: its callers need these, and a new
+//! split needs no proof of the others. `gather` says all of them.
 
 ghost use Rattle.std.specs.Prelude.{◌≡◌, ◌≢◌, ◌<◌, ◌≤◌, ℕ, List, length, IfOk, IfSome};
-ghost use Rattle.math_base.specs.Elements.{number};
+ghost use Rattle.math_fields.specs.Elements.{number};
 ghost use Rattle.math_splitting.specs.Shards.{width_for};
 ghost use Rattle.shard_blocks.specs.BlockWords.{words_of_bytes};
 ghost use Rattle.shard_format.specs.Splits.{IsPossible};
 
 use crate::fault::Fault;
-use math_base::fields::goldilocks::{F, MODULUS};
+use math_fields::goldilocks::{F, MODULUS};
 use shard_blocks::cells_for;
 use shard_fingerprints::Keys;
 use shard_format::header::Header;

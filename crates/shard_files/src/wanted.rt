@@ -11,27 +11,27 @@ use std::io::ErrorKind;
 
 /// Which shard files are meant.
 #[derive(Clone, Copy)]
-pub enum Wanted<'a> {
+pub enum WantedFiles<'a> {
     /// Those that lie beside the file, under the names of its shards.
     Beside(&'a str),
     /// Those with these names, of whichever shards they are.
     Named(&'a [&'a str]),
 }
 
-impl<'a> Wanted<'a> {
+impl<'a> WantedFiles<'a> {
     /// What refusals call them.
     pub fn label(&self) -> &'a str {
         match self {
-            Wanted::Beside(file) => file,
-            Wanted::Named(_) => "these shard files",
+            WantedFiles::Beside(file) => file,
+            WantedFiles::Named(_) => "these shard files",
         }
     }
 
     /// What a shard is called that is not there.
     pub fn missing(&self, alloc: Global, number: u32) -> Result<String, AllocError> {
         match self {
-            Wanted::Beside(file) => shard_name(alloc, file, number),
-            Wanted::Named(_) => format!(in alloc; "shard {number}"),
+            WantedFiles::Beside(file) => shard_name(alloc, file, number),
+            WantedFiles::Named(_) => format!(in alloc; "shard {number}"),
         }
     }
 }

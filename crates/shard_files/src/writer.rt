@@ -4,7 +4,7 @@ ghost use Rattle.std.specs.Prelude.{◌≡◌, ◌+◌, ◌*◌, ◌<◌, ◌≤
 
 use crate::fault::Fault;
 use crate::split::Split;
-use math_base::fields::goldilocks::F;
+use math_fields::goldilocks::F;
 use partial_files::finishing::{folders_of, name_all, remove_all};
 use partial_files::names::MOST_FILES;
 use partial_files::partial::{Manner, Partial};

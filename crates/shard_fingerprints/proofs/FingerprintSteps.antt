@@ -4,9 +4,9 @@ use Rattle.std.proofs.lemmas.List.{drop_more}
 use Rattle.math_numbers.specs.Goldilocks.{P}
 use Rattle.math_theory.specs.ModuleLaws.{ring_is_module}
 use Rattle.math_theory.proofs.polynomials.Horner.{value_over-cons}
-use Rattle.math_base.specs.declared.fields.goldilocks.F.{F}
-use Rattle.math_base.specs.Elements.{number, sum, product}
-use Rattle.math_base.specs.ElementLaws.{equality, group, commutes, ring}
+use Rattle.math_fields.specs.declared.goldilocks.F.{F}
+use Rattle.math_fields.specs.Elements.{number, sum, product}
+use Rattle.math_fields.specs.ElementLaws.{equality, group, commutes, ring}
 use Rattle.shard_fingerprints.specs.Fingerprints.{fingerprint}
 
 more : (words : List F) (i : ℕ) (key word value scaled : F) (after : ℕ) → i < length words → get_or words i word ≡ word

@@ -6,9 +6,9 @@ use Rattle.math_theory.specs.ModuleLaws.{ring_is_module}
 use Rattle.math_theory.proofs.classes.RingUpToSame.{ring_same}
 use Rattle.math_theory.proofs.polynomials.Horner.{value_over-cons}
 use Rattle.math_theory.proofs.rings.Normal.{◌⊕◌, ◌⊗◌, v0, v1, v2, v3, v4, v5}
-use Rattle.math_base.specs.declared.fields.goldilocks.F.{F}
-use Rattle.math_base.specs.Elements.{number, same, sum, product}
-use Rattle.math_base.specs.ElementLaws.{equality, group, commutes, ring}
+use Rattle.math_fields.specs.declared.goldilocks.F.{F}
+use Rattle.math_fields.specs.Elements.{number, same, sum, product}
+use Rattle.math_fields.specs.ElementLaws.{equality, group, commutes, ring}
 use Rattle.shard_fingerprints.specs.EqualElements.{element_equal}
 use Rattle.shard_fingerprints.specs.declared.fingerprints.Powers.{Powers}
 use Rattle.shard_fingerprints.specs.FourWords.{AreKeyPowers, words_before}

@@ -6,10 +6,10 @@ use Rattle.math_theory.specs.Powers.{power-zero, power-suc}
 use Rattle.math_theory.specs.Sums.{weighted_sum}
 use Rattle.math_theory.specs.Values.{value_from}
 use Rattle.math_theory.proofs.polynomials.BuiltPolynomials.{value-joined}
-use Rattle.math_base.specs.declared.fields.goldilocks.F.{F}
-use Rattle.math_base.specs.Elements.{residue, sum, product}
-use Rattle.math_base.specs.ElementLaws.{equality, group, commutes, ring}
-use Rattle.math_base.proofs.ElementNumbers.{same_number}
+use Rattle.math_fields.specs.declared.goldilocks.F.{F}
+use Rattle.math_fields.specs.Elements.{residue, sum, product}
+use Rattle.math_fields.specs.ElementLaws.{equality, group, commutes, ring}
+use Rattle.math_fields.proofs.ElementNumbers.{same_number}
 use Rattle.math_values.specs.Values.{ArePowersOf}
 use Rattle.math_values.proofs.BlockValues.{power_of}
 use Rattle.shard_fingerprints.specs.Fingerprints.{fingerprint}

@@ -2,8 +2,8 @@
 use Rattle.std.specs.Prelude.{◌≡◌, ◌<◌, ◌≤◌, ◌-◌, ◌++◌, ℕ, List, ◌∷◌, length, slice_index_or, All}
 use Rattle.math_theory.specs.Interpolation.{AreApart}
 use Rattle.math_theory.specs.Values.{value}
-use Rattle.math_base.specs.declared.fields.goldilocks.F.{F}
-use Rattle.math_base.specs.Elements.{residue, same, sum, product}
+use Rattle.math_fields.specs.declared.goldilocks.F.{F}
+use Rattle.math_fields.specs.Elements.{residue, same, sum, product}
 use Rattle.math_base.specs.Members.{RingOf}
 use Rattle.math_base.specs.Polynomials.{value_in_ring}
 use Rattle.shard_fingerprints.specs.declared.pairs.Fingerprints.{Fingerprints}

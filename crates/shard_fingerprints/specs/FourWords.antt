@@ -1,10 +1,10 @@
 -- Four words at a time.
 use Rattle.std.specs.Prelude.{List, [], ◌∷◌}
-use Rattle.math_base.specs.declared.fields.goldilocks.F.{F}
-use Rattle.math_base.specs.Elements.{same, sum, product}
+use Rattle.math_fields.specs.declared.goldilocks.F.{F}
+use Rattle.math_fields.specs.Elements.{same, sum, product}
 use Rattle.shard_fingerprints.specs.declared.fingerprints.Powers.{Powers}
 
--- these are the key, its square, and the square of that
+-- these are the key, its square, and the square of its square
 pub record AreKeyPowers (key : F) (powers : Powers) : Type 0 where
   pub first : same powers.key key
   pub second : same powers.square (product powers.key powers.key)

@@ -2,8 +2,8 @@
 use Rattle.std.specs.Prelude.{◌≡◌, ◌≢◌, ◌<◌, ◌≤◌, ◌-◌, ◌*◌, ◌^◌, ℕ, Bool, ◌==◌, ◌&&◌, List, length, take, map, flat_map, count_by}
 use Rattle.math_numbers.specs.Goldilocks.{P}
 use Rattle.math_theory.specs.Interpolation.{AreApart}
-use Rattle.math_base.specs.declared.fields.goldilocks.F.{F}
-use Rattle.math_base.specs.Elements.{number, residue, same, sum}
+use Rattle.math_fields.specs.declared.goldilocks.F.{F}
+use Rattle.math_fields.specs.Elements.{number, residue, same, sum}
 use Rattle.shard_fingerprints.specs.Fingerprints.{cell_words, fingerprint}
 
 -- both lists of words have one fingerprint under the key
@@ -28,11 +28,11 @@ abbrev pub DamageIsMissedRarely : Type 0
 DamageIsMissedRarely = (p q firsts seconds : List F) → length p ≡ length q → length p ≤ 2 ^ 18 → p ≢ q → AreApart same firsts → AreApart same seconds
     → length firsts ≡ P - 1 → length seconds ≡ P - 1 → 2 ^ 90 * agreeing_pairs p q firsts seconds ≤ length (pairs_of firsts seconds)
 
--- the fingerprint of p under the key with d added to it is that of q
+-- the fingerprint of p under the key with d added to it is the fingerprint of q
 abbrev pub agree_with : F → List F → List F → F → Bool
 agree_with d p q key = number (sum (fingerprint p key) d) == number (fingerprint q key)
 
--- under how many of these pairs of keys the fingerprints of p with d and e added to them are those of q
+-- under how many of these pairs of keys the fingerprints of p with d and e added to them are the fingerprints of q
 abbrev pub agreeing_pairs_with : F → F → List F → List F → List F → List F → ℕ
 agreeing_pairs_with d e p q firsts seconds = count_by (λ keys. agree_with d p q keys.0 && agree_with e p q keys.1) (pairs_of firsts seconds)
 
@@ -45,7 +45,8 @@ abbrev pub FewPairsFit : Type 0
 FewPairsFit = (p q firsts seconds : List F) (d e : F) → length p ≡ length q → take 1 p ≡ take 1 q → AreChanged p q d e → AreApart same firsts → AreApart same seconds
     → agreeing_pairs_with d e p q firsts seconds ≤ (length p - 1) * (length p - 1)
 
--- so of all pairs of P - 1 distinct first and P - 1 distinct second keys they fit under at most one of 2^90, where there are at most 2^18 words
+-- where at most 2^18 words with one first word, their fingerprints or both are changed, by what does not depend on the keys, the
+-- fingerprints fit under at most one of 2^90 of all pairs of P - 1 distinct first and P - 1 distinct second keys
 abbrev pub ChangesAreMissedRarely : Type 0
 ChangesAreMissedRarely = (p q firsts seconds : List F) (d e : F) → length p ≡ length q → length p ≤ 2 ^ 18 → take 1 p ≡ take 1 q → AreChanged p q d e → AreApart same firsts → AreApart same seconds
     → length firsts ≡ P - 1 → length seconds ≡ P - 1 → 2 ^ 90 * agreeing_pairs_with d e p q firsts seconds ≤ length (pairs_of firsts seconds)

@@ -9,7 +9,7 @@ ghost use Rattle.std.specs.Prelude.{◌≡◌, length};
 ghost use Rattle.math_values.specs.Values.{ArePowersOf};
 ghost use Rattle.shard_fingerprints.specs.Fingerprints.{fingerprint};
 
-use math_base::fields::goldilocks::F;
+use math_fields::goldilocks::F;
 use math_values::sums::sum_of_products;
 
 /// How many words are a block.

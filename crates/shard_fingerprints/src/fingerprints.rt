@@ -1,12 +1,12 @@
 //! The fingerprint of a list of words.
 
 ghost use Rattle.std.specs.Prelude.{◌≡◌, [], ◌∷◌};
-ghost use Rattle.math_base.specs.Elements.{number};
+ghost use Rattle.math_fields.specs.Elements.{number};
 ghost use Rattle.shard_fingerprints.specs.FourWords.{AreKeyPowers, words_before};
 ghost use Rattle.shard_fingerprints.specs.Fingerprints.{fingerprint};
 
 use crate::blocks::{BLOCK, by_blocks};
-use math_base::fields::goldilocks::F;
+use math_fields::goldilocks::F;
 
 /// From so many words on the powers of a key for blocks take less time than they save.
 const LONG: usize = 3 * BLOCK;
@@ -49,7 +49,7 @@ impl Powers {
 }
 
 /// The fingerprint of the words under the key, by Horner's rule, four words at a time.
-fn by_fours(words: &[F], key: F) -> F
+fn fingerprint_by_horner(words: &[F], key: F) -> F
     ensures { number result ≡ number (fingerprint words.now key) }
 {
     let powers = Powers::of(key);
@@ -75,7 +75,7 @@ pub fn fingerprint(words: &[F], key: F) -> F
     ensures { number result ≡ number (fingerprint words.now key) }
 {
     if words.len() < LONG {
-        by_fours(words, key)
+        fingerprint_by_horner(words, key)
     } else {
         by_blocks(words, key)
     }

@@ -1,11 +1,11 @@
 //! Two keys, and the two fingerprints under them.
 
 ghost use Rattle.std.specs.Prelude.{◌≡◌, ◌↔◌, IsTrue};
-ghost use Rattle.math_base.specs.Elements.{number};
+ghost use Rattle.math_fields.specs.Elements.{number};
 ghost use Rattle.shard_fingerprints.specs.Fingerprints.{AreSameFingerprints, cell_words, fingerprint};
 
 use crate::fingerprints::fingerprint;
-use math_base::fields::goldilocks::F;
+use math_fields::goldilocks::F;
 
 /// Two keys: any two elements, of which neither is zero where they are drawn for a split.
 #[derive(Clone, Copy, Debug)]

@@ -3,7 +3,7 @@ use Rattle.std.proofs.Common.{◌≡◌, ℕ, ◌<◌, ◌≤◌, List, [], ◌�
 use Rattle.std.proofs.Math.Seq.{take-append_seam}
 use Rattle.std.proofs.lemmas.List.{drop_at, take-append-drop}
 use Rattle.std.specs.List.{IsSplitAt}
-use Rattle.math_base.specs.declared.fields.goldilocks.F.{F}
+use Rattle.math_fields.specs.declared.goldilocks.F.{F}
 use Rattle.shard_fingerprints.specs.declared.pairs.Fingerprints.{Fingerprints}
 use Rattle.shard_format.specs.declared.header.Header.{Header}
 use Rattle.shard_format.specs.Records.{AreCellsThatFit, HaveFingerprints}

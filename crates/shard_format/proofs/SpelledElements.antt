@@ -6,9 +6,9 @@ use Rattle.std.proofs.lemmas.Nat.{be_bytes_8, from_be_bytes-to_be_bytes_8}
 use Rattle.std.specs.Int.{from_be_bytes, to_be_bytes, w64}
 use Rattle.std.specs.Simd.{first_chunks}
 use Rattle.math_numbers.specs.Goldilocks.{P}
-use Rattle.math_base.specs.declared.fields.goldilocks.F.{F}
-use Rattle.math_base.specs.Elements.{number}
-use Rattle.math_base.specs.ElementEncodingLaws.{element_apart}
+use Rattle.math_fields.specs.declared.goldilocks.F.{F}
+use Rattle.math_fields.specs.Elements.{number}
+use Rattle.math_fields.specs.ElementEncodingLaws.{element_apart}
 use Rattle.shard_fingerprints.specs.EqualElements.{element_equal}
 use Rattle.shard_format.specs.Records.{element_spelling, elements_spelling}
 

@@ -6,8 +6,8 @@ use Rattle.std.proofs.lemmas.List.{drop_at}
 use Rattle.math_numbers.specs.Goldilocks.{P}
 use Rattle.math_codec.specs.Encodings.{ReadsAgain, SpellsApart}
 use Rattle.math_codec.specs.WordLaws.{word_again, word_in_front-spelled, word_apart}
-use Rattle.math_base.specs.declared.fields.goldilocks.F.{F}
-use Rattle.math_base.specs.Elements.{number}
+use Rattle.math_fields.specs.declared.goldilocks.F.{F}
+use Rattle.math_fields.specs.Elements.{number}
 use Rattle.shard_fingerprints.specs.declared.pairs.Keys.{Keys}
 use Rattle.shard_fingerprints.specs.Fingerprints.{fingerprint}
 use Rattle.shard_format.specs.declared.header.Header.{Header}

@@ -4,8 +4,8 @@ use Rattle.std.specs.Int.{to_be_bytes, w64}
 use Rattle.math_numbers.specs.Goldilocks.{P}
 use Rattle.math_codec.specs.Faults.{Fault, Invalid, ◌>>=◌}
 use Rattle.math_codec.specs.Words.{scan_word, word_in_front}
-use Rattle.math_base.specs.declared.fields.goldilocks.F.{F}
-use Rattle.math_base.specs.Elements.{number, residue}
+use Rattle.math_fields.specs.declared.goldilocks.F.{F}
+use Rattle.math_fields.specs.Elements.{number, residue}
 use Rattle.shard_fingerprints.specs.Fingerprints.{fingerprint}
 use Rattle.shard_fingerprints.specs.declared.pairs.Keys.{Keys}
 use Rattle.shard_format.specs.declared.header.Header.{Header}
@@ -48,11 +48,11 @@ fingerprints_spelling keys words = to_be_bytes w64 (number (fingerprint words ke
 abbrev pub words_spelling : Header → List ℕ
 words_spelling h = beginning_spelling h.index ++ (split_spelling h.min h.total h.block h.length ++ keys_spelling h.keys)
 
--- a header is spelled by these words, and their fingerprints
+-- a header is spelled by its words before the fingerprints, and by their fingerprints
 abbrev pub header_spelling : Header → List ℕ
 header_spelling h = words_spelling h ++ fingerprints_spelling h.keys (header_words h)
 
--- the numbers are such as their types can say, the length is below P, and neither key is zero
+-- the numbers fit their types, the length is below P, and neither key is zero
 pub record AdmitsHeader (h : Header) : Type 0 where
   pub index_fits : h.index < 2 ^ 32
   pub min_fits : h.min < 2 ^ 32
@@ -113,7 +113,7 @@ scan_fingerprints words first second bytes = do
   after_first ← scan_fixed (number (fingerprint words first)) (codes "fingerprint") bytes
   scan_fixed (number (fingerprint words second)) (codes "fingerprint") after_first
 
--- the first words of some bytes, so many
+-- the first n words of some bytes
 unfoldable pub words_in_front : ℕ → List ℕ → List ℕ
 words_in_front zero bytes = []
 words_in_front (suc n) bytes = word_in_front bytes ∷ words_in_front n (drop 8 bytes)
@@ -125,7 +125,8 @@ scan_words bytes = do
   after_length ← scan_split after_index
   scan_keys after_length
 
--- what a read of the fingerprints of a header leaves, or the first fault: they are those of its nine words before, under the last two of these
+-- what a read of the fingerprints of a header leaves, or the first fault: they are the fingerprints of its nine words before, under the
+-- last two of these
 abbrev pub scan_fingerprints_of : List ℕ → List ℕ → Result (List ℕ) Fault
 scan_fingerprints_of words bytes = scan_fingerprints (map residue words) (residue (slice_index_or words 7 0)) (residue (slice_index_or words 8 0)) bytes
 

@@ -3,10 +3,10 @@ use Rattle.std.specs.Prelude.{◌≡◌, ℕ, zero, suc, ◌+◌, ◌-◌, ◌*�
 use Rattle.std.specs.Int.{to_be_bytes, w64}
 use Rattle.std.specs.List.{flat_map}
 use Rattle.math_codec.specs.Lengths.{length_spelling}
-use Rattle.math_base.specs.declared.fields.goldilocks.F.{F}
+use Rattle.math_fields.specs.declared.goldilocks.F.{F}
 use Rattle.shard_fingerprints.specs.declared.pairs.Fingerprints.{Fingerprints}
 use Rattle.shard_fingerprints.specs.Fingerprints.{cell_words, fingerprint}
-use Rattle.math_base.specs.Elements.{number, same}
+use Rattle.math_fields.specs.Elements.{number, same}
 use Rattle.shard_format.specs.Headers.{header_spelling}
 use Rattle.shard_format.specs.declared.header.Header.{Header}
 
@@ -18,16 +18,18 @@ block_count h = (h.length + h.block - 1) / h.block
 abbrev pub block_size : Header → ℕ → ℕ
 block_size h number = min h.block (h.length - number * h.block)
 
--- how many bytes the record of a block has, whose shard has so many cells: those of the shard, which are the index, `min`, `total` and the number of cells, each as a length, and eight a cell; and two words
+-- how many bytes the record of a block has, whose shard has `cells` cells: the index, `min`, `total` and the number of cells, each as a
+-- length, eight bytes a cell, and two words
 abbrev pub record_size : Header → ℕ → ℕ
 record_size h cells =
     length (length_spelling h.index) + length (length_spelling h.min) + length (length_spelling h.total) + length (length_spelling cells) + 8 * cells + 16
 
--- where the record of the block with this number begins, where the shard of a whole block has so many cells: after the header and as many records of whole blocks
+-- where the record of the block with this number begins: after the header and as many records of whole blocks, whose shards have `cells`
+-- cells
 abbrev pub record_place : Header → ℕ → ℕ → ℕ
 record_place h cells number = 88 + number * record_size h cells
 
--- where the records of so many blocks end, where the shard of each but the last has so many cells, and that of the last so many as are given last
+-- where the records of `number` blocks end, where the shard of the last has `last` cells, and the shard of each other one `cells`
 abbrev pub records_end : Header → ℕ → ℕ → ℕ → ℕ
 records_end h cells last zero = 88
 records_end h cells last (suc number) = record_place h cells number + record_size h last
@@ -36,18 +38,18 @@ records_end h cells last (suc number) = record_place h cells number + record_siz
 abbrev pub file_size : Header → ℕ → ℕ → ℕ
 file_size h cells last = records_end h cells last (block_count h)
 
--- the greatest number that a word can say, for each that is greater
+-- a number, and the greatest number of a word in place of each that is greater
 abbrev pub capped : ℕ → ℕ
 capped n = min n (2 ^ 64 - 1)
 
--- the index, `min` and `total` of a shard are those of the header, and it has as many cells as are wanted
+-- the index, `min` and `total` of a shard are the numbers of the header, and it has as many cells as are wanted
 pub record IsShardOfHeader (h : Header) (i m n size wanted : ℕ) : Type 0 where
   pub index : i ≡ h.index
   pub least : m ≡ h.min
   pub most : n ≡ h.total
   pub cells : size ≡ wanted
 
--- the fingerprints are those of the cells of the shard of this block, under the keys of the header
+-- the fingerprints are the fingerprints of the cells of the shard of this block, under the keys of the header
 pub record HaveFingerprints (h : Header) (block : ℕ) (cells : List F) (stored : Fingerprints) : Type 0 where
   pub first : same stored.first (fingerprint (cell_words block h.index cells) h.keys.first)
   pub second : same stored.second (fingerprint (cell_words block h.index cells) h.keys.second)
@@ -64,7 +66,8 @@ elements_spelling elements = flat_map element_spelling elements
 abbrev pub numbers_spelling : Header → ℕ → List ℕ
 numbers_spelling h cells = length_spelling h.index ++ (length_spelling h.min ++ (length_spelling h.total ++ length_spelling cells))
 
--- the elements are so many cells, whatever they are, and then their two fingerprints as those of the shard of this block in the file with this header
+-- the elements are `count` cells, whatever they are, and then their two fingerprints, as for the shard of this block in the file with this
+-- header
 pub record AreCellsThatFit (h : Header) (block count : ℕ) (elements : List F) : Type 0 where
   pub cells : List F
   pub stored : Fingerprints
@@ -96,7 +99,8 @@ pub record BlocksMakeFile (h : Header) : Type 0 where
   pub some : (number : ℕ) → number < block_count h → 1 ≤ block_size h number
   pub none : (number : ℕ) → block_count h ≤ number → block_size h number ≡ 0
 
--- the shard file ends where the record of the last block does, or with the header where there is none; and each record ends there or before, so that its place and size fit a word where the size of the file does
+-- the shard file ends where the record of the last block does, or with the header where there is none; each record ends there or before,
+-- and its place and size fit a word where the size of the file does
 pub record RecordsEndWithFile (h : Header) (cells last : ℕ) : Type 0 where
   pub end : (number : ℕ) → number + 1 ≡ block_count h → file_size h cells last ≡ record_place h cells number + record_size h last
   pub empty : block_count h ≡ 0 → file_size h cells last ≡ length (header_spelling h)

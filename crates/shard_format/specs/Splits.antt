@@ -1,12 +1,12 @@
 -- Which headers belong to one split, and which split some headers give.
 use Rattle.std.specs.Prelude.{◌≡◌, ℕ, ◌*◌, ◌/◌, ◌<◌, ◌≤◌, ◌^◌, min, Bool, ◌==◌, ◌&&◌, List, All, Contains, count_by, Option, Some, None, MatchOption, IfSome}
-use Rattle.math_base.specs.Elements.{number, same}
+use Rattle.math_fields.specs.Elements.{number, same}
 use Rattle.shard_format.specs.declared.header.Header.{Header}
 use Rattle.shard_format.specs.declared.splits.Counted.{Counted}
 use Rattle.shard_format.specs.declared.splits.Choice.{Choice}
 use Rattle.shard_format.specs.declared.splits.Choice.TheVariants as choices
 
--- the greatest number of bytes of a block: 1 MiB, and so many that TOTAL / MIN blocks have 32 MiB at most
+-- the greatest number of bytes of a block: at most 1 MiB, and TOTAL / MIN such blocks have 32 MiB at most
 abbrev pub largest_block : ℕ → ℕ → ℕ
 largest_block least most = min (2 ^ 20) (2 ^ 25 * least / most)
 
@@ -28,13 +28,13 @@ pub record AreOfOneSplit (g h : Header) : Type 0 where
   pub first_key : same g.keys.first h.keys.first
   pub second_key : same g.keys.second h.keys.second
 
--- it is the header of the shard with this number of the split of which the other header is one
+-- a split can have this header, which is the header of the shard with this number in the split of the other header
 pub record IsThatOf (h : Header) (n : ℕ) (s : Header) : Type 0 where
   pub possible : IsPossible h
   pub number : h.index ≡ n
   pub split : AreOfOneSplit h s
 
--- the same as a test
+-- whether both are headers of shards of one file, split in one way, with the same keys
 abbrev pub is_of_split : Header → Header → Bool
 is_of_split g h =
     (g.min == h.min) && (g.total == h.total) && (g.block == h.block) && (g.length == h.length)
@@ -49,13 +49,14 @@ pub record IsEnough (headers : List Header) (h : Header) : Type 0 where
   pub possible : IsPossible h
   pub many : h.min ≤ count_of_split h headers
 
--- this is one of the headers, of its split enough are there, and more than of each other split of which enough are there
+-- this is one of the headers, enough of its split are there, and more than of each other split of which enough are there
 pub record IsMost (headers : List Header) (h : Header) : Type 0 where
   pub there : Contains headers h
   pub enough : IsEnough headers h
   pub most : All (λ g. IsEnough headers g → ¬ (AreOfOneSplit g h) → count_of_split g headers < count_of_split h headers) headers
 
--- these are two of the headers, of different splits, of both of which enough are there, equally many, and of no split of which enough are there more
+-- these are two of the headers, of different splits; of both enough are there, and equally many, and no split of which enough are there has
+-- more
 pub record AreTied (headers : List Header) (g h : Header) : Type 0 where
   pub first_there : Contains headers g
   pub second_there : Contains headers h
@@ -77,32 +78,33 @@ IfTied (choices.Taken h) P = Unit {0}
 IfTied (choices.Tied g h) P = P g h
 IfTied choices.None P = Unit {0}
 
--- where there is none, P holds
+-- where no header is taken and none are tied, P holds
 abbrev pub IfNoSplit : Choice → Type 0 → Type 0
 IfNoSplit (choices.Taken h) P = Unit {0}
 IfNoSplit (choices.Tied g h) P = Unit {0}
 IfNoSplit choices.None P = P
 
--- this is one of the headers, of its split enough are there, and it was counted how many
+-- this is one of the headers, enough of its split are there, and the count is their number
 pub record IsCounted (headers : List Header) (c : Counted) : Type 0 where
   pub there : Contains headers c.header
   pub enough : IsEnough headers c.header
   pub count : c.count ≡ count_of_split c.header headers
 
--- it was counted, and of the splits of the headers that were seen, as far as enough are there, of none more are there
+-- the header was counted, and of no header that was seen has its split more, as far as enough of it are there
 pub record IsLargest (headers seen : List Header) (c : Counted) : Type 0 where
   pub counted : IsCounted headers c
   pub most : All (λ g. IsEnough headers g → count_of_split g headers ≤ c.count) seen
 
--- the same where one was counted; and where none was, of no split of the headers that were seen enough are there
+-- where a header was counted, it is the largest of those that were seen; and where none was, of no header that was seen are enough of its
+-- split there
 abbrev pub IsLargestOf : List Header → List Header → Option Counted → Type 0
 IsLargestOf headers seen best = MatchOption best (All (λ g. ¬ (IsEnough headers g)) seen) (IsLargest headers seen)
 
--- where one was counted, it was counted right
+-- where a header was counted, the count is the number of headers of its split
 abbrev pub IsRightCount : List Header → Option Counted → Type 0
 IsRightCount headers last = IfSome last (λ c. c.count ≡ count_of_split c.header headers)
 
--- how many were counted, or none
+-- the count, and 0 where none was counted
 abbrev pub count_in : Option Counted → ℕ
 count_in (Some c) = c.count
 count_in None = 0

@@ -7,15 +7,15 @@ ghost use Rattle.std.specs.Prelude.{◌≡◌, ◌≢◌, ◌↔◌, ◌<◌, �
 ghost use Rattle.std.specs.Int.{w64, to_be_bytes};
 ghost use Rattle.math_numbers.specs.Goldilocks.{P};
 ghost use Rattle.math_codec.specs.Faults.{Agrees, IsMemory, OnMemory, Reads, scan_exactly};
-ghost use Rattle.math_base.specs.Elements.{number};
+ghost use Rattle.math_fields.specs.Elements.{number};
 ghost use Rattle.shard_format.specs.Headers.{AdmitsHeader, AreNotZero, beginning_spelling, fingerprints_spelling, header_spelling, header_words, keys_spelling, split_spelling, words_spelling};
 ghost use Rattle.shard_format.specs.Headers.{scan_beginning, scan_fingerprints, scan_fixed, scan_header, scan_key, scan_keys, scan_length, scan_number, scan_split, scan_words};
 ghost use Rattle.shard_format.specs.HeaderLaws.{header_again, header_apart};
 ghost use Rattle.shard_format.specs.Splits.{AreOfOneSplit, IsPossible, IsThatOf, is_of_split, largest_block};
 ghost use Rattle.shard_format.specs.declared.header.Verdict.TheVariants.{Fits, Impossible, OtherIndex, OtherSplit};
 
-use math_base::fields::goldilocks::{F, MODULUS};
 use math_codec::codec::{Encoding, Error, Mem, Read, Write, decode, roll_back};
+use math_fields::goldilocks::{F, MODULUS};
 use shard_fingerprints::{Keys, words_fingerprints};
 use std::alloc::Global;
 
@@ -328,7 +328,7 @@ fn write_beginning(alloc: Global, index: u32, out: &mut Vec<u8>) -> Mem<()>
 }
 
 /// Writes a header. What is written stays where memory runs out.
-fn write_words(alloc: Global, header: &Header, out: &mut Vec<u8>) -> Mem<()>
+fn write_header_words(alloc: Global, header: &Header, out: &mut Vec<u8>) -> Mem<()>
     ensures ok { OnOk result (out.new.items ≡ out.old.items ++ header_spelling header.now) }
     ensures kept { take (length out.old.items) out.new.items ≡ out.old.items }
 {
@@ -347,7 +347,7 @@ impl Write for Header {
     /// Writes the eleven words.
     fn write(&self, alloc: Global, out: &mut Vec<u8>) -> Mem<()> {
         let start = out.len();
-        let written = write_words(alloc, self, out);
+        let written = write_header_words(alloc, self, out);
         roll_back(alloc, written, start, out)
     }
 }

@@ -1,6 +1,9 @@
 //! What the format of shard files is by itself: the header, which split the headers that are there
 //! belong to, and the places, sizes and fingerprints of records. No file is touched here; the
 //! program `shardfile` keeps files and messages.
+//!
+//! So contracts can say what the format is, and edits can try it: contracts say nothing of
+//! functions on files.
 #![tactic(auto)]
 
 pub mod header;

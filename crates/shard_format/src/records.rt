@@ -5,13 +5,13 @@
 //! shard of a block has; `shard_blocks` says it.
 
 ghost use Rattle.std.specs.Prelude.{◌≡◌, ◌≢◌, ◌↔◌, ◌<◌, ◌≤◌, ◌^◌, ◌+◌, ◌*◌, ◌++◌, List, length, map, take, OnOk, IsTrue, IsFalse, IfOk, IfSome, IsNone};
-ghost use Rattle.math_base.specs.declared.fields.goldilocks.F.{F};
+ghost use Rattle.math_fields.specs.declared.goldilocks.F.{F};
 ghost use Rattle.shard_format.specs.Records.{AreCellsThatFit, HaveFingerprints, IsRecordOf, IsShardOfHeader, block_count, block_size, capped, element_spelling, elements_spelling, file_size, numbers_spelling, record_place, record_size, record_spelling};
 
 use crate::header::{HEADER_SIZE, Header, write_pair};
 use math_base::algebra::Mem;
-use math_base::fields::goldilocks::{F, MODULUS};
 use math_codec::codec::{len_size, write_len};
+use math_fields::goldilocks::{F, MODULUS};
 use math_splitting::shards::Room;
 use shard_fingerprints::{Fingerprints, cells_fingerprints};
 use std::alloc::{AllocError, Global};

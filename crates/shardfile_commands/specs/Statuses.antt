@@ -15,8 +15,7 @@ code_of Usage = 2
 code_of Lost = 3
 code_of Unknown = 4
 
--- the status of a run of `check` or `repair` that a fault of shard files ends: what says that shards or blocks are lost is told from
--- all that does not say so
+-- the status of a run of `check` or `repair` that a fault of shard files ends: one status for lost shards or blocks, and one for all else
 abbrev pub judged_files : Fault → Status
 judged_files (faults.NoShard _) = Lost
 judged_files (faults.IsShard _ _) = Lost
@@ -25,8 +24,8 @@ judged_files (faults.TooFew _ _ _) = Lost
 judged_files (faults.Block _ _) = Lost
 judged_files _ = Unknown
 
--- the status of a run of `check` or `repair` that this refusal ends: what says that shards or blocks are lost is told from what says
--- that files do not fit, and from all that says neither
+-- the status of a run of `check` or `repair` that this refusal ends: one for lost shards or blocks, one for files that do not fit, one for
+-- wrong usage, and one for all else
 abbrev pub judged : Refusal → Status
 judged (refusals.Usage _) = Usage
 judged (refusals.Unsound _) = Refused

@@ -13,7 +13,7 @@ use shard_files::fault::Fault;
 use shard_files::gathering::{check_count, count_there, gather};
 use shard_files::sources::{ShardFile, is_want_of_room};
 use shard_files::split::{Block, Split};
-use shard_files::wanted::Wanted;
+use shard_files::wanted::WantedFiles;
 use shard_files::wasted::WastedReads;
 use shard_format::records::block_count;
 use std::alloc::{AllocError, Global};
@@ -113,7 +113,7 @@ fn reason_of(alloc: Global, fault: &Fault) -> Result<String, AllocError> {
 
 /// A line for each shard of the split and each other file that is meant, and one for what they
 /// give; and why it is refused, where not all shards are there and fit.
-pub fn check(rt: &HostRuntime, wanted: &Wanted, compares_all: bool) -> Result<Checked, Fault> {
+pub fn check(rt: &HostRuntime, wanted: &WantedFiles, compares_all: bool) -> Result<Checked, Fault> {
     let mut files = Vec::new(rt.alloc());
     match gather(rt, wanted, &mut files, false) {
         Ok(split) => check_split(rt, wanted, &split, &mut files, compares_all),
@@ -151,7 +151,7 @@ fn unjudged(alloc: Global, files: &[ShardFile], fault: &Fault) -> Result<String,
 /// As `check`, of the files of a split.
 fn check_split(
     rt: &HostRuntime,
-    wanted: &Wanted,
+    wanted: &WantedFiles,
     split: &Split,
     files: &mut [ShardFile],
     compares_all: bool,
@@ -184,7 +184,7 @@ fn refusal_of(label: String, is_restored: bool, is_whole: bool) -> Option<Refusa
 /// looked at. And whether that restores the file.
 fn write_findings(
     alloc: Global,
-    wanted: &Wanted,
+    wanted: &WantedFiles,
     split: &Split,
     files: &[ShardFile],
     findings: &Findings,

@@ -13,7 +13,7 @@ use shard_files::fault::Fault;
 use shard_files::gathering::{check_count, first_rights, gather};
 use shard_files::sources::{ShardFile, check_no_source};
 use shard_files::split::{Block, Split};
-use shard_files::wanted::{Wanted, is_shard_name};
+use shard_files::wanted::{WantedFiles, is_shard_name};
 use shard_files::wasted::WastedReads;
 use std::alloc::AllocError;
 
@@ -27,7 +27,7 @@ const MOST_BYTES: u64 = i64::MAX as u64;
 #[derive(Drop)]
 pub struct Order<'a> {
     /// The shard files that are there.
-    pub wanted: Wanted<'a>,
+    pub wanted: WantedFiles<'a>,
     /// The name of the file, or `-` for standard output.
     pub out: &'a str,
     /// Whether a file that is there is replaced.
@@ -63,11 +63,11 @@ pub fn join(rt: &HostRuntime, order: &Order) -> Result<(), Refusal> {
 /// files under another name, or of any shard file.
 fn check_out(
     rt: &HostRuntime,
-    wanted: &Wanted,
+    wanted: &WantedFiles,
     out: &str,
     files: &[ShardFile],
 ) -> Result<(), FileFault> {
-    if let Wanted::Beside(file) = wanted {
+    if let WantedFiles::Beside(file) = wanted {
         if is_shard_name(rt, file, out)? {
             return Err(FileFault::Input(owned(rt.alloc(), out)?));
         }

@@ -1,7 +1,7 @@
 //! What is said of shard files, a line each.
 
 use shard_files::sources::ShardFile;
-use shard_files::wanted::Wanted;
+use shard_files::wanted::WantedFiles;
 use std::alloc::{AllocError, Global};
 
 /// What is to be said of a shard file.
@@ -47,7 +47,7 @@ pub fn list_unsound(
 /// Adds a line for each number below the limit that is not there.
 fn list_missing(
     alloc: Global,
-    wanted: &Wanted,
+    wanted: &WantedFiles,
     from: u32,
     limit: u32,
     text: &mut String,
@@ -62,7 +62,7 @@ fn list_missing(
 /// the total that none of them has the number of.
 pub fn list(
     alloc: Global,
-    wanted: &Wanted,
+    wanted: &WantedFiles,
     total: u32,
     files: &[ShardFile],
     text: &mut String,

@@ -6,7 +6,7 @@ use crate::refusal::{Refusal, WrongWord};
 use crate::{cleaning, joining, repairing, splitting};
 use partial_files::fault::owned;
 use shard_files::names::{can_be_file, name_before_number};
-use shard_files::wanted::Wanted;
+use shard_files::wanted::WantedFiles;
 use std::alloc::Global;
 
 /// `MIN TOTAL FILE`: the shard files of the file, or of standard input.
@@ -80,18 +80,21 @@ fn wrong_files(
 
 /// The shard files that the words mean: those beside the one file, or with these names. There is
 /// none where the words are none, or more than one file.
-fn wanted_of<'a>(words: &'a [&'a str], is_named: bool) -> Option<Wanted<'a>> {
+fn wanted_of<'a>(words: &'a [&'a str], is_named: bool) -> Option<WantedFiles<'a>> {
     match words {
         [] => None,
-        names if is_named => Some(Wanted::Named(names)),
-        [file] => Some(Wanted::Beside(file)),
+        names if is_named => Some(WantedFiles::Named(names)),
+        [file] => Some(WantedFiles::Beside(file)),
         _ => None,
     }
 }
 
 /// The name of the file that is restored, and the shard files, as `FILE OUT` or `OUT SHARD ..`
 /// means them; none where the words are others.
-fn output_and_shards<'a>(words: &'a [&'a str], is_named: bool) -> Option<(&'a str, Wanted<'a>)> {
+fn output_and_shards<'a>(
+    words: &'a [&'a str],
+    is_named: bool,
+) -> Option<(&'a str, WantedFiles<'a>)> {
     let (out, rest) = if is_named {
         words.split_first()?
     } else {
@@ -125,11 +128,11 @@ pub fn join(rt: &HostRuntime, options: &Options) -> Result<(), Refusal> {
 
 /// What missing shard files are called, before a point and their numbers, and the shard files that
 /// are there, as `FILE` or `NAME SHARD ..` means them; none where the words are others.
-fn name_and_shards<'a>(words: &'a [&'a str], is_named: bool) -> Option<(&'a str, Wanted<'a>)> {
+fn name_and_shards<'a>(words: &'a [&'a str], is_named: bool) -> Option<(&'a str, WantedFiles<'a>)> {
     match words {
-        [file] if !is_named => Some((file, Wanted::Beside(file))),
+        [file] if !is_named => Some((file, WantedFiles::Beside(file))),
         [name, shards @ ..] if is_named && !shards.is_empty() => {
-            Some((name, Wanted::Named(shards)))
+            Some((name, WantedFiles::Named(shards)))
         }
         _ => None,
     }

@@ -18,7 +18,7 @@ use shard_files::gathering::{check_count, first_rights, gather};
 use shard_files::names::shard_name;
 use shard_files::sources::{ShardFile, check_no_source};
 use shard_files::split::{Block, Split};
-use shard_files::wanted::Wanted;
+use shard_files::wanted::WantedFiles;
 use shard_files::writer::ShardWriter;
 use std::alloc::{AllocError, Global};
 
@@ -26,7 +26,7 @@ use std::alloc::{AllocError, Global};
 #[derive(Drop)]
 pub struct Order<'a> {
     /// The shard files that are there.
-    pub wanted: Wanted<'a>,
+    pub wanted: WantedFiles<'a>,
     /// What missing shard files are called, before a point and their numbers.
     pub name: &'a str,
     /// The numbers of the shards that are written; none where all are.

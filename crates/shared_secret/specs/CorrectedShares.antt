@@ -10,7 +10,8 @@ use Rattle.shared_secret.specs.Shares.{points, values}
 abbrev pub AreSharesWithinRadius : {A : Type 0} → RingOf A → ℕ → List A → List (Share A) → Type 0
 AreSharesWithinRadius R t p shares = IsWithinRadius R (points R shares) (values shares) t p
 
--- the secret is the value at zero of the only polynomial within that radius, and the places are those of the shares that are not its values
+-- the secret is the value at zero of the only polynomial within the radius of the shares, and the places are the places of the shares that
+-- are not its values
 pub record IsCorrectedSecret {A : Type 0} (R : RingOf A) (t : ℕ) (shares : List (Share A)) (secret : A) (wrong : List ℕ) : Type 0 where
   pub polynomial : List A
   pub decoded : IsDecoded R (points R shares) (values shares) t polynomial wrong

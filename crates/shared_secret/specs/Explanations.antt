@@ -8,7 +8,7 @@ use Rattle.math_base.specs.Members.{RingOf}
 use Rattle.shared_secret.specs.declared.shares.Share.{Share}
 use Rattle.shared_secret.specs.Shares.{AreSharesOf, AreAtDistinctPoints, AreDealt, IsSampled}
 
--- a polynomial of t coefficients whose constant is same as the secret, and whose values are those of the shares
+-- a polynomial of t coefficients whose constant is same as the secret, and which has the values of the shares at their points
 pub record Explains {A : Type 0} (R : RingOf A) (t : ℕ) (secret : A) (shares : List (Share A)) (p : List A) : Type 0 where
   pub count : length p ≡ t
   pub constant : R.same (coefficient R.zero p 0) secret

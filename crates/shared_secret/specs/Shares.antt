@@ -26,7 +26,7 @@ points R shares = map (λ s. point R s.index) shares
 abbrev pub values : {A : Type 0} → List (Share A) → List A
 values shares = map (λ s. s.value) shares
 
--- the value of each share is same as that of the polynomial p at its point
+-- the value of each share is same as the value of the polynomial p at its point
 abbrev pub AreSharesOf : {A : Type 0} → RingOf A → List A → List (Share A) → Type 0
 AreSharesOf R p shares = All (λ s. R.same s.value (value_in_ring R p (point R s.index))) shares
 

@@ -7,12 +7,12 @@ use Rattle.shared_secret.specs.declared.shares.Share.{Share}
 use Rattle.shared_secret.specs.declared.weighing.Weights.{Weights}
 use Rattle.shared_secret.specs.Shares.{AreCombinable, points}
 
--- weights of the first t points for the value at zero, and for that at each further point
+-- weights of the first t points for the value at zero, and for the value at each further point
 pub record AreWeightsAtPoints {A : Type 0} (R : RingOf A) (t : ℕ) (points : List A) (weights : Weights A) : Type 0 where
   pub secret : AreWeightsAt R R.zero (take t points) weights.secret.items
   pub further : AllZip (λ x w. AreWeightsAt R x (take t points) w.items) (drop t points) weights.further.items
 
--- the shares are combinable, and the weights are those of the points of the first t
+-- the shares are combinable, and the weights are weights of the points of the first t
 pub record AreWeightsOfShares {A : Type 0} (R : RingOf A) (t : ℕ) (shares : List (Share A)) (weights : Weights A) : Type 0 where
   pub combinable : AreCombinable R t shares
   pub at_points : AreWeightsAtPoints R t (points R shares) weights

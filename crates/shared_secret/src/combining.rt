@@ -1,4 +1,7 @@
 //! Combining of shares.
+//!
+//! All shares that are given are taken, with one weight each: of one deal any t give the same, and
+//! `verify` says which to trust.
 
 ghost use Rattle.std.specs.Prelude.{◌≡◌, ◌↔◌, ◌<◌, ◌≤◌, List, length, All, IfOk, IfErr};
 ghost use Rattle.std.specs.List.{AllZip};

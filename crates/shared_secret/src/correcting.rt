@@ -1,4 +1,6 @@
 //! Combining of shares of which some are wrong.
+//!
+//! That too many shares are wrong is an answer, `None`, as of a decoding, and no fault of the call.
 
 ghost use Rattle.std.specs.Prelude.{◌≡◌, ◌↔◌, ◌<◌, List, length, IfOk, IfErr, IfSome, IfNone};
 ghost use Rattle.math_base.specs.Polynomials.{value_in_ring};

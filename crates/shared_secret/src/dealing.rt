@@ -1,4 +1,7 @@
 //! Dealing of shares.
+//!
+//! If memory runs out, the source may have refused too: no clause says what a caller's own source
+//! does then.
 
 ghost use Rattle.std.specs.Prelude.{◌≡◌, ◌-◌, ◌<◌, ◌≤◌, List, None, IfOk, IfErr};
 ghost use Rattle.std.specs.List.{AllZip};

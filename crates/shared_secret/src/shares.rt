@@ -1,4 +1,11 @@
 //! Shares, and the points of their indices.
+//!
+//! A share does not hold the threshold. Whoever combines gives it, since all know it, and a changed
+//! share must not lower it.
+//!
+//! In a field of characteristic q the points repeat: in the quotients modulo 97, the indices 1 and
+//! 98 have one point, and the share 97 would be the secret itself. So the calls judge points, and
+//! not indices.
 
 ghost use Rattle.std.specs.Prelude.{IfOk, IsOk, IsTrue};
 ghost use Rattle.shared_secret.specs.Shares.{point};

@@ -1,5 +1,5 @@
 -- Words that are read from bytes and written over them, the lowest byte first.
-use Rattle.std.proofs.Common.{◌≡◌, ◌≢◌, ◌⊎◌, ◌∙◌, inl, inr, ℕ, zero, suc, ◌+◌, ◌-◌, ◌*◌, ◌/◌, ◌%◌, ◌<◌, ◌≤◌, ◌^◌, List, [], ◌++◌, length, min, take, drop, get_or, refl, sym, ap, ap₂, subst, arith}
+use Rattle.std.proofs.Common.{◌≡◌, ◌≢◌, ◌⊎◌, ◌∙◌, inl, inr, ℕ, zero, suc, ◌+◌, ◌-◌, ◌*◌, ◌/◌, ◌%◌, ◌<◌, ◌≤◌, ◌^◌, List, ◌++◌, length, min, take, drop, get_or, refl, sym, ap, ap₂, subst, arith}
 use Rattle.std.proofs.Math.ListN.{replicate}
 use Rattle.std.proofs.Math.Nat.{pow-suc}
 use Rattle.std.proofs.Math.Pow.{pow_mono}
@@ -31,14 +31,14 @@ pub word-chunk : (cells eight : List ℕ) (k : ℕ) → eight ≡ take 8 (drop (
 word-chunk cells eight k is = word-same eight (drop (8 * k) cells) (λ i l. ap (λ xs. get_or xs i 0) is ∙ get_or-take 8 (drop (8 * k) cells) i 0 l)
 
 -- some zeros
-abbrev zeros : ℕ → List ℕ
+abbrev pub zeros : ℕ → List ℕ
 zeros m = replicate m 0
 
-length-zeros : (m : ℕ) → length (zeros m) ≡ m
+pub length-zeros : (m : ℕ) → length (zeros m) ≡ m
 length-zeros zero = refl
 length-zeros (suc m) = let e : length (zeros m) ≡ m = length-zeros m in omega (arith, e)
 
-zero-at : (m i : ℕ) → get_or (zeros m) i 0 ≡ 0
+pub zero-at : (m i : ℕ) → get_or (zeros m) i 0 ≡ 0
 zero-at m i = elim (cases_lt i m) as (λ _. get_or (zeros m) i 0 ≡ 0) [
   | inl b ↦ get_or-replicate m i 0 0 b
   | inr b ↦ get_or_past (zeros m) i 0 (omega (arith, b, length-zeros m))
@@ -51,10 +51,6 @@ padded-at rest m i = elim (cases_lt i (length rest)) as (λ _. get_or (rest ++ r
   | inr after ↦
       get_or-append_right rest (replicate m 0) (length rest) i 0 refl after ∙ zero-at m (i - length rest) ∙ sym (get_or_past rest i 0 after)
 ]
-
--- a word past the end
-pub word-past : (cells : List ℕ) (k : ℕ) → length cells ≤ 8 * k → 0 ≡ word_of_bytes cells k
-word-past cells k past = word-same [] (drop (8 * k) cells) (λ i l. sym (get_or-drop (8 * k) cells i 0 ∙ get_or_past cells (8 * k + i) 0 (omega (arith, past))))
 
 -- byte i of a word
 low-at : (j count n i : ℕ) → i < count → get_or (bytes_low_first j count n) i 0 ≡ byte_at (j + i) n

@@ -8,8 +8,8 @@ use Rattle.std.proofs.lemmas.List.Kept.{IsStrictlyIncreasing-filter}
 use Rattle.std.proofs.lemmas.Nat.{mul-le}
 use Rattle.math_theory.specs.Coefficients.{HaveSameCoefficients}
 use Rattle.math_theory.specs.Recovery.{count_true}
-use Rattle.math_base.specs.declared.fields.goldilocks.F.{F}
-use Rattle.math_base.specs.Elements.{goldilocks, number, residue, root_of, same}
+use Rattle.math_fields.specs.declared.goldilocks.F.{F}
+use Rattle.math_fields.specs.Elements.{goldilocks, number, residue, root_of, same}
 use Rattle.math_ntt.specs.CorrectedRows.{AreWithinRadius, IsCorrected}
 use Rattle.math_ntt.specs.Evaluations.{EvaluationsOf}
 use Rattle.math_transforms.proofs.PresentIndices.{lg-only}
@@ -20,15 +20,17 @@ use Rattle.systematic_shards.specs.declared.Error.{Error}
 use Rattle.systematic_shards.specs.declared.Error.TheVariants.{Memory, TooFew, Mismatch, Sizes, Index, Word, Conflict, Inconsistent}
 use Rattle.systematic_shards.specs.declared.rows.Row.{Row}
 use Rattle.systematic_shards.specs.declared.split.Split.{Split}
-use Rattle.systematic_shards.specs.Codewords.{AreSameRows, IsPolynomialOf, value_at_index}
+use Rattle.systematic_shards.specs.Codewords.{AreSameRows, IsPolynomialOf}
+use Rattle.row_interpolation.specs.RowValues.{value_at_index}
 use Rattle.systematic_shards.specs.Correcting.{AreSettledRows, HasCells, HaveOneCorrection, HaveSettled, HoldsNear, IsCorrectingDue, IsNear, IsSettled, IsSettledIndex, cells_at}
 use Rattle.systematic_shards.specs.Errors.{IsMemory}
 use Rattle.systematic_shards.specs.Refusals.{AreAsked, IsDue}
 use Rattle.systematic_shards.specs.Shards.{IsCodewordOf, IsRowOf}
-use Rattle.systematic_shards.proofs.Codewords.{domain_of, one_codeword, point}
+use Rattle.row_interpolation.proofs.IndexPoints.{domain_of, point}
+use Rattle.systematic_shards.proofs.Codewords.{one_codeword}
 use Rattle.systematic_shards.proofs.Elements.{same-from_word, word-from_same}
 use Rattle.systematic_shards.proofs.Marked.{count-without, is_outside, length-without, outside-many, outside-missing, without, without-marked}
-use Rattle.systematic_shards.proofs.OneCodeword.{rising-distinct}
+use Rattle.row_interpolation.proofs.RisingIndices.{rising-distinct}
 use Rattle.systematic_shards.proofs.Settled.{settled-below, settled-few, settled-many}
 
 abbrev nought : F

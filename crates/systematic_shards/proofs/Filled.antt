@@ -9,12 +9,9 @@ use Rattle.math_restoring.specs.Restored.{AreDistinct}
 use Rattle.systematic_shards.specs.declared.rows.Row.{Row}
 use Rattle.systematic_shards.specs.Filled.{AreFilled, AreRunsFilled}
 use Rattle.systematic_shards.specs.Wanted.{AreCopied, AreCopiesWithin}
-use Rattle.systematic_shards.specs.Words.{AreWritten, IsWithin}
-use Rattle.systematic_shards.proofs.OneCodeword.{rising-before}
-
--- no run so far
-pub runs-none : (width from cols : ℕ) (places : List ℕ) (value : ℕ → ℕ → ℕ) (old : ℕ → ℕ) → AreRunsFilled width from cols places value 0 old old
-runs-none width from cols places value old = record { written = λ j c b. absurd (omega (arith, b)); others = λ i apart. refl }
+use Rattle.row_interpolation.specs.Written.{AreWritten}
+use Rattle.systematic_shards.specs.Words.{IsWithin}
+use Rattle.row_interpolation.proofs.RisingIndices.{rising-before}
 
 -- the run of one row more
 pub runs-more : (width from cols n at : ℕ) (places : List ℕ) (value : ℕ → ℕ → ℕ) (run : ℕ → ℕ) (old now new : ℕ → ℕ) → AreDistinct places → n < length places → from + cols ≤ width

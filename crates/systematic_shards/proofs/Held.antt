@@ -7,14 +7,15 @@ use Rattle.std.proofs.lemmas.List.{get_or-append_right, get_or-map, get_or_appen
 use Rattle.std.proofs.lemmas.List.Elements.{All-contains, Contains-get_or}
 use Rattle.std.proofs.lemmas.List.Sorted.{Contains-permutation, IsPermutation-sym}
 use Rattle.math_numbers.proofs.Pigeonhole.{pigeonhole}
-use Rattle.math_base.specs.declared.fields.goldilocks.F.{F}
+use Rattle.math_fields.specs.declared.goldilocks.F.{F}
 use Rattle.systematic_shards.specs.declared.rows.Row.{Row}
 use Rattle.systematic_shards.specs.declared.split.Split.{Split}
 use Rattle.systematic_shards.specs.Held.{AreCopies, AreKept, AreOneOfEach, IsKeptWith, IsUnlikeLast}
 use Rattle.systematic_shards.specs.Refusals.{HaveConflict, HaveEnough}
 use Rattle.systematic_shards.specs.Shards.{BelongTo, IsRowOf, word_in}
 use Rattle.systematic_shards.proofs.Filled.{one-place}
-use Rattle.systematic_shards.proofs.OneCodeword.{rising-distinct, some_item}
+use Rattle.row_interpolation.proofs.RisingIndices.{rising-distinct}
+use Rattle.systematic_shards.proofs.OneCodeword.{some_item}
 
 -- rising numbers with a greater one behind them
 pub rising-more : (xs : List ℕ) (x : ℕ) → IsStrictlyIncreasing xs → (1 ≤ length xs → get_or xs (length xs - 1) 0 < x) → IsStrictlyIncreasing (xs ++ x ∷ [])
@@ -32,14 +33,6 @@ rising-more xs x h last k l = elim (cases_lt (k + 1) (length xs)) as (λ _. get_
 ]
 
 module _ {M : Type 0} (word : List M → ℕ → ℕ) (width : ℕ) where
-  -- no row so far
-  pub kept-none : (rows : List (Row M)) → AreKept word width rows 0 []
-  kept-none rows = record {
-    rise = λ k l. absurd (omega (arith, l));
-    from = λ p d l. absurd (omega (arith, l));
-    each = λ i d l. absurd (omega (arith, l));
-  }
-
   -- one row more, of rows by rising index
   pub kept-more : (rows old new : List (Row M)) (n : ℕ) (row : Row M) → IsNonDecreasingBy (λ row. row.index) rows → n < length rows → ((d : Row M) → row ≡ get_or rows n d)
       → IsKeptWith word width row old new → AreKept word width rows n old → AreKept word width rows (n + 1) new

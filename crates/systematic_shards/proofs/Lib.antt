@@ -1,10 +1,7 @@
 pub mod Codewords
-pub mod RisingIndices
 pub mod Masks
 pub mod Written
 pub mod Made
-pub mod WeightedSums
-pub mod Differences
 pub mod Bytes
 pub mod Elements
 pub mod OneCodeword
@@ -18,5 +15,3 @@ pub mod Positions
 pub mod Marked
 pub mod Settled
 pub mod Corrected
-pub mod LeastDomains
-pub mod Transformed

@@ -1,17 +1,20 @@
 -- Rows that belong to one codeword.
-use Rattle.std.proofs.Common.{◌≡◌, ◌∙◌, ℕ, ◌+◌, ◌-◌, ◌<◌, ◌≤◌, ◌^◌, List, [], ◌∷◌, zero, suc, length, map, take, drop, get_or, sym, ap, subst, arith}
+use Rattle.std.proofs.Common.{◌≡◌, ◌∙◌, ℕ, ◌+◌, ◌<◌, ◌≤◌, ◌^◌, List, [], ◌∷◌, length, map, take, drop, get_or, sym, ap, subst, arith}
 use Rattle.std.specs.List.{All, Contains}
 use Rattle.std.specs.List.Sorted.{IsStrictlyIncreasing}
-use Rattle.std.proofs.lemmas.List.{get_or-drop, get_or-map, get_or-take, get_or_default, length-drop, length-map, length-take, length-take-le, take-append-drop}
+use Rattle.std.proofs.lemmas.List.{get_or-drop, get_or-map, get_or-take, get_or_default, length-drop, length-map, length-take, length-take-le, take-append-drop, take-map}
 use Rattle.std.proofs.lemmas.List.Elements.{All-append}
-use Rattle.math_base.specs.declared.fields.goldilocks.F.{F}
-use Rattle.math_base.specs.Elements.{number, same}
-use Rattle.math_restoring.specs.Restored.{AreDistinct, item}
+use Rattle.math_fields.specs.declared.goldilocks.F.{F}
+use Rattle.math_fields.specs.Elements.{number, same}
+use Rattle.math_restoring.specs.Restored.{item}
 use Rattle.systematic_shards.specs.declared.rows.Row.{Row}
 use Rattle.systematic_shards.specs.declared.split.Split.{Split}
+use Rattle.systematic_shards.specs.Held.{AreIndexed}
+use Rattle.systematic_shards.specs.Made.{AreSourcesFor}
 use Rattle.systematic_shards.specs.Refusals.{AreElements, HaveCodewordOf}
 use Rattle.systematic_shards.specs.Shards.{BelongTo, IsRowOf, column_of_rows}
-use Rattle.systematic_shards.specs.Weights.{AreRising}
+use Rattle.math_transforms.specs.RootWeights.{AreRising}
+use Rattle.row_interpolation.proofs.RisingIndices.{rising-before, rising-distinct}
 use Rattle.systematic_shards.proofs.Codewords.{codeword}
 use Rattle.systematic_shards.proofs.Elements.{item-column, same-from_word, word-from_same}
 
@@ -20,24 +23,7 @@ pub some_item : {X : Type 0} (xs : List X) (t : ℕ) → t < length xs → X
 some_item [] t l = absurd (omega (arith, l))
 some_item (x ∷ xs) t l = x
 
--- a later item of a rising list is greater
-later : (xs : List ℕ) (i n : ℕ) → IsStrictlyIncreasing xs → i + n + 1 < length xs → get_or xs i 0 < get_or xs (i + n + 1) 0
-later xs i zero h l = subst (λ m. get_or xs i 0 < get_or xs m 0) (let e : i + 1 ≡ i + zero + 1 = omega arith in e) (h i (omega (arith, l)))
-later xs i (suc n) h l =
-    let a : get_or xs i 0 < get_or xs (i + n + 1) 0 = later xs i n h (omega (arith, l)) in
-    let b : get_or xs (i + n + 1) 0 < get_or xs (i + n + 1 + 1) 0 = h (i + n + 1) (omega (arith, l)) in
-    omega (arith, a, b, ap (λ m. get_or xs m 0) (let e : i + n + 1 + 1 ≡ i + suc n + 1 = omega arith in e))
-
-pub rising-before : (xs : List ℕ) (i j : ℕ) → IsStrictlyIncreasing xs → i < j → j < length xs → get_or xs i 0 < get_or xs j 0
-rising-before xs i j h before l =
-    let e : i + (j - i - 1) + 1 ≡ j = omega (arith, before) in
-    subst (λ m. get_or xs i 0 < get_or xs m 0) e (later xs i (j - i - 1) h (omega (arith, e, l)))
-
--- rising numbers are distinct
-pub rising-distinct : (xs : List ℕ) → IsStrictlyIncreasing xs → AreDistinct xs
-rising-distinct xs h i j before l e = omega (arith, e, rising-before xs i j h before l)
-
--- so are the first of them
+-- the first of rising indices rise
 pub rising-take : (n total : ℕ) (xs : List ℕ) → n ≤ length xs → AreRising total xs → AreRising total (take n xs)
 rising-take n total xs within h = (
   λ k l.
@@ -96,8 +82,23 @@ module _ {M : Type 0} (word : List M → ℕ → ℕ) (split : Split) (mask : �
             (sym (ap number (item-column word split.min mask rows k t d l)) ∙ sym (agree t k (omega (arith, l, many)) m) ∙ ap (λ i. number (a i k)) (sym index)),
       )
 
+  -- so through those from which others are made
+  pub through-sources : (rows : List (Row M)) (indices targets : List ℕ) → AreSourcesFor split rows indices targets → AreElements word split mask rows → HaveCodewordOf word split mask rows
+  through-sources rows indices targets for elements = through-rows rows indices for.are for.rising for.count elements
+
   -- rows belong to a codeword where the first n of them do, and the others
   pub belong-parts : (n : ℕ) (rows : List (Row M)) (a : ℕ → ℕ → F) → BelongTo word split mask (take n rows) a → BelongTo word split mask (drop n rows) a → BelongTo word split mask rows a
   belong-parts n rows a first others =
       subst (λ xs. BelongTo word split mask xs a) (take-append-drop n rows)
       (All-append (λ (row : Row M). IsRowOf split mask a row.index (word row.cells.now)) (take n rows) (drop n rows) first others)
+
+-- from the first `min` of rows in hand others can be made
+pub first-sources : {M : Type 0} (split : Split) (rows : List (Row M)) (indices targets : List ℕ) → AreIndexed split indices rows → All (λ i. i < split.total) targets
+    → All (λ i. ¬ (Contains (take split.min indices) i)) targets → AreSourcesFor split (take split.min rows) (take split.min indices) targets
+first-sources split rows indices targets h below missing = record {
+  are = ap (take split.min) h.are ∙ take-map (λ row. row.index) split.min rows;
+  count = length-take-le split.min rows h.enough;
+  rising = rising-take split.min split.total indices (omega (arith, h.enough, ap length h.are ∙ length-map rows (λ row. row.index))) h.rising;
+  below = below;
+  missing = missing;
+}

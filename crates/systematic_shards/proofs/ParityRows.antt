@@ -4,18 +4,19 @@ use Rattle.std.specs.List.{All, range_with_len}
 use Rattle.std.proofs.lemmas.List.{ext_get_or, get_or-map, length-map}
 use Rattle.std.proofs.lemmas.List.FromFn.{get_or-range_with_len, length-range_with_len}
 use Rattle.std.proofs.lemmas.Nat.{mul-add-lt}
-use Rattle.math_base.specs.declared.fields.goldilocks.F.{F}
-use Rattle.math_base.specs.Elements.{number, same}
+use Rattle.math_fields.specs.declared.goldilocks.F.{F}
+use Rattle.math_fields.specs.Elements.{number, same}
 use Rattle.systematic_shards.specs.declared.rows.Row.{Row}
 use Rattle.systematic_shards.specs.declared.split.Split.{Split}
-use Rattle.systematic_shards.specs.Filled.{AreFilled, AreWithinRoom, IsCodewordThrough, row_word}
+use Rattle.systematic_shards.specs.Filled.{AreFilled, ArePlaces, AreWithinRoom, row_word}
+use Rattle.systematic_shards.specs.Made.{AreSourcesFor, IsCodewordThrough}
 use Rattle.systematic_shards.specs.Masks.{IsFree, masked_number}
 use Rattle.systematic_shards.specs.Refusals.{AreElements, HaveCodewordOf}
 use Rattle.systematic_shards.specs.Shards.{AreBlockRows, AreShards, HaveCodewordThrough, HaveOneCodewordOf, HaveOneEncoding, IsElementIn, element_in, mask_of_row, word_in}
 use Rattle.systematic_shards.proofs.Codewords.{codeword, one_codeword}
 use Rattle.systematic_shards.proofs.Elements.{element-word, word-fits, word-from_same}
 use Rattle.systematic_shards.proofs.OneCodeword.{some_item, through-rows}
-use Rattle.systematic_shards.proofs.Ranges.{range-distinct, range-rising, room-for, rows-from_range, rows-to_range}
+use Rattle.systematic_shards.proofs.Ranges.{places-inside, range-distinct, range-rising, ranges-apart, room-for, rows-from_range, rows-to_range}
 
 -- there is room for rows of a where there is room for all of theirs
 pub room-filled : (split : Split) (mask size n : ℕ) (a : ℕ → ℕ → F) (indices places : List ℕ) → mask < 2 ^ 32 → size ≡ n * (8 * split.width) → All (λ p. p < n) places
@@ -53,6 +54,16 @@ module _ {M : Type 0} (word : List M → ℕ → ℕ) (split : Split) (mask : �
       let within : split.min ≤ split.total = split.within in
       through-rows word split mask short rows (range_with_len 0 split.min) block-indices (range-rising 0 split.min split.total (omega (arith, within))) are.count (block-elements free fit)
 
+  -- from which the parity rows are made
+  pub block-sources : AreSourcesFor split rows (range_with_len 0 split.min) (range_with_len split.min (split.total - split.min))
+  block-sources = record {
+    are = block-indices;
+    count = are.count;
+    rising = range-rising 0 split.min split.total (omega (arith, split.within));
+    below = (range-rising split.min (split.total - split.min) split.total (omega (arith, split.within))).1;
+    missing = ranges-apart split.min (split.total - split.min);
+  }
+
   -- of which the others are the parity rows
   pub encoded-shards : (targets places : List ℕ) (old new : ℕ → ℕ) → targets ≡ range_with_len split.min (split.total - split.min) → places ≡ range_with_len 0 (length targets)
       → HaveCodewordOf word split mask rows
@@ -75,6 +86,16 @@ module _ {M : Type 0} (word : List M → ℕ → ℕ) (split : Split) (mask : �
             let index : get_or targets t 0 ≡ split.min + t = ap (λ xs. get_or xs t 0) targets_are ∙ get_or-range_with_len split.min n t 0 l in
             ap (λ p. new (p * split.width + k)) (sym place) ∙ put.written t k (omega (arith, l, held)) m ∙ ap (λ i. word_in split.min mask i (a i k)) index),
       )
+
+-- the parity rows stand one after the other
+pub parity-places : (split : Split) → ArePlaces split.width (range_with_len split.min (split.total - split.min)) (range_with_len 0 (split.total - split.min))
+parity-places split =
+    let n : ℕ = split.total - split.min in
+    record {
+      count = length-range_with_len 0 n ∙ sym (length-range_with_len split.min n);
+      apart = range-distinct 0 n;
+      inside = places-inside n split.total split.width (2 ^ 61) (range_with_len 0 n) (range-rising 0 n n (omega arith)).1 (omega arith) (omega (arith, split.all));
+    }
 
 -- elements with one word are same
 word-once : (least mask i : ℕ) (x y : F) → mask < 2 ^ 32 → word_in least mask i x ≡ word_in least mask i y → same x y

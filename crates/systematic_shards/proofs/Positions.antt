@@ -3,12 +3,12 @@ use Rattle.std.proofs.Common.{◌≡◌, ◌∙◌, inl, inr, ℕ, ◌+◌, ◌*
 use Rattle.std.proofs.lemmas.Bool.{cases_lt}
 use Rattle.std.proofs.lemmas.List.{get_or_default}
 use Rattle.std.proofs.lemmas.Nat.{same_from_place}
-use Rattle.math_base.specs.declared.fields.goldilocks.F.{F}
+use Rattle.math_fields.specs.declared.goldilocks.F.{F}
 use Rattle.math_decoding.proofs.WrongPlaces.{AreGathered}
 use Rattle.systematic_shards.specs.declared.split.Split.{Split}
 use Rattle.systematic_shards.specs.Correcting.{ArePositionsWithout}
 use Rattle.systematic_shards.specs.Shards.{IsRowOf, word_in}
-use Rattle.systematic_shards.specs.Words.{AreWritten}
+use Rattle.row_interpolation.specs.Written.{AreWritten}
 
 -- P holds of the item at position i
 abbrev pub HoldsAtPosition : {X : Type 0} → (X → Type 0) → List X → ℕ → Type 0

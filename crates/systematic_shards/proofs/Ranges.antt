@@ -3,11 +3,11 @@ use Rattle.std.proofs.Common.{◌≡◌, ◌∙◌, ℕ, ◌+◌, ◌-◌, ◌*�
 use Rattle.std.specs.List.{All, Contains, range_with_len}
 use Rattle.std.proofs.lemmas.List.FromFn.{get_or-range_with_len, length-range_with_len, map-range_with_len_more}
 use Rattle.std.proofs.lemmas.Nat.{mul-le}
-use Rattle.math_base.specs.declared.fields.goldilocks.F.{F}
+use Rattle.math_fields.specs.declared.goldilocks.F.{F}
 use Rattle.math_restoring.specs.Restored.{AreDistinct}
 use Rattle.systematic_shards.specs.declared.split.Split.{Split}
 use Rattle.systematic_shards.specs.Shards.{AreRowsAt, word_in}
-use Rattle.systematic_shards.specs.Weights.{AreRising}
+use Rattle.math_transforms.specs.RootWeights.{AreRising}
 use Rattle.systematic_shards.specs.Words.{IsWithin}
 use Rattle.systematic_shards.proofs.Bytes.{within-room}
 

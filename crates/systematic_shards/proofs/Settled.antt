@@ -6,8 +6,8 @@ use Rattle.std.proofs.lemmas.Bool.{cases_eq, cases_lt}
 use Rattle.std.proofs.lemmas.List.{get_or-replicate, get_or-set_other, get_or-set_same, get_or_default, get_or_past, length-replicate, length-set}
 use Rattle.std.proofs.lemmas.Nat.{same_from_place}
 use Rattle.math_theory.specs.Recovery.{count_true, filled_places}
-use Rattle.math_base.specs.declared.fields.goldilocks.F.{F}
-use Rattle.math_base.specs.Elements.{number, same}
+use Rattle.math_fields.specs.declared.goldilocks.F.{F}
+use Rattle.math_fields.specs.Elements.{number, same}
 use Rattle.math_ntt.proofs.MarkedRows.{contains-place, place-marked, rising-places}
 use Rattle.math_restoring.specs.Restored.{item}
 use Rattle.math_transforms.proofs.PresentIndices.{length-places}
@@ -15,9 +15,9 @@ use Rattle.systematic_shards.specs.declared.rows.Row.{Row}
 use Rattle.systematic_shards.specs.declared.split.Split.{Split}
 use Rattle.systematic_shards.specs.Correcting.{Agrees, AreMarked, HasCells, HasElements, HaveSettled, IsSettled, IsSettledIndex, cells_at}
 use Rattle.systematic_shards.specs.Shards.{element_in}
-use Rattle.systematic_shards.specs.Words.{AreWritten}
+use Rattle.row_interpolation.specs.Written.{AreWritten}
 use Rattle.systematic_shards.proofs.Marked.{distinct-among}
-use Rattle.systematic_shards.proofs.OneCodeword.{rising-distinct}
+use Rattle.row_interpolation.proofs.RisingIndices.{rising-distinct}
 
 -- one of the first n rows has the index, and is settled
 abbrev pub IsSettledBefore : {M : Type 0} → (List M → ℕ → ℕ) → Split → ℕ → List (Row M) → ℕ → ℕ → Type 0

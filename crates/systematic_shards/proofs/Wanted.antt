@@ -5,7 +5,7 @@ use Rattle.std.specs.Result.{result_ok}
 use Rattle.std.proofs.lemmas.Bool.{cases_lt}
 use Rattle.std.proofs.lemmas.List.{get_or-append_right, get_or-map, get_or_append_left, get_or_default, length-map, length_push}
 use Rattle.std.proofs.lemmas.Nat.{same_from_place}
-use Rattle.math_base.specs.declared.fields.goldilocks.F.{F}
+use Rattle.math_fields.specs.declared.goldilocks.F.{F}
 use Rattle.systematic_shards.specs.declared.rows.Row.{Row}
 use Rattle.systematic_shards.specs.declared.split.Split.{Split}
 use Rattle.systematic_shards.specs.Filled.{AreFilled, AreWithinRoom, row_word}
@@ -15,17 +15,6 @@ use Rattle.systematic_shards.specs.Wanted.{AreCopied, AreCopiesWithin, AreLost}
 use Rattle.systematic_shards.specs.Words.{IsWithin}
 use Rattle.systematic_shards.proofs.Held.{rising-more}
 use Rattle.systematic_shards.proofs.OneCodeword.{some_item}
-
--- nothing is lost so far
-pub lost-none : (indices wanted : List ℕ) → AreLost indices wanted 0 [] []
-lost-none indices wanted = record {
-  count = refl;
-  rise = λ k l. absurd (omega (arith, l));
-  inside = λ j l. absurd (omega (arith, l));
-  index = λ j l. absurd (omega (arith, l));
-  missing = λ j l. absurd (omega (arith, l));
-  all = λ t l. absurd (omega (arith, l));
-}
 
 -- a wanted row that is in hand
 pub lost-held : (indices wanted : List ℕ) (n : ℕ) (lost places : List ℕ) → Contains indices (get_or wanted n 0) → AreLost indices wanted n lost places → AreLost indices wanted (n + 1) lost places

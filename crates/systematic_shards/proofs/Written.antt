@@ -1,7 +1,7 @@
 -- Values that are written one by one, and run by run.
 use Rattle.std.proofs.Common.{◌≡◌, ◌≢◌, ◌∙◌, inl, inr, ℕ, ◌+◌, ◌-◌, ◌<◌, refl, ap, subst, arith}
 use Rattle.std.proofs.lemmas.Bool.{cases_lt}
-use Rattle.systematic_shards.specs.Words.{AreWritten}
+use Rattle.row_interpolation.specs.Written.{AreWritten}
 
 module _ {X : Type 0} (place : ℕ → ℕ) (value : ℕ → X) where
   -- no value so far
@@ -46,9 +46,13 @@ below-run P from n before here i l = elim (cases_lt i from) as (λ _. P i) [
   | inr after ↦ let e : from + (i - from) ≡ i = omega (arith, after) in subst P e (here (i - from) (omega (arith, e, l)))
 ]
 
--- the same run, of values that are said otherwise
-pub same-run : {X : Type 0} (at m n : ℕ) (run value old new : ℕ → X) → m ≡ n → ((k : ℕ) → k < n → run k ≡ value k) → AreWritten (λ k. at + k) run m old new → AreWritten (λ k. at + k) value n old new
-same-run at m n run value old new count same h = record {
+-- the same values in the same places, said otherwise
+pub same-written : {X : Type 0} (place : ℕ → ℕ) (m n : ℕ) (run value old new : ℕ → X) → m ≡ n → ((k : ℕ) → k < n → run k ≡ value k) → AreWritten place run m old new → AreWritten place value n old new
+same-written place m n run value old new count same h = record {
   written = λ k l. h.written k (omega (arith, l, count)) ∙ same k l;
   others = λ i apart. h.others i (λ k l. apart k (omega (arith, l, count)));
 }
+
+-- so of a run
+pub same-run : {X : Type 0} (at m n : ℕ) (run value old new : ℕ → X) → m ≡ n → ((k : ℕ) → k < n → run k ≡ value k) → AreWritten (λ k. at + k) run m old new → AreWritten (λ k. at + k) value n old new
+same-run at = same-written (λ k. at + k)

@@ -2,15 +2,10 @@
 -- Rows are given by their cells: `cell i k` is the cell of row i in column k.
 use Rattle.std.specs.Prelude.{ℕ, ◌<◌, ◌≤◌, ◌^◌, List, length, slice_index_or, All}
 use Rattle.std.specs.Int.{IsNextPowerOfTwo}
-use Rattle.math_base.specs.declared.fields.goldilocks.F.{F}
-use Rattle.math_base.specs.Elements.{residue, same, sum, product, root_of}
+use Rattle.math_fields.specs.declared.goldilocks.F.{F}
+use Rattle.math_fields.specs.Elements.{same}
 use Rattle.math_restoring.specs.Restored.{AreDistinct}
-use Rattle.math_theory.specs.Powers.{power}
-use Rattle.math_theory.specs.Values.{value}
-
--- the value at power i of the root of order 2^lg
-abbrev pub value_at_index : ℕ → List F → ℕ → F
-value_at_index lg coefficients i = value (residue 0) sum product (residue 1) (power (residue 1) product (root_of lg) i) coefficients
+use Rattle.row_interpolation.specs.RowValues.{value_at_index}
 
 -- p has at most `min` coefficients, and its value at power i of the root of order 2^lg is cell i, for each i below `total`
 pub record IsPolynomialOf (lg min total : ℕ) (cell : ℕ → F) (p : List F) : Type 0 where
@@ -39,7 +34,7 @@ HaveOneCodeword =
     (min total width : ℕ) (indices : List ℕ) (a b : ℕ → ℕ → F) → total < 2 ^ 32 → AreIndices total indices → min ≤ length indices
     → IsCodeword min total width a → IsCodeword min total width b → AgreeAt indices width a b → AreSameRows total width a b
 
--- through any rows at no more than `min` distinct indices goes a codeword: row t of the cells is that of index number t
+-- through any rows at no more than `min` distinct indices goes a codeword: row t of the cells is the row of index number t
 abbrev pub HaveCodeword : Type 0
 HaveCodeword =
     (min total width : ℕ) (indices : List ℕ) (cells : ℕ → ℕ → F) → 1 ≤ total → total < 2 ^ 32 → AreIndices total indices → length indices ≤ min

@@ -4,7 +4,7 @@ use Rattle.std.specs.List.Sorted.{IsStrictlyIncreasing}
 use Rattle.systematic_shards.specs.declared.rows.Row.{Row}
 use Rattle.systematic_shards.specs.declared.split.Split.{Split}
 use Rattle.systematic_shards.specs.Refusals.{AreElements, HaveCodewordOf}
-use Rattle.systematic_shards.specs.Weights.{AreRising}
+use Rattle.math_transforms.specs.RootWeights.{AreRising}
 
 -- both rows have one index, and the same words
 pub record AreCopies {M : Type 0} (word : List M → ℕ → ℕ) (width : ℕ) (one other : Row M) : Type 0 where

@@ -3,13 +3,12 @@ pub mod Splits
 pub mod Errors
 pub mod Masks
 pub mod Codewords
-pub mod Weights
 pub mod Shards
+pub mod RowElements
 pub mod Made
 pub mod Refusals
 pub mod Filled
+pub mod Strips
 pub mod Held
 pub mod Wanted
 pub mod Correcting
-pub mod Transforms
-pub mod Interpolations

@@ -22,7 +22,7 @@ pub record IsLeastMask (n : ℕ) (word : ℕ → ℕ) (mask : ℕ) : Type 0 wher
   pub free : IsFree n word mask
   pub least : (m : ℕ) → m < mask → ¬ (IsFree n word m)
 
--- the number whose 32 bits are the others than those of the high half of the word
+-- the number whose 32 bits are the opposite of the bits of the high half of the word
 abbrev pub complement : ℕ → ℕ
 complement word = 2 ^ 32 - 1 - high_half word
 

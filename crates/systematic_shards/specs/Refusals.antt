@@ -1,7 +1,7 @@
 -- When each refusal is due.
 use Rattle.std.specs.Prelude.{◌≡◌, ◌≢◌, ℕ, ◌*◌, ◌<◌, ◌≤◌, ◌⊎◌, List, [], length, map, slice_index_or, All, Contains, ⊤}
 use Rattle.std.specs.List.{range_with_len}
-use Rattle.math_base.specs.declared.fields.goldilocks.F.{F}
+use Rattle.math_fields.specs.declared.goldilocks.F.{F}
 use Rattle.math_restoring.specs.Restored.{AreDistinct}
 use Rattle.systematic_shards.specs.declared.Error.{Error}
 use Rattle.systematic_shards.specs.declared.Error.TheVariants.{Memory, TooFew, Mismatch, Sizes, Index, Word, Conflict, Inconsistent}
@@ -9,7 +9,7 @@ use Rattle.systematic_shards.specs.declared.rows.Row.{Row}
 use Rattle.systematic_shards.specs.declared.split.Split.{Split}
 use Rattle.systematic_shards.specs.Shards.{AreWithinAt, BelongTo, IsCodewordOf, IsElementIn}
 
--- the cells of the row, of so many bytes each, are as many bytes as a row has
+-- the cells of the row, of `bytes` bytes each, are as many bytes as a row has
 abbrev pub HasLength : {M : Type 0} → ℕ → Split → Row M → Type 0
 HasLength bytes split row = bytes * length row.cells.now ≡ 8 * split.width
 
@@ -43,12 +43,12 @@ pub record HaveConflict {M : Type 0} (word : List M → ℕ → ℕ) (split : Sp
   pub inside : place < split.width
   pub differ : word one.cells.now place ≢ word other.cells.now place
 
--- distinct indices, each that of one of the rows
+-- distinct indices, each the index of one of the rows
 pub record AreIndicesAmong {M : Type 0} (rows : List (Row M)) (indices : List ℕ) : Type 0 where
   pub distinct : AreDistinct indices
   pub among : All (Contains (map (λ row. row.index) rows)) indices
 
--- the rows have so many distinct indices, or more
+-- the rows have `least` distinct indices, or more
 abbrev pub HaveEnough : {M : Type 0} → ℕ → List (Row M) → Type 0
 HaveEnough least rows = (indices : List ℕ) × AreIndicesAmong rows indices × (least ≤ length indices)
 
@@ -56,7 +56,11 @@ HaveEnough least rows = (indices : List ℕ) × AreIndicesAmong rows indices × 
 abbrev pub HaveCodewordOf : {M : Type 0} → (List M → ℕ → ℕ) → Split → ℕ → List (Row M) → Type 0
 HaveCodewordOf word split mask rows = (a : ℕ → ℕ → F) × IsCodewordOf split a × BelongTo word split mask rows a
 
--- which refusal is due to rows in hand, of which those of some indices are wanted
+-- two rows of one index differ, or the rows, of enough indices, do not all belong to one codeword
+abbrev pub AreUnlike : {M : Type 0} → (List M → ℕ → ℕ) → Split → ℕ → List (Row M) → Type 0
+AreUnlike word split mask rows = HaveConflict word split rows ⊎ (HaveEnough split.min rows × (¬ (HaveCodewordOf word split mask rows)))
+
+-- which refusal is due to rows in hand from which the rows of some indices are wanted
 abbrev pub IsDue : {M : Type 0} → ℕ → (List M → ℕ → ℕ) → Split → ℕ → List (Row M) → List ℕ → Error → Type 0
 IsDue bytes word split mask rows wanted (Memory e) = ⊤
 IsDue bytes word split mask rows wanted TooFew =
@@ -77,7 +81,7 @@ abbrev pub HaveBytesPast : {M : Type 0} → (List M → ℕ → ℕ) → Split �
 HaveBytesPast word split mask rows =
     (a : ℕ → ℕ → F) × IsCodewordOf split a × BelongTo word split mask rows a × (¬ (AreWithinAt split.size split mask a (range_with_len 0 split.min)))
 
--- which refusal is due to rows that are decoded: as where none is wanted, or that the data have a byte past their end
+-- which refusal is due to rows that are decoded: one that is due where no index is wanted, or that the data have a byte past their end
 abbrev pub IsDecodeDue : {M : Type 0} → ℕ → (List M → ℕ → ℕ) → Split → ℕ → List (Row M) → Error → Type 0
 IsDecodeDue bytes word split mask rows e =
     IsDue bytes word split mask rows [] e

@@ -19,7 +19,7 @@ AreCopied {M} word width indices rows wanted n room =
     (t p k : ℕ) (d : Row M) → t < n → p < length rows → slice_index indices p ≡ slice_index wanted t → k < width
     → room (t * width + k) ≡ word (slice_index_or rows p d).cells.now k
 
--- so many bytes have room for the words of the first n wanted rows that are in hand, row after row
+-- `size` bytes have room for the words of the first n wanted rows that are in hand, row after row
 abbrev pub AreCopiesWithin : {M : Type 0} → ℕ → (List M → ℕ → ℕ) → ℕ → List ℕ → List (Row M) → List ℕ → ℕ → Type 0
 AreCopiesWithin {M} size word width indices rows wanted n =
     (t p k : ℕ) (d : Row M) → t < n → p < length rows → slice_index indices p ≡ slice_index wanted t → k < width

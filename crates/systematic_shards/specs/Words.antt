@@ -1,5 +1,5 @@
--- Words where they lie in memory, as they are or as bytes.
-use Rattle.std.specs.Prelude.{◌≡◌, ◌≢◌, ℕ, ◌-◌, ◌*◌, ◌<◌, ◌^◌, List, drop}
+-- Words where they lie in memory, as they are or as bytes. The words of some memory are a function of their number.
+use Rattle.std.specs.Prelude.{ℕ, ◌-◌, ◌*◌, ◌<◌, ◌^◌, List, drop}
 use Rattle.std.specs.Int.{from_le_bytes, w64}
 
 -- word k of bytes: the eight bytes from byte 8 k on, the lowest first; bytes past the end count as zeros
@@ -9,8 +9,3 @@ word_of_bytes bytes k = from_le_bytes w64 (drop (8 * k) bytes)
 -- the bytes of word k that lie past the first `size` bytes are zeros
 abbrev pub IsWithin : ℕ → ℕ → ℕ → Type 0
 IsWithin size k word = word < 2 ^ (8 * (size - 8 * k))
-
--- n values are written, value k in place k of theirs, and what stands in other places is as it was
-pub record AreWritten {X : Type 0} (place : ℕ → ℕ) (value : ℕ → X) (n : ℕ) (old new : ℕ → X) : Type 0 where
-  pub written : (k : ℕ) → k < n → new (place k) ≡ value k
-  pub others : (i : ℕ) → ((k : ℕ) → k < n → i ≢ place k) → new i ≡ old i

@@ -7,33 +7,31 @@
 //! settled indices are values of polynomials, and are corrected as such. Then all rows in hand are
 //! compared with the codeword.
 
-ghost use Rattle.std.specs.Prelude.{◌≡◌, ◌↔◌, ◌+◌, ◌*◌, ◌<◌, ◌≤◌, ◌^◌, ◌⊎◌, ℕ, All, length};
+ghost use Rattle.std.specs.Prelude.{◌≡◌, ◌↔◌, ◌+◌, ◌*◌, ◌<◌, ◌≤◌, ◌^◌, ℕ, All, length};
 ghost use Rattle.std.specs.Prelude.{IsTrue, IfOk, IfErr, IfSome, IfNone, OnErr, OnOk};
-ghost use Rattle.math_base.specs.declared.fields.goldilocks.F.{F};
+ghost use Rattle.math_fields.specs.declared.goldilocks.F.{F};
 ghost use Rattle.math_restoring.specs.Restored.{item};
 ghost use Rattle.systematic_shards.specs.Correcting.{Agrees, AreCorrectedTo, AreMarked};
 ghost use Rattle.systematic_shards.specs.Correcting.{ArePositionsWithout, AreSettledRows};
-ghost use Rattle.systematic_shards.specs.Correcting.{HasCells, HaveSettled, HoldsNear, IsNear};
-ghost use Rattle.systematic_shards.specs.Correcting.{IsCorrectingDue, IsSettled};
-ghost use Rattle.systematic_shards.specs.Correcting.{cells_at};
-ghost use Rattle.systematic_shards.specs.Errors.{IsMemory};
+ghost use Rattle.systematic_shards.specs.Correcting.{HasCells, HaveNoneNear, HaveSettled};
+ghost use Rattle.systematic_shards.specs.Correcting.{HoldsNear, IsCorrectingDue, IsSettled};
+ghost use Rattle.systematic_shards.specs.Correcting.{IsSettledDue, cells_at};
 ghost use Rattle.systematic_shards.specs.Refusals.{AreAsked, IsSound};
-ghost use Rattle.systematic_shards.specs.Shards.{AreRowsAt, IsCodewordOf, IsRowOf};
+ghost use Rattle.systematic_shards.specs.Shards.{AreRowsAt, IsRowOf};
 ghost use Rattle.systematic_shards.specs.Shards.{element_in, word_in};
-ghost use Rattle.systematic_shards.specs.Words.{AreWritten};
-ghost use Rattle.systematic_shards.specs.declared.Error.TheVariants.{TooFew};
+ghost use Rattle.row_interpolation.specs.Written.{AreWritten};
 
 use crate::Error;
 use crate::mask::{element_of, word_of};
 use crate::memory::WordMemory;
 use crate::rows::{Row, are_below, check_rows, first_difference, has_elements, row_mask};
 use crate::split::Code;
-use crate::weights::lg_above;
 use math_base::algebra::Mem;
-use math_base::fields::goldilocks::F;
+use math_fields::goldilocks::F;
 use math_ntt::ntt::{EvaluationVector, Matrix, VanishingPoints};
 use math_transforms::transform::size_of;
 use math_values::strips::strip_room;
+use row_interpolation::lg_above;
 use std::alloc::Global;
 
 /// Writes the rows of the wanted indices over `out`, row after row, though some rows in hand are
@@ -81,8 +79,8 @@ pub fn rebuild_corrected<M: WordMemory>(
     ensures some { IfOk result (λ answer. IfSome answer (λ positions. (a : ℕ → ℕ → F)
         × AreCorrectedTo M.word code.split code.mask rows.now positions.items a
         × AreRowsAt code.split code.mask a wanted.now (M.word out.new))) }
-    ensures none { IfOk result (λ answer. IfNone answer ((a : ℕ → ℕ → F)
-        → IsCodewordOf code.split a → ¬ (IsNear M.word code.split code.mask rows.now a))) }
+    ensures none { IfOk result (λ answer. IfNone answer
+        (HaveNoneNear M.word code.split code.mask rows.now)) }
     ensures kept { IfOk result (λ answer. IfNone answer (out.new ≡ out.old)) }
     ensures asked { OnOk result (AreAsked M.BYTES code.split rows.now wanted.now) }
     ensures enough { OnOk result
@@ -201,8 +199,7 @@ fn settled_rows<M: WordMemory>(
     ensures ok { IfOk result (λ e. AreSettledRows M.word code.split code.mask rows.now e) }
     ensures enough { OnOk result
         (HaveSettled M.word code.split code.mask code.split.min rows.now) }
-    ensures err { IfErr result (λ e. IsMemory e ⊎ ((e ≡ TooFew)
-        × ¬ (HaveSettled M.word code.split code.mask code.split.min rows.now))) }
+    ensures err { IfErr result (IsSettledDue M.word code.split code.mask rows.now) }
 {
     let lg = lg_above(code.split.total);
     let points = settled_points(alloc, rows, code, lg)?;
@@ -224,12 +221,11 @@ fn corrected_cells<M: WordMemory>(
     requires { All (IsSound M.BYTES code.split) rows.now }
     ensures some { IfOk result (λ answer. IfSome answer
         (λ cells. HoldsNear M.word code.split code.mask rows.now cells.items)) }
-    ensures none { IfOk result (λ answer. IfNone answer ((a : ℕ → ℕ → F)
-        → IsCodewordOf code.split a → ¬ (IsNear M.word code.split code.mask rows.now a))) }
+    ensures none { IfOk result (λ answer. IfNone answer
+        (HaveNoneNear M.word code.split code.mask rows.now)) }
     ensures enough { OnOk result
         (HaveSettled M.word code.split code.mask code.split.min rows.now) }
-    ensures err { IfErr result (λ e. IsMemory e ⊎ ((e ≡ TooFew)
-        × ¬ (HaveSettled M.word code.split code.mask code.split.min rows.now))) }
+    ensures err { IfErr result (IsSettledDue M.word code.split code.mask rows.now) }
 {
     let values = settled_rows(alloc, rows, code)?;
     let Some(corrected) = values.correct(alloc, code.split.min as usize)? else {

@@ -2,18 +2,17 @@
 
 ghost use Rattle.std.specs.Prelude.{◌≡◌, ◌*◌, [], ℕ, length};
 ghost use Rattle.std.specs.Prelude.{IfErr, OnErr, OnOk};
-ghost use Rattle.math_base.specs.declared.fields.goldilocks.F.{F};
 ghost use Rattle.systematic_shards.specs.Refusals.{AreAsked, AreElements, HaveEnough};
 ghost use Rattle.systematic_shards.specs.Refusals.{IsDecodeDue};
-ghost use Rattle.systematic_shards.specs.Shards.{AreDataOf, BelongTo, IsCodewordOf};
+ghost use Rattle.systematic_shards.specs.Shards.{AreDecoded};
 
 use crate::Error;
-use crate::holding::hold;
+use crate::encoding::indices_between;
+use crate::holding::held_rows;
 use crate::memory::WordMemory;
 use crate::planning::write_wanted;
 use crate::rows::{Row, check_rows};
 use crate::split::Code;
-use crate::weights::indices_between;
 use std::alloc::Global;
 
 /// Writes the block over `block`, from `min` or more of its rows: data rows that are in hand are
@@ -37,9 +36,7 @@ pub fn decode<M: WordMemory>(
     block: &mut [M],
 ) -> Result<(), Error>
     requires { M.BYTES * length block.old ≡ code.split.size }
-    ensures ok { OnOk result ((a : ℕ → ℕ → F) × IsCodewordOf code.split a
-        × BelongTo M.word code.split code.mask rows.now a
-        × AreDataOf code.split code.mask a (M.word block.new)) }
+    ensures ok { OnOk result (AreDecoded M.word code.split code.mask rows.now (M.word block.new)) }
     ensures asked { OnOk result (AreAsked M.BYTES code.split rows.now []) }
     ensures elements { OnOk result (AreElements M.word code.split code.mask rows.now) }
     ensures enough { OnOk result (HaveEnough code.split.min rows.now) }
@@ -47,7 +44,7 @@ pub fn decode<M: WordMemory>(
     ensures err { OnErr result (block.new ≡ block.old) }
 {
     check_rows(rows, code.split)?;
-    let held = hold(alloc, rows, code)?;
+    let held = held_rows(alloc, rows, code)?;
     let wanted = indices_between(alloc, 0, code.split.min)?;
     if !write_wanted(alloc, &held, &wanted, code, block)? {
         return Err(Error::Inconsistent);

@@ -1,17 +1,23 @@
 //! A block to parity rows, and the mask of its words.
+//!
+//! For example, `min` is 2 and `total` is 3, so the domain is the four powers of i, a root of order
+//! four. The data are three words, 5, 7 and 2^64 - 1, so a row has two words, and the last word of
+//! row 1 is zero. The high half of 2^64 - 1 is all ones, so the mask is 1. Under it the elements
+//! are 2^32 + 5 and 2^32 + 7 in row 0, and -2 and 2^32 in row 1. In each column they are the values
+//! a at 1 and b at i of a polynomial of two coefficients, and the value at -1 is (1 + i) b - i a.
+//! So the parity row has the words of 2^16 - 2^51 - 2 and 2^32 - 7 2^48.
 
 ghost use Rattle.std.specs.Prelude.{◌≡◌, ◌-◌, ◌*◌, ◌≤◌, length, IfOk, OnErr};
 ghost use Rattle.std.specs.List.{range_with_len};
 ghost use Rattle.systematic_shards.specs.Masks.{IsLeastMask};
 ghost use Rattle.systematic_shards.specs.Shards.{AreBlockRows, AreShards};
 
-use crate::filling::fill;
-use crate::interpolation::Interpolation;
+use crate::filling::write_targets;
+use crate::making::RowMaker;
 use crate::mask::least_mask;
 use crate::memory::WordMemory;
 use crate::rows::Row;
 use crate::split::{Code, Split};
-use crate::weights::indices_between;
 use math_base::algebra::Mem;
 use std::alloc::Global;
 
@@ -29,6 +35,18 @@ fn block_rows<'a, M: WordMemory>(
         rows.push(Row { index, cells })?;
     }
     Ok(rows)
+}
+
+/// The indices from `from` on, below `to`.
+pub(crate) fn indices_between(alloc: Global, from: u32, to: u32) -> Mem<Vec<u32>>
+    requires { from ≤ to }
+    ensures { IfOk result (λ v. v.items ≡ range_with_len from (to - from)) }
+{
+    let mut out = Vec::new(alloc);
+    for index in from..to {
+        out.push(index)?;
+    }
+    Ok(out)
 }
 
 /// The numbers below `count`.
@@ -77,8 +95,8 @@ pub fn encode<M: WordMemory>(alloc: Global, split: Split, block: &[M], parity: &
     let first = indices_between(alloc, 0, split.min)?;
     let targets = indices_between(alloc, split.min, split.total)?;
     let places = places_below(alloc, targets.len())?;
-    let interpolation = Interpolation::new(alloc, &first, &targets, Code { split, mask })?;
-    let mut room = interpolation.room(alloc)?;
-    fill(&rows, &interpolation, &places, &mut room, parity);
+    let maker = RowMaker::new(alloc, &rows, &first, &targets, Code { split, mask })?;
+    let mut room = maker.interpolation.room(alloc)?;
+    write_targets(&maker, &places, &mut room, parity);
     Ok(mask)
 }

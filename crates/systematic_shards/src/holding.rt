@@ -1,18 +1,18 @@
 //! Rows of distinct indices, by rising index, and whether they belong to one codeword.
 
-ghost use Rattle.std.specs.Prelude.{◌≡◌, ◌↔◌, ◌<◌, ◌≤◌, ◌⊎◌, ℕ, All, List, length, map};
+ghost use Rattle.std.specs.Prelude.{◌≡◌, ◌↔◌, ◌⊎◌, ℕ, All, List, map};
 ghost use Rattle.std.specs.Prelude.{IsTrue, IfOk, IfErr, OnOk};
-ghost use Rattle.std.specs.List.Sorted.{IsNonDecreasingBy, IsPermutation};
-ghost use Rattle.systematic_shards.specs.Held.{AreHeld, AreOneOfEach, IsUnlikeLast, IsKeptWith};
+ghost use Rattle.std.specs.List.Sorted.{IsNonDecreasingBy, IsPermutation, IsStrictlyIncreasing};
+ghost use Rattle.systematic_shards.specs.Held.{AreHeld, AreIndexed, AreOneOfEach, IsUnlikeLast};
+ghost use Rattle.systematic_shards.specs.Held.{IsKeptWith};
 ghost use Rattle.systematic_shards.specs.Refusals.{AreAsked, AreElements, HaveCodewordOf};
 ghost use Rattle.systematic_shards.specs.Refusals.{HaveConflict, IsDue, IsSound};
 ghost use Rattle.systematic_shards.specs.Errors.{IsMemory};
-ghost use Rattle.systematic_shards.specs.Weights.{AreRising};
 ghost use Rattle.systematic_shards.specs.declared.Error.TheVariants.{Conflict};
 
 use crate::Error;
-use crate::filling::have_made;
-use crate::interpolation::Interpolation;
+use crate::filling::are_targets;
+use crate::making::RowMaker;
 use crate::memory::WordMemory;
 use crate::rows::{Row, are_elements, first_difference};
 use crate::split::Code;
@@ -26,10 +26,12 @@ pub(crate) struct Held<'a, M> {
     pub(crate) indices: Vec<u32>,
     /// The rows.
     pub(crate) rows: Vec<Row<'a, M>>,
+    ghost are: { indices.items ≡ map (λ row. row.index) rows.items },
+    ghost rise: { IsStrictlyIncreasing indices.items },
 }
 
 /// The rows by rising index.
-fn sorted<'a, M: WordMemory>(alloc: Global, rows: &[Row<'a, M>]) -> Mem<Vec<Row<'a, M>>>
+fn rows_by_index<'a, M: WordMemory>(alloc: Global, rows: &[Row<'a, M>]) -> Mem<Vec<Row<'a, M>>>
     ensures rising { IfOk result (λ v. IsNonDecreasingBy (λ row. row.index) v.items) }
     ensures all { IfOk result (λ v. IsPermutation rows.now v.items) }
 {
@@ -40,7 +42,7 @@ fn sorted<'a, M: WordMemory>(alloc: Global, rows: &[Row<'a, M>]) -> Mem<Vec<Row<
 
 /// Puts the row behind those of other indices. If the last of these has its index, it is left out,
 /// and a word that differs is refused.
-fn keep<'a, M: WordMemory>(
+fn push_unless_copy<'a, M: WordMemory>(
     kept: &mut Vec<Row<'a, M>>,
     row: Row<'a, M>,
     width: usize,
@@ -72,10 +74,10 @@ fn one_of_each<'a, M: WordMemory>(
     ensures err { IfErr result
         (λ e. IsMemory e ⊎ ((e ≡ Conflict) × HaveConflict M.word code.split rows.now)) }
 {
-    let rising = sorted(alloc, rows)?;
+    let rising = rows_by_index(alloc, rows)?;
     let mut kept = Vec::new(alloc);
     for row in &rising {
-        keep(&mut kept, *row, code.split.width)?;
+        push_unless_copy(&mut kept, *row, code.split.width)?;
     }
     Ok(kept)
 }
@@ -99,22 +101,20 @@ fn are_of_one_codeword<M: WordMemory>(
     indices: &[u32],
     code: Code,
 ) -> Mem<bool>
-    requires indices { indices.now ≡ map (λ row. row.index) rows.now }
-    requires rising { AreRising code.split.total indices.now }
-    requires enough { code.split.min ≤ length rows.now }
+    requires indexed { AreIndexed code.split indices.now rows.now }
     requires elements { AreElements M.word code.split code.mask rows.now }
     ensures { IfOk result
         (λ answer. IsTrue answer ↔ HaveCodewordOf M.word code.split code.mask rows.now) }
 {
     let min = code.split.min as usize;
-    let interpolation = Interpolation::new(alloc, &indices[..min], &indices[min..], code)?;
-    let mut room = interpolation.room(alloc)?;
-    let answer = have_made(&rows[..min], &rows[min..], &interpolation, &mut room);
+    let maker = RowMaker::new(alloc, &rows[..min], &indices[..min], &indices[min..], code)?;
+    let mut room = maker.interpolation.room(alloc)?;
+    let answer = are_targets(&maker, &rows[min..], &mut room);
     Ok(answer)
 }
 
 /// One row of each index, where these are `min` or more and all rows belong to one codeword.
-pub(crate) fn hold<'a, M: WordMemory>(
+pub(crate) fn held_rows<'a, M: WordMemory>(
     alloc: Global,
     rows: &[Row<'a, M>],
     code: Code,

@@ -23,7 +23,6 @@ mod decoding;
 mod encoding;
 mod filling;
 mod holding;
-mod interpolation;
 pub mod laws;
 mod making;
 mod mask;
@@ -32,8 +31,6 @@ mod planning;
 mod rebuilding;
 mod rows;
 mod split;
-mod transforming;
-mod weights;
 
 pub use correcting::rebuild_corrected;
 pub use decoding::decode;

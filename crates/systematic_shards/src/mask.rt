@@ -1,13 +1,13 @@
 //! Any word as an element: the mask over its high half.
 
 ghost use Rattle.std.specs.Prelude.{◌≡◌, ◌-◌, ◌<◌, ◌≤◌, ◌^◌, ◌↔◌, ℕ, All, IfOk, IsTrue, OnOk};
-ghost use Rattle.math_base.specs.Elements.{number, residue};
+ghost use Rattle.math_fields.specs.Elements.{number, residue};
 ghost use Rattle.systematic_shards.specs.Masks.{AreTaken, IsFree, IsFreeOf, IsLeastMask};
 ghost use Rattle.systematic_shards.specs.Masks.{masked_number};
 
-use crate::memory::{RUN, WordMemory, run_of};
+use crate::memory::{RUN, WordMemory, words_from};
 use math_base::algebra::Mem;
-use math_base::fields::goldilocks::F;
+use math_fields::goldilocks::F;
 use std::alloc::Global;
 
 /// A high half that has all bits.
@@ -63,11 +63,12 @@ fn is_free<M: WordMemory>(cells: &[M], count: usize, mask: u32) -> bool
     ensures free { IsTrue result ↔ IsFree count (M.word cells.now) mask }
     ensures fit { IsTrue result → (k : ℕ) → k < count → M.word cells.now k < 2 ^ 64 }
 {
+    let mut run = [0; RUN];
     let mut from = 0;
     while from < count {
         let some = RUN.min(count - from);
-        let run = run_of(cells, from, some);
-        if !are_free_of(&run[..some], mask) {
+        let words = words_from(cells, from, some, &mut run);
+        if !are_free_of(words, mask) {
             return false;
         }
         from += some;
@@ -77,7 +78,7 @@ fn is_free<M: WordMemory>(cells: &[M], count: usize, mask: u32) -> bool
 
 /// For each number below `count`, whether the high half of one of the first `count` words is its
 /// complement.
-fn complements<M: WordMemory>(alloc: Global, cells: &[M], count: usize) -> Mem<Vec<bool>>
+fn taken_masks<M: WordMemory>(alloc: Global, cells: &[M], count: usize) -> Mem<Vec<bool>>
     requires { count < 2 ^ 31 }
     ensures { IfOk result (λ taken. AreTaken count (M.word cells.now) count taken.items) }
 {
@@ -103,7 +104,7 @@ pub(crate) fn least_mask<M: WordMemory>(alloc: Global, cells: &[M], count: usize
     if is_free(cells, count, 0) {
         return Ok(0);
     }
-    let taken = complements(alloc, cells, count)?;
+    let taken = taken_masks(alloc, cells, count)?;
     for mask in 0..count {
         if !taken[mask] {
             return Ok(mask as u32);

@@ -2,7 +2,8 @@
 
 ghost use Rattle.std.specs.Prelude.{◌≡◌, ◌≢◌, ◌+◌, ◌-◌, ◌*◌, ◌/◌, ◌<◌, ◌≤◌, ◌^◌, ◌++◌, [], ℕ, List, length, take, drop, replicate, slice_index, slice_index_or};
 ghost use Rattle.std.specs.Int.{from_le_bytes, w64};
-ghost use Rattle.systematic_shards.specs.Words.{AreWritten, IsWithin, word_of_bytes};
+ghost use Rattle.row_interpolation.specs.Written.{AreWritten};
+ghost use Rattle.systematic_shards.specs.Words.{IsWithin, word_of_bytes};
 
 /// What data and rows lie in: words, or bytes, of which eight are a word, the lowest first.
 pub trait WordMemory: Copy {
@@ -86,28 +87,28 @@ impl WordMemory for u8 {
     const BYTES: usize = 1;
 
     fn read(cells: &[u8], k: usize) -> u64 {
-        spelled(cells, k)
+        word_in_bytes(cells, k)
     }
 
     fn read_run(cells: &[u8], from: usize, out: &mut [u64]) {
         let (words, _) = cells.as_chunks::<8>();
         let end = from + out.len();
         if end <= words.len() {
-            read_whole(&words[from..end], out);
+            read_whole_words(&words[from..end], out);
         } else {
-            read_each(cells, from, out);
+            read_words(cells, from, out);
         }
     }
 
     fn write(cells: &mut [u8], k: usize, value: u64) {
-        spell(cells, k, value);
+        write_word(cells, k, value);
     }
 
     fn write_run(cells: &mut [u8], at: usize, words: &[u64]) {
         if at + words.len() <= cells.len() / 8 {
-            spell_whole(cells, at, words);
+            write_whole_words(cells, at, words);
         } else {
-            spell_each(cells, at, words);
+            write_words(cells, at, words);
         }
     }
 
@@ -136,7 +137,7 @@ fn put_word(words: &mut [u64], k: usize, value: u64)
 }
 
 /// Word k of the bytes.
-fn spelled(cells: &[u8], k: usize) -> u64
+fn word_in_bytes(cells: &[u8], k: usize) -> u64
     ensures { result ≡ word_of_bytes cells.now k }
 {
     let (words, rest) = cells.as_chunks::<8>();
@@ -144,13 +145,13 @@ fn spelled(cells: &[u8], k: usize) -> u64
         return u64::from_le_bytes(words[k]);
     }
     if k == words.len() {
-        return u64::from_le_bytes(padded(rest));
+        return u64::from_le_bytes(eight_bytes(rest));
     }
     0
 }
 
 /// Fewer than eight bytes, and zeros behind them.
-fn padded(rest: &[u8]) -> [u8; 8]
+fn eight_bytes(rest: &[u8]) -> [u8; 8]
     requires { length rest.now < 8 }
     ensures { result ≡ rest.now ++ replicate (8 - length rest.now) 0 }
 {
@@ -160,7 +161,7 @@ fn padded(rest: &[u8]) -> [u8; 8]
 }
 
 /// Reads whole words over the items of `out`.
-fn read_whole(words: &[[u8; 8]], out: &mut [u64])
+fn read_whole_words(words: &[[u8; 8]], out: &mut [u64])
     requires { length words.now ≡ length out.old }
     ensures { (k : ℕ) → k < length out.old
         → slice_index out.new k ≡ from_le_bytes w64 (slice_index_or words.now k []) }
@@ -172,18 +173,18 @@ fn read_whole(words: &[[u8; 8]], out: &mut [u64])
 
 /// Reads the words from word `from` on, some of which may reach past the end, over the items of
 /// `out`.
-fn read_each(cells: &[u8], from: usize, out: &mut [u64])
+fn read_words(cells: &[u8], from: usize, out: &mut [u64])
     requires { from + length out.old ≤ 2 ^ 61 }
     ensures { (k : ℕ) → k < length out.old
         → slice_index out.new k ≡ word_of_bytes cells.now (from + k) }
 {
     for k in 0..out.len() {
-        out[k] = spelled(cells, from + k);
+        out[k] = word_in_bytes(cells, from + k);
     }
 }
 
 /// Writes word k over the bytes, as far as these go.
-fn spell(cells: &mut [u8], k: usize, value: u64)
+fn write_word(cells: &mut [u8], k: usize, value: u64)
     requires place { k < 2 ^ 61 }
     requires fits { IsWithin (length cells.old) k value }
     ensures written { word_of_bytes cells.new k ≡ value }
@@ -192,26 +193,26 @@ fn spell(cells: &mut [u8], k: usize, value: u64)
     let at = 8 * k;
     let bytes = value.to_le_bytes();
     if k < cells.len() / 8 {
-        put(cells, at, &bytes);
+        write_bytes(cells, at, &bytes);
     } else if at < cells.len() {
         let left = cells.len() - at;
-        put(cells, at, &bytes[..left]);
+        write_bytes(cells, at, &bytes[..left]);
     }
 }
 
 /// Writes the words over the bytes, the first as word `at`. None reaches past the end.
-fn spell_whole(cells: &mut [u8], at: usize, words: &[u64])
+fn write_whole_words(cells: &mut [u8], at: usize, words: &[u64])
     requires { at + length words.now ≤ length cells.old / 8 }
     ensures { AreWritten (λ k. at + k) (slice_index words.now) (length words.now)
         (word_of_bytes cells.old) (word_of_bytes cells.new) }
 {
     for k in 0..words.len() {
-        put(cells, 8 * (at + k), &words[k].to_le_bytes());
+        write_bytes(cells, 8 * (at + k), &words[k].to_le_bytes());
     }
 }
 
 /// Writes the words over the bytes, as far as these go, the first as word `at`.
-fn spell_each(cells: &mut [u8], at: usize, words: &[u64])
+fn write_words(cells: &mut [u8], at: usize, words: &[u64])
     requires place { at + length words.now ≤ 2 ^ 61 }
     requires fits { (k : ℕ) → k < length words.now
         → IsWithin (length cells.old) (at + k) (slice_index words.now k) }
@@ -219,12 +220,12 @@ fn spell_each(cells: &mut [u8], at: usize, words: &[u64])
         (word_of_bytes cells.old) (word_of_bytes cells.new) }
 {
     for k in 0..words.len() {
-        spell(cells, at + k, words[k]);
+        write_word(cells, at + k, words[k]);
     }
 }
 
 /// Writes the part over the bytes from place `at` on.
-fn put(bytes: &mut [u8], at: usize, part: &[u8])
+fn write_bytes(bytes: &mut [u8], at: usize, part: &[u8])
     requires { at + length part.now ≤ length bytes.old }
     ensures { bytes.new
         ≡ take at bytes.old ++ (part.now ++ drop (at + length part.now) bytes.old) }
@@ -235,15 +236,20 @@ fn put(bytes: &mut [u8], at: usize, part: &[u8])
 /// How many words a run has at most.
 pub(crate) const RUN: usize = 64;
 
-/// A run of `count` words from word `from` on, and zeros behind them.
-pub(crate) fn run_of<M: WordMemory>(cells: &[M], from: usize, count: usize) -> [u64; RUN]
+/// Reads `count` words from word `from` on into the first items of `run`, and gives these.
+pub(crate) fn words_from<'r, M: WordMemory>(
+    cells: &[M],
+    from: usize,
+    count: usize,
+    run: &'r mut [u64; RUN],
+) -> &'r [u64]
     requires few { count ≤ 64 }
     requires place { from + count ≤ 2 ^ 61 }
+    ensures size { length result.now ≡ count }
     ensures words { (k : ℕ) → k < count
-        → slice_index result k ≡ M.word cells.now (from + k) }
-    ensures size { length result ≡ 64 }
+        → slice_index result.now k ≡ M.word cells.now (from + k) }
 {
-    let mut run = [0; RUN];
-    M::read_run(cells, from, &mut run[..count]);
-    run
+    let words = &mut run[..count];
+    M::read_run(cells, from, words);
+    words
 }

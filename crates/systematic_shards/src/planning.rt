@@ -3,28 +3,30 @@
 ghost use Rattle.std.specs.Prelude.{◌≡◌, ◌↔◌, ◌+◌, ◌*◌, ◌<◌, ◌≤◌, ◌^◌, ℕ, All, Contains, List, length, map, slice_index};
 ghost use Rattle.std.specs.Prelude.{IsTrue, IsFalse, IfOk, IfSome, IfNone, OnErr, OnOk};
 ghost use Rattle.std.specs.List.Sorted.{IsStrictlyIncreasing};
-ghost use Rattle.math_base.specs.declared.fields.goldilocks.F.{F};
-ghost use Rattle.math_base.specs.Elements.{number};
+ghost use Rattle.math_fields.specs.declared.goldilocks.F.{F};
+ghost use Rattle.math_fields.specs.Elements.{number};
 ghost use Rattle.math_restoring.specs.Restored.{item};
-ghost use Rattle.systematic_shards.specs.Filled.{ArePlaces, AreRunsWithin, AreWithinRoom};
-ghost use Rattle.systematic_shards.specs.Filled.{IsCodewordThrough, made_word, row_word};
+ghost use Rattle.row_interpolation.specs.Rooms.{IsRoomFor};
+ghost use Rattle.systematic_shards.specs.Filled.{ArePlaces};
 ghost use Rattle.systematic_shards.specs.Held.{AreIndexed};
 ghost use Rattle.systematic_shards.specs.Masks.{masked_number};
 ghost use Rattle.systematic_shards.specs.Refusals.{AreElements};
 ghost use Rattle.systematic_shards.specs.Shards.{AreRowsAt, AreWithinAt, BelongTo};
 ghost use Rattle.systematic_shards.specs.Shards.{IsCodewordOf};
+ghost use Rattle.systematic_shards.specs.Strips.{ArePlacesFor, HasRoomFor, IsCodewordFor};
+ghost use Rattle.systematic_shards.specs.Strips.{IsStripWithin};
 ghost use Rattle.systematic_shards.specs.Wanted.{AreCopied, AreCopiesWithin, AreLost};
 ghost use Rattle.systematic_shards.specs.Words.{IsWithin};
 
-use crate::filling::{copy_row, fill};
+use crate::filling::{copy_row, write_targets};
 use crate::holding::Held;
-use crate::interpolation::Interpolation;
+use crate::making::{RowMaker, Strip, strip_of};
 use crate::mask::word_of;
 use crate::memory::WordMemory;
 use crate::rows::{Row, row_mask};
 use crate::split::Code;
 use math_base::algebra::Mem;
-use math_base::fields::goldilocks::F;
+use math_fields::goldilocks::F;
 use std::alloc::Global;
 
 /// The rows that are wanted and not in hand.
@@ -47,7 +49,7 @@ fn position(indices: &[u32], index: u32) -> Option<usize>
 }
 
 /// Adds the wanted row of this place to those that are lost, unless its index is in hand.
-fn put_lost(lost: &mut Lost, indices: &[u32], index: u32, place: usize) -> Mem<()>
+fn push_if_lost(lost: &mut Lost, indices: &[u32], index: u32, place: usize) -> Mem<()>
     requires { IsStrictlyIncreasing indices.now }
     ensures { OnOk result ((wanted : List ℕ) → index ≡ slice_index wanted place
         → AreLost indices.now wanted place lost.old.indices.items lost.old.places.items
@@ -72,7 +74,7 @@ fn lost_rows(alloc: Global, indices: &[u32], wanted: &[u32]) -> Mem<Lost>
         places: Vec::new(alloc),
     };
     for place in 0..wanted.len() {
-        put_lost(&mut lost, indices, wanted[place], place)?;
+        push_if_lost(&mut lost, indices, wanted[place], place)?;
     }
     Ok(lost)
 }
@@ -113,22 +115,20 @@ fn is_row_within<M: WordMemory>(cells: &[M], width: usize, place: usize, size: u
 
 /// Whether so many bytes have room for the wanted rows that are in hand.
 fn are_copies_within<M: WordMemory>(
-    indices: &[u32],
-    rows: &[Row<'_, M>],
+    held: &Held<'_, M>,
     wanted: &[u32],
     width: usize,
     size: usize,
 ) -> bool
-    requires rising { IsStrictlyIncreasing indices.now }
-    requires count { length indices.now ≡ length rows.now }
     requires inside { length wanted.now * width ≤ 2 ^ 61 }
-    requires words { All (λ row. (k : ℕ) → k < width → M.word row.cells.now k < 2 ^ 64) rows.now }
-    ensures { IsTrue result
-        ↔ AreCopiesWithin size M.word width indices.now rows.now wanted.now (length wanted.now) }
+    requires words { All (λ row. (k : ℕ) → k < width → M.word row.cells.now k < 2 ^ 64)
+        held.now.rows.items }
+    ensures { IsTrue result ↔ AreCopiesWithin size M.word width held.now.indices.items
+        held.now.rows.items wanted.now (length wanted.now) }
 {
     for place in 0..wanted.len() {
-        if let Some(p) = position(indices, wanted[place]) {
-            if !is_row_within(rows[p].cells, width, place, size) {
+        if let Some(p) = position(&held.indices, wanted[place]) {
+            if !is_row_within(held.rows[p].cells, width, place, size) {
                 return false;
             }
         }
@@ -137,24 +137,16 @@ fn are_copies_within<M: WordMemory>(
 }
 
 /// Writes the wanted rows that are in hand.
-fn write_copies<M: WordMemory>(
-    indices: &[u32],
-    rows: &[Row<'_, M>],
-    wanted: &[u32],
-    width: usize,
-    out: &mut [M],
-)
-    requires rising { IsStrictlyIncreasing indices.now }
-    requires count { length indices.now ≡ length rows.now }
+fn write_copies<M: WordMemory>(held: &Held<'_, M>, wanted: &[u32], width: usize, out: &mut [M])
     requires inside { length wanted.now * width ≤ 2 ^ 61 }
-    requires fits { AreCopiesWithin (M.BYTES * length out.old) M.word width indices.now rows.now
-        wanted.now (length wanted.now) }
-    ensures { AreCopied M.word width indices.now rows.now wanted.now (length wanted.now)
-        (M.word out.new) }
+    requires fits { AreCopiesWithin (M.BYTES * length out.old) M.word width
+        held.now.indices.items held.now.rows.items wanted.now (length wanted.now) }
+    ensures { AreCopied M.word width held.now.indices.items held.now.rows.items wanted.now
+        (length wanted.now) (M.word out.new) }
 {
     for place in 0..wanted.len() {
-        if let Some(p) = position(indices, wanted[place]) {
-            copy_row(rows[p].cells, width, place, out);
+        if let Some(p) = position(&held.indices, wanted[place]) {
+            copy_row(held.rows[p].cells, width, place, out);
         }
     }
 }
@@ -174,30 +166,16 @@ fn is_run_within(elements: &[F], mask: u32, at: usize, size: usize) -> bool
     true
 }
 
-/// Whether so many bytes have room for the words of the elements that are made in `cols` columns,
-/// from column `from` on.
-fn are_made_within(
-    made: &[F],
-    interpolation: &Interpolation,
-    places: &[usize],
-    from: usize,
-    cols: usize,
-    size: usize,
-) -> bool
-    requires room { length interpolation.now.targets.items * cols ≤ length made.now }
-    requires within { from + cols ≤ interpolation.now.code.split.width }
-    requires places { ArePlaces interpolation.now.code.split.width
-        interpolation.now.targets.items places.now }
-    ensures { let code = interpolation.now.code in IsTrue result ↔ AreRunsWithin size code.split.width
-        from cols places.now
-        (made_word code.split code.mask interpolation.now.targets.items cols made.now)
-        (length places.now) }
+/// Whether so many bytes have room for the words of the strip.
+fn is_strip_within(strip: &Strip<'_>, places: &[usize], size: usize) -> bool
+    requires { ArePlaces strip.now.code.split.width strip.now.targets.now places.now }
+    ensures { IsTrue result ↔ IsStripWithin size strip.now places.now (length places.now) }
 {
-    let code = interpolation.code;
+    let cols = strip.cols;
     for j in 0..places.len() {
-        let mask = row_mask(code, interpolation.targets[j]);
-        let at = places[j] * code.split.width + from;
-        if !is_run_within(&made[j * cols..(j + 1) * cols], mask, at, size) {
+        let mask = row_mask(strip.code, strip.targets[j]);
+        let at = places[j] * strip.code.split.width + strip.from;
+        if !is_run_within(&strip.elements[j * cols..(j + 1) * cols], mask, at, size) {
             return false;
         }
     }
@@ -206,32 +184,27 @@ fn are_made_within(
 
 /// Whether so many bytes have room for the rows of the targets in their places, none of which lies
 /// behind `last`.
-fn are_lost_within<M: WordMemory>(
-    rows: &[Row<'_, M>],
-    interpolation: &Interpolation,
+fn are_targets_within<M: WordMemory>(
+    maker: &RowMaker<'_, '_, M>,
     places: &[usize],
     last: usize,
     room: &mut [F],
     size: usize,
 ) -> bool
-    requires rows { interpolation.now.indices.items ≡ map (λ row. row.index) rows.now }
-    requires places { ArePlaces interpolation.now.code.split.width
-        interpolation.now.targets.items places.now }
-    requires room { (interpolation.now.height + length interpolation.now.targets.items)
-        * interpolation.now.cols ≤ length room.old }
-    requires last { (last + 1) * interpolation.now.code.split.width ≤ 2 ^ 61 }
+    requires places { ArePlacesFor maker.now places.now }
+    requires room { IsRoomFor maker.now.interpolation room.old }
+    requires last { (last + 1) * maker.now.code.split.width ≤ 2 ^ 61 }
     requires behind { All (λ p. p ≤ last) places.now }
-    ensures { (a : ℕ → ℕ → F) → let code = interpolation.now.code in
-        IsCodewordThrough M.word code.split code.mask rows.now a
-        → (IsTrue result ↔ AreWithinRoom size code.split.width places.now
-        (row_word code.split code.mask a interpolation.now.targets.items)) }
+    ensures { (a : ℕ → ℕ → F) → IsCodewordFor M.word maker.now a
+        → (IsTrue result ↔ HasRoomFor size maker.now places.now a) }
 {
-    let width = interpolation.code.split.width;
+    let width = maker.code.split.width;
     let mut from = first_past(size, width, last);
     while from < width {
-        let cols = interpolation.cols.min(width - from);
-        interpolation.make(rows, from, cols, room);
-        if !are_made_within(room, interpolation, places, from, cols, size) {
+        let cols = maker.interpolation.cols.min(width - from);
+        maker.make(from, cols, room);
+        let strip = strip_of(maker.code, &maker.interpolation, from, cols, room);
+        if !is_strip_within(&strip, places, size) {
             return false;
         }
         from += cols;
@@ -268,17 +241,22 @@ pub(crate) fn write_wanted<M: WordMemory>(
     let width = code.split.width;
     let size = M::BYTES * out.len();
     let lost = lost_rows(alloc, &held.indices, wanted)?;
-    let interpolation = Interpolation::new(alloc, &held.indices[..min], &lost.indices, code)?;
-    let mut room = interpolation.room(alloc)?;
-    if !are_copies_within(&held.indices, &held.rows, wanted, width, size) {
+    let maker = RowMaker::new(
+        alloc,
+        &held.rows[..min],
+        &held.indices[..min],
+        &lost.indices,
+        code,
+    )?;
+    let mut room = maker.interpolation.room(alloc)?;
+    if !are_copies_within(held, wanted, width, size) {
         return Ok(false);
     }
-    let chosen = &held.rows[..min];
     let last = wanted.len().saturating_sub(1);
-    if !are_lost_within(chosen, &interpolation, &lost.places, last, &mut room, size) {
+    if !are_targets_within(&maker, &lost.places, last, &mut room, size) {
         return Ok(false);
     }
-    write_copies(&held.indices, &held.rows, wanted, width, out);
-    fill(chosen, &interpolation, &lost.places, &mut room, out);
+    write_copies(held, wanted, width, out);
+    write_targets(&maker, &lost.places, &mut room, out);
     Ok(true)
 }

@@ -1,15 +1,19 @@
 //! Rows from other rows.
+//!
+//! In the example of `encoding`, row 1 is lost. Its elements are (1 + i) a / 2 + (1 - i) c / 2,
+//! where a and c are the elements of the rows 0 and 2: they are -2 and 2^32 again, and under the
+//! mask the words of row 1. If all three rows are there, the third is compared with what the first
+//! two give, and refused if it differs.
 
 ghost use Rattle.std.specs.Prelude.{◌≡◌, ◌≢◌, ◌↔◌, ◌*◌, ◌<◌, ◌^◌, ◌⊎◌, [], ℕ, length};
 ghost use Rattle.std.specs.Prelude.{IsTrue, IsFalse, IfOk, IfErr, OnErr, OnOk};
-ghost use Rattle.math_base.specs.declared.fields.goldilocks.F.{F};
-ghost use Rattle.systematic_shards.specs.Refusals.{AreAsked, AreElements, HaveCodewordOf};
-ghost use Rattle.systematic_shards.specs.Refusals.{HaveConflict, HaveEnough, IsDue};
-ghost use Rattle.systematic_shards.specs.Shards.{AreRowsAt, BelongTo, IsCodewordOf};
+ghost use Rattle.systematic_shards.specs.Refusals.{AreAsked, AreElements, AreUnlike};
+ghost use Rattle.systematic_shards.specs.Refusals.{HaveCodewordOf, HaveEnough, IsDue};
+ghost use Rattle.systematic_shards.specs.Shards.{AreRebuilt};
 ghost use Rattle.systematic_shards.specs.declared.Error.TheVariants.{Conflict, Inconsistent};
 
 use crate::Error;
-use crate::holding::hold;
+use crate::holding::held_rows;
 use crate::memory::WordMemory;
 use crate::planning::write_wanted;
 use crate::rows::{Row, are_below, check_rows};
@@ -57,21 +61,19 @@ pub fn rebuild<M: WordMemory>(
 ) -> Result<(), Error>
     requires room { M.BYTES * length out.old ≡ length wanted.now * (8 * code.split.width) }
     requires size { M.BYTES * length out.old < 2 ^ 64 }
-    ensures ok { OnOk result ((a : ℕ → ℕ → F) × IsCodewordOf code.split a
-        × BelongTo M.word code.split code.mask rows.now a
-        × AreRowsAt code.split code.mask a wanted.now (M.word out.new)) }
+    ensures ok { OnOk result
+        (AreRebuilt M.word code.split code.mask rows.now wanted.now (M.word out.new)) }
     ensures asked { OnOk result (AreAsked M.BYTES code.split rows.now wanted.now) }
     ensures elements { OnOk result (AreElements M.word code.split code.mask rows.now) }
     ensures enough { OnOk result (HaveEnough code.split.min rows.now) }
-    ensures due { IfErr result
-        (IsDue M.BYTES M.word code.split code.mask rows.now wanted.now) }
+    ensures due { IfErr result (IsDue M.BYTES M.word code.split code.mask rows.now wanted.now) }
     ensures err { OnErr result (out.new ≡ out.old) }
 {
     check_rows(rows, code.split)?;
     if !are_below(wanted, code.split.total) {
         return Err(Error::Index);
     }
-    let held = hold(alloc, rows, code)?;
+    let held = held_rows(alloc, rows, code)?;
     if !write_wanted(alloc, &held, wanted, code, out)? {
         unreachable!()
     }
@@ -108,14 +110,13 @@ pub fn verify<M: WordMemory>(alloc: Global, code: Code, rows: &[Row<'_, M>]) -> 
     ensures elements { OnOk result (AreElements M.word code.split code.mask rows.now) }
     ensures yes { IfOk result (λ answer. IsTrue answer → HaveEnough code.split.min rows.now
         × HaveCodewordOf M.word code.split code.mask rows.now) }
-    ensures no { IfOk result (λ answer. IsFalse answer → HaveConflict M.word code.split rows.now
-        ⊎ (HaveEnough code.split.min rows.now
-        × (¬ (HaveCodewordOf M.word code.split code.mask rows.now)))) }
+    ensures no { IfOk result (λ answer. IsFalse answer
+        → AreUnlike M.word code.split code.mask rows.now) }
     ensures due { IfErr result (λ e. (e ≢ Conflict) × (e ≢ Inconsistent)
         × IsDue M.BYTES M.word code.split code.mask rows.now [] e) }
 {
     check_rows(rows, code.split)?;
-    let Err(e) = hold(alloc, rows, code) else {
+    let Err(e) = held_rows(alloc, rows, code) else {
         return Ok(true);
     };
     if is_of_no_codeword(&e) {

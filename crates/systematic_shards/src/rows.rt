@@ -9,9 +9,9 @@ ghost use Rattle.systematic_shards.specs.declared.Error.TheVariants.{Conflict, I
 
 use crate::Error;
 use crate::mask::are_free_of;
-use crate::memory::{RUN, WordMemory, run_of};
+use crate::memory::{RUN, WordMemory, words_from};
 use crate::split::{Code, Split};
-use math_base::fields::goldilocks::MODULUS;
+use math_fields::goldilocks::MODULUS;
 
 /// One row: its index, and its words in the caller's memory.
 #[derive(Clone, Copy)]
@@ -98,11 +98,12 @@ pub(crate) fn has_elements<M: WordMemory>(row: &Row<'_, M>, code: Code) -> bool
         → IsElementIn code.split.min code.mask row.now.index (M.word row.now.cells.now k)) }
 {
     let width = code.split.width;
+    let mut run = [0; RUN];
     let mut from = 0;
     while from < width {
         let some = RUN.min(width - from);
-        let run = run_of(row.cells, from, some);
-        if !are_words_in(&run[..some], code, row.index) {
+        let words = words_from(row.cells, from, some, &mut run);
+        if !are_words_in(words, code, row.index) {
             return false;
         }
         from += some;

@@ -1,4 +1,7 @@
 //! Interpolation of values at keyed points.
+//!
+//! The pairs that an interpolator is made of may be dropped, since it may be refused before it
+//! looks at them.
 
 ghost use Rattle.std.specs.Prelude.{◌≡◌, ◌≤◌, ◌↔◌, List, length, map, IsTrue, IsSome, IsOk, IfOk, IfSome};
 ghost use Rattle.std.specs.Iterator.{IsFiniteIterable, Drains};

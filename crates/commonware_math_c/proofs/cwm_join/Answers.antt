@@ -12,7 +12,7 @@ returns-then-not-are_elements-clause-found c = λ words h l.
 
 pub returns-in-Ok-None-clause-found : goal.returns-in-Ok-None-clause-found
 returns-in-Ok-None-clause-found c = λ words h l.
-    let other = rw c.in-Ok-None.field-0-is at c.in-Ok-None.ensures.none in
+    let other = rw c.in-Ok-None.field-0-is at c.in-Ok-None.ensures.written.none in
     let long : length words ≡ length other.0 = ap length (one_data words other.0 c.args.min c.args.total c.args.indices.now c.args.cells.now h other.1) in
     absurd (omega (arith, l, long, other.2))
 

@@ -1,8 +1,12 @@
-use Rattle.std.proofs.Common.{◌≡◌, ◌∙◌, sym, inr}
+use Rattle.std.proofs.Common.{◌≡◌, ◌∙◌, length, sym, ap, inr, arith}
 use Rattle.std.proofs.lemmas.Bool.{false≢true}
-use Rattle.c_calls.proofs.AlikeShards.{memory_status}
-use Rattle.c_calls.proofs.ShardBytes.{byte_rows_there, spell_there}
+use Rattle.c_calls.proofs.ShardBytes.{byte_rows_there, cells_of_spelled, one_block, only_memory_block, spell_there}
 use Rattle.commonware_math_c.proofs.cwm_join_bytes.Goals as goal
+
+pub invariant_of-held : goal.invariant_of-held
+invariant_of-held c =
+    let both = cells_of_spelled c.args.shards.now (c.are_elements.ensures.0 c.if-not-are_elements.false) in
+    record { whole = c.in-Some.ensures.some; spelled = both.1; below = both.0 }
 
 pub returns-in_default-clause-found : goal.returns-in_default-clause-found
 returns-in_default-clause-found c = λ block h l.
@@ -14,8 +18,10 @@ returns-then-not-are_elements-clause-found c = λ block h l.
 
 pub returns-in-Ok-None-clause-found : goal.returns-in-Ok-None-clause-found
 returns-in-Ok-None-clause-found c = λ block h l.
-    absurd (false≢true (rw c.in-Ok-None.field-0-is at (c.in-Ok-None.ensures.found block h l)))
+    let other = rw c.in-Ok-None.field-0-is at c.in-Ok-None.ensures.written.none in
+    let long : length block ≡ length other.0 = ap length (one_block block other.0 c.args.min c.args.total c.args.indices.now c.args.shards.now h other.1) in
+    absurd (omega (arith, l, long, other.2))
 
 pub returns-in-Err-clause-found : goal.returns-in-Err-clause-found
 returns-in-Err-clause-found c = λ block h l.
-    inr (c.code-in-Err.ensures ∙ c.of_shards.ensures ∙ memory_status c.in-Err.error (c.in-Err.ensures.found block h l))
+    inr (c.code-in-Err.ensures ∙ c.of_shards.ensures ∙ only_memory_block block c.args.min c.args.total c.args.indices.now c.args.shards.now c.in-Err.error h c.in-Err.ensures.due)

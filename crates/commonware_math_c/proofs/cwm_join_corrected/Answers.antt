@@ -14,7 +14,7 @@ returns-then-not-are_elements-clause-found c = λ words positions h l m.
 
 pub returns-in-Ok-None-clause-found : goal.returns-in-Ok-None-clause-found
 returns-in-Ok-None-clause-found c = λ words positions h l m.
-    let other = rw c.in-Ok-None.field-0-is at c.in-Ok-None.ensures.none in
+    let other = rw c.in-Ok-None.field-0-is at c.in-Ok-None.ensures.written.none in
     let long : length words ≡ length other.0 =
     ap length (one_corrected words other.0 positions other.1 c.args.min c.args.total c.args.indices.now c.args.cells.now h other.2) in
     absurd (omega (arith, l, long, other.3))

@@ -1,4 +1,7 @@
 //! Why bytes could not be read.
+//!
+//! The fault of a reader is a value of `Fault` in contracts, which has every error except `Memory`.
+//! So a function that finds which fault comes first says nothing of memory.
 
 ghost use Rattle.std.specs.Prelude.{◌≡◌, alloc_error};
 ghost use Rattle.math_codec.specs.declared.codec.error.Error.TheVariants.{Memory};

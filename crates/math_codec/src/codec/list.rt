@@ -1,4 +1,7 @@
 //! Lists: a length, and then the items.
+//!
+//! A reader makes room for four items, and then for as many further ones as it has read. So a
+//! clause says what it may reserve: std's `push` promises no bound.
 
 ghost use Rattle.std.specs.Prelude.{◌≡◌, ◌<◌, ◌≤◌, ◌+◌, ◌*◌, ◌^◌, ◌++◌, ◌∷◌, [], ℕ, List, length, take, true, IfOk, OnOk, OnErr, vec_capacity};
 ghost use Rattle.std.specs.List.{flat_map, All, AllByRecursion, AllZip};

@@ -1,4 +1,6 @@
 //! How many items a list may have.
+//!
+//! The fields of a range are public, since contracts name them: any pair of numbers is a range.
 
 ghost use Rattle.std.specs.Prelude.{◌≡◌};
 ghost use Rattle.math_codec.specs.Ranges.{in_range, nonzero};

@@ -1,4 +1,7 @@
 //! Reading a value from the front of some bytes.
+//!
+//! `Encoding` has ghost members alone, and stands above `Read`: how a value is spelled is said
+//! once, for readers and writers.
 
 ghost use Rattle.std.specs.Prelude.{◌≡◌, ◌++◌, ℕ, List, Result, IfOk, OnErr};
 ghost use Rattle.math_codec.specs.Encodings.{ReadsAgain, SpellsApart};

@@ -1,4 +1,8 @@
 //! Two-way maps.
+//!
+//! A two-way map keeps the places of its values by rising value. It is built with references to the
+//! pairs that were seen, so all pairs are taken before the first is looked at: memory may run out
+//! before a repeat is found. A `Map` asks for no pair after a repeated key.
 
 ghost use Rattle.std.specs.Prelude.{◌≡◌, ◌++◌, ◌∷◌, [], List, ℕ, length, map, true, IsTrue, ◌↔◌, IfOk, OnOk, IfErr};
 ghost use Rattle.std.specs.Iterator.{IsFiniteIterable, Drains};

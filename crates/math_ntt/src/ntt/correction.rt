@@ -6,6 +6,20 @@
 //! then has a coefficient other than zero from k on is decoded by itself. The rows at which it
 //! differs from what is decoded are wrong for every answer, so they are dropped, and what is left
 //! is recovered again. If more rows than (m - k) / 2 are dropped in all, there is no answer.
+//!
+//! A row may be right in the column that is decoded first, and wrong in another. So each column is
+//! decoded over the rows that are left, and not over all. What is within (m - k) / 2 rows of all m
+//! is within the radius of the rows that are left, since each dropped row is one of its wrong ones.
+//!
+//! For example, 5 and 6 stand in each of the rows 0 to 6 of eight, the first column is damaged in
+//! the rows 1 and 3, the second in row 6, and k is 1: three rows may be wrong. From the first
+//! column 5 is decoded, and the rows 1 and 3 are dropped. From the five rows that are left 6 is
+//! decoded, and row 6 is dropped. What is left fits 5 and 6.
+//!
+//! What is recovered stands in place of the cells, and a wrong column needs its cells again: so a
+//! copy is recovered. Each decoding drops a row, so no two of them have the same points, and
+//! weights that serve many columns at the same points would not pay. Each recovery counts its work
+//! apart.
 
 ghost use Rattle.std.specs.Prelude.{
   ◌≡◌,
@@ -53,8 +67,8 @@ use super::polynomials::PolynomialVector;
 use super::recovery::recovered_cells;
 use math_base::algebra::{Additive, FieldNTT, Mem, Object, Ring};
 use math_decoding::decoding::decode;
+use math_lagrange::weights::domain_points;
 use math_transforms::cells::copies;
-use math_transforms::lagrange::domain_points;
 use math_transforms::transform::lg_of;
 use math_transforms::vanishing_points::VanishingPoints;
 use math_transforms::work::Work;

@@ -18,17 +18,15 @@ ghost use Rattle.std.specs.Prelude.{
 };
 ghost use Rattle.std.specs.List.{AllZip};
 ghost use Rattle.std.specs.Iterator.{YieldsFirstRef, item_count};
-ghost use Rattle.math_codec.specs.Iterables.{ItemsMeet};
 ghost use Rattle.math_transforms.specs.Matrices.{
   rows_of,
   row_of,
   IsOfSize,
   AreSameMatrices,
   IsIterable,
-  GivesAtMost,
-  AreFilledUp,
   IsProductOf,
 };
+ghost use Rattle.math_ntt.specs.MatrixItems.{AreFirstItems};
 
 mod encoding;
 mod product;
@@ -90,9 +88,8 @@ impl<F: Additive> Matrix<F> {
         requires fits { rows * cols < 2 ^ 64 }
         requires iterable { IsIterable P.into_iter_gives P.IntoIter.can_next «data» }
         ensures size { IfOk result (λ m. IsOfSize m rows cols) }
-        ensures cells { IfOk result (λ m. ItemsMeet P.into_iter_gives
-            (GivesAtMost P.IntoIter.next_gives (rows * cols)) «data»
-            (λ items. AreFilledUp F.same F.zero items m.cells)) }
+        ensures cells { IfOk result (λ m. AreFirstItems F.same F.zero P.into_iter_gives
+            P.IntoIter.next_gives (rows * cols) «data» m.cells) }
     {
         let count = rows * cols;
         let mut cells = Vec::new(alloc);

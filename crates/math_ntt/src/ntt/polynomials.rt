@@ -27,7 +27,7 @@ ghost use Rattle.std.specs.Int.{IsNextPowerOfTwo, IsPowerOfTwo};
 ghost use Rattle.std.specs.Iterator.{YieldsFirstRef, item_count};
 ghost use Rattle.math_transforms.specs.DomainValues.{HasDomain, AreValuesOnDomain};
 ghost use Rattle.math_transforms.specs.Matrices.{rows_of, IsOfSize, AreSameMatrices};
-ghost use Rattle.math_ntt.specs.AddedWork.{AddsUpTo};
+ghost use Rattle.math_ntt.specs.AddedWork.{IsEvaluationWork};
 ghost use Rattle.math_ntt.specs.PolynomialRows.{AreEnough, FitsPadded, HaveSamePolynomials};
 
 use super::evaluations::EvaluationVector;
@@ -226,11 +226,8 @@ impl<F: FieldNTT> PolynomialVector<F> {
         ensures size { IfOk result (λ v. IsOfSize v.matrix self.rows self.cols) }
         ensures values { IfOk result (λ v. AreValuesOnDomain F.Ring F.root self v.matrix) }
         ensures filled { IfOk result (λ v. v.filled ≡ replicate self.rows true) }
-        ensures counted { OnOk result ((lg : ℕ) → self.rows ≡ 2 ^ lg
-            → 2 * work.new.butterflies ≡ 2 * work.old.butterflies + self.cols * self.rows * lg) }
-        ensures bounded { (lg : ℕ) → self.rows ≡ 2 ^ lg
-            → AddsUpTo (self.cols * self.rows * lg / 2) 0 work.old work.new }
-        ensures unbegun { IsTrue F.NEVER_REFUSES → OnErr result (work.new ≡ work.old) }
+        ensures work { IsEvaluationWork F.NEVER_REFUSES result self.rows self.cols
+            work.old work.new }
     {
         let mut matrix = self.coefficients;
         let cols = matrix.cols;

@@ -13,16 +13,17 @@
 //! One inversion serves all divisions. If no row is filled, the answer is zero. If all are, it is
 //! what has the cells as its values. Neither takes a polynomial that vanishes, and each is one
 //! interpolation.
+//!
+//! Both dividends and divisor are N times the values on the coset, and 1 / N is in the numerator of
+//! the quotients. So no pass multiplies by powers of the shift or divides by N.
 
 ghost use Rattle.std.specs.Prelude.{
   ◌≡◌,
   ◌+◌,
   ◌*◌,
-  ◌/◌,
   ◌<◌,
   ◌≤◌,
   ◌^◌,
-  ◌⊎◌,
   ℕ,
   IfOk,
   IsOk,
@@ -38,8 +39,13 @@ ghost use Rattle.math_transforms.specs.CountedWork.{AddsAtMost};
 ghost use Rattle.math_transforms.specs.DomainValues.{matrix_of, AreValuesAtPowers, HasDomain};
 ghost use Rattle.math_transforms.specs.Matrices.{IsOfSize};
 ghost use Rattle.math_transforms.specs.MissingPoints.{count_false};
-ghost use Rattle.math_transforms.specs.RootTrees.{IsTreeOf};
-ghost use Rattle.math_ntt.specs.AddedWork.{AddsOneRecovery, AddsUpTo, HasRoom, IsOneTransform};
+ghost use Rattle.math_ntt.specs.AddedWork.{
+  AddsAtMostOneRecovery,
+  AddsOneRecovery,
+  HasRoom,
+  IsOneTransform,
+};
+ghost use Rattle.math_ntt.specs.DomainTrees.{AreTrees};
 ghost use Rattle.math_ntt.specs.Evaluations.{evaluations_of, IsDomainLg};
 ghost use Rattle.math_ntt.specs.RecoveredRows.{
   AreDivided,
@@ -47,10 +53,8 @@ ghost use Rattle.math_ntt.specs.RecoveredRows.{
   AreRecovered,
   AreOnlyRecovered,
   IsExactWork,
-  IsLateWork,
   IsRecovery,
   IsRefusal,
-  IsRefusedWork,
 };
 
 use super::evaluations::EvaluationVector;
@@ -70,6 +74,14 @@ use math_transforms::vanishing::vanishing_coefficients;
 use math_transforms::vanishing_points::VanishingPoints;
 use math_transforms::work::Work;
 use std::alloc::Global;
+
+/// The trees of square roots of 2^lg points: that of the points, and that of their inverses.
+#[derive(Drop)]
+struct Trees<F: Drop> {
+    lg: u8,
+    points: Vec<F>,
+    inverses: Vec<F>,
+}
 
 impl<F: FieldNTT> EvaluationVector<F> {
     /// Recovers the polynomials from the filled rows.
@@ -135,18 +147,11 @@ impl<F: FieldNTT> EvaluationVector<F> {
         ensures fits { IfOk result (λ v. AreRecovered F.Ring F.root self v) }
         ensures only { IfOk result (λ v. AreOnlyRecovered F.Ring F.root self v) }
         ensures most { (lg : ℕ) → self.matrix.rows ≡ 2 ^ lg
-            → AddsUpTo (self.matrix.rows * lg * (3 * lg + 3 * self.matrix.cols + 2) / 2)
-            (128 * self.matrix.rows)
-            work.old work.new }
+            → AddsAtMostOneRecovery self.matrix.rows lg self.matrix.cols work.old work.new }
         ensures exact { IfOk result (λ _. (lg : ℕ) → self.matrix.rows ≡ 2 ^ lg
             → IsExactWork lg self work.old work.new) }
         ensures refused { OnErr result ((lg : ℕ) → self.matrix.rows ≡ 2 ^ lg
-            → IsRefusedWork lg self work.old work.new) }
-        ensures unbegun { IsTrue F.NEVER_REFUSES
-            → (count_true self.filled ≡ 0) ⊎ (count_false self.filled ≡ 0)
-            → OnErr result (work.new ≡ work.old) }
-        ensures late { IsTrue F.NEVER_REFUSES → OnErr result ((lg : ℕ)
-            → self.matrix.rows ≡ 2 ^ lg → IsLateWork lg self work.old work.new) }
+            → IsRefusal F.NEVER_REFUSES lg self work.old work.new) }
     {
         let mut matrix = self.matrix;
         let lg = lg_of(matrix.rows);
@@ -236,33 +241,45 @@ fn interpolated<F: FieldNTT>(
 fn moved_to_coset<F: FieldNTT>(
     alloc: Global,
     cells: &mut [F],
-    vanishing: &mut [F],
     cols: usize,
-    lg: u8,
-    interpolation: &[F],
-    coset: &[F],
+    vanishing: &mut [F],
+    trees: &Trees<F>,
     work: &mut Work,
 ) -> Mem<()>
-    requires lg { IsDomainLg F.MAX_LG_ROOT_ORDER lg }
-    requires some { 0 < lg }
-    requires size { length cells.old ≡ 2 ^ lg * cols }
-    requires vanishing_size { length vanishing.old ≡ 2 ^ lg }
-    requires interpolation { IsTreeOf F.Ring
-        (λ l. F.inverse (F.root l)) F.one lg interpolation.now }
-    requires coset { IsTreeOf F.Ring F.root F.shift lg coset.now }
-    requires room { 2 * work.old.butterflies + (cols + cols + 2) * 2 ^ lg * lg < 2 ^ 129 }
-    ensures cells { OnOk result
-        (AreMovedValues F.Ring (F.root lg) F.shift lg cols cells.old cells.new) }
-    ensures vanishing { OnOk result
-        (AreMovedValues F.Ring (F.root lg) F.shift lg 1 vanishing.old vanishing.new) }
-    ensures counted { OnOk result (2 * work.new.butterflies
-        ≡ 2 * work.old.butterflies + (cols + cols + 2) * 2 ^ lg * lg) }
-    ensures bounded { AddsAtMost ((cols + cols + 2) * 2 ^ lg * lg) work.old work.new }
+    requires trees { AreTrees F.Ring F.MAX_LG_ROOT_ORDER F.inverse F.root F.shift F.one trees.now }
+    requires size { length cells.old ≡ 2 ^ trees.now.lg * cols }
+    requires vanishing_size { length vanishing.old ≡ 2 ^ trees.now.lg }
+    requires room { 2 * work.old.butterflies
+        + (cols + cols + 2) * 2 ^ trees.now.lg * trees.now.lg < 2 ^ 129 }
+    ensures cells { OnOk result (AreMovedValues F.Ring (F.root trees.now.lg) F.shift trees.now.lg
+        cols cells.old cells.new) }
+    ensures vanishing { OnOk result (AreMovedValues F.Ring (F.root trees.now.lg) F.shift
+        trees.now.lg 1 vanishing.old vanishing.new) }
+    ensures counted { OnOk result (2 * work.new.butterflies ≡ 2 * work.old.butterflies
+        + (cols + cols + 2) * 2 ^ trees.now.lg * trees.now.lg) }
+    ensures bounded { AddsAtMost ((cols + cols + 2) * 2 ^ trees.now.lg * trees.now.lg)
+        work.old work.new }
     ensures refused { OnErr result (work.old.butterflies < work.new.butterflies) }
     ensures never { IsTrue F.NEVER_REFUSES → IsOk result }
 {
-    move_rows(alloc, vanishing, 1, lg, interpolation, coset, work)?;
-    move_rows(alloc, cells, cols, lg, interpolation, coset, work)?;
+    move_rows(
+        alloc,
+        vanishing,
+        1,
+        trees.lg,
+        &trees.inverses,
+        &trees.points,
+        work,
+    )?;
+    move_rows(
+        alloc,
+        cells,
+        cols,
+        trees.lg,
+        &trees.inverses,
+        &trees.points,
+        work,
+    )?;
     Ok(())
 }
 
@@ -272,28 +289,27 @@ fn moved_to_coset<F: FieldNTT>(
 fn quotients_from_coset<F: FieldNTT>(
     alloc: Global,
     cells: &mut [F],
-    divisors: &[F],
     cols: usize,
-    lg: u8,
-    back: &[F],
+    divisors: &[F],
+    trees: &Trees<F>,
     work: &mut Work,
 ) -> Mem<()>
-    requires lg { IsDomainLg F.MAX_LG_ROOT_ORDER lg }
-    requires some { 0 < lg }
-    requires size { length cells.old ≡ 2 ^ lg * cols }
-    requires divisors { length divisors.now ≡ 2 ^ lg }
-    requires back { IsTreeOf F.Ring
-        (λ l. F.inverse (F.root l)) (F.inverse F.shift) lg back.now }
-    requires room { 2 * work.old.butterflies + cols * 2 ^ lg * lg < 2 ^ 129 }
-    ensures quotients { OnOk result (AreQuotientsOfValues F.Ring (F.root lg) F.shift lg cols
-        cells.old divisors.now cells.new) }
-    ensures work { IsOneTransform F.NEVER_REFUSES (cols * 2 ^ lg * lg) result work.old work.new }
+    requires trees { AreTrees F.Ring F.MAX_LG_ROOT_ORDER F.inverse F.root F.shift
+        (F.inverse F.shift) trees.now }
+    requires size { length cells.old ≡ 2 ^ trees.now.lg * cols }
+    requires divisors { length divisors.now ≡ 2 ^ trees.now.lg }
+    requires room { 2 * work.old.butterflies + cols * 2 ^ trees.now.lg * trees.now.lg < 2 ^ 129 }
+    ensures quotients { OnOk result (AreQuotientsOfValues F.Ring (F.root trees.now.lg) F.shift
+        trees.now.lg cols cells.old divisors.now cells.new) }
+    ensures work { IsOneTransform F.NEVER_REFUSES (cols * 2 ^ trees.now.lg * trees.now.lg)
+        result work.old work.new }
 {
+    let lg = trees.lg;
     let numerator = size_inverse(alloc, lg)?;
     let inverses = quotients(alloc, numerator, divisors)?;
     multiply_rows(alloc, cells, cols, &inverses)?;
     let points = Points {
-        roots: back,
+        roots: &trees.inverses,
         place: 1,
         lg,
     };
@@ -307,53 +323,41 @@ fn quotients_from_coset<F: FieldNTT>(
 fn divided<F: FieldNTT>(
     alloc: Global,
     cells: &mut [F],
-    vanishing: &mut [F],
     cols: usize,
-    lg: u8,
-    evaluation: &mut [F],
-    interpolation: &mut [F],
+    vanishing: &mut [F],
+    trees: &mut Trees<F>,
     work: &mut Work,
 ) -> Mem<()>
-    requires lg { IsDomainLg F.MAX_LG_ROOT_ORDER lg }
-    requires some { 0 < lg }
-    requires size { length cells.old ≡ 2 ^ lg * cols }
-    requires vanishing_size { length vanishing.old ≡ 2 ^ lg }
-    requires evaluation { IsTreeOf F.Ring F.root F.one lg evaluation.old }
-    requires interpolation { IsTreeOf F.Ring
-        (λ l. F.inverse (F.root l)) F.one lg interpolation.old }
-    requires room { 2 * work.old.butterflies + (3 * cols + 3) * 2 ^ lg * lg < 2 ^ 129 }
-    ensures divided { OnOk result (AreDivided F.Ring (F.root lg) F.shift (2 ^ lg) cols
-        cells.old vanishing.old cells.new) }
-    ensures counted { OnOk result (2 * work.new.butterflies
-        ≡ 2 * work.old.butterflies + (3 * cols + 3) * 2 ^ lg * lg) }
-    ensures bounded { AddsAtMost ((3 * cols + 3) * 2 ^ lg * lg) work.old work.new }
+    requires trees { AreTrees F.Ring F.MAX_LG_ROOT_ORDER F.inverse F.root F.one F.one trees.old }
+    requires size { length cells.old ≡ 2 ^ trees.old.lg * cols }
+    requires vanishing_size { length vanishing.old ≡ 2 ^ trees.old.lg }
+    requires room { 2 * work.old.butterflies
+        + (3 * cols + 3) * 2 ^ trees.old.lg * trees.old.lg < 2 ^ 129 }
+    ensures divided { OnOk result (AreDivided F.Ring (F.root trees.old.lg) F.shift
+        (2 ^ trees.old.lg) cols cells.old vanishing.old cells.new) }
+    ensures counted { OnOk result (2 * work.new.butterflies ≡ 2 * work.old.butterflies
+        + (3 * cols + 3) * 2 ^ trees.old.lg * trees.old.lg) }
+    ensures bounded { AddsAtMost ((3 * cols + 3) * 2 ^ trees.old.lg * trees.old.lg)
+        work.old work.new }
     ensures refused { OnErr result (work.old.butterflies < work.new.butterflies) }
     ensures late { OnErr result (IsTrue F.NEVER_REFUSES → 2 * work.new.butterflies
-        ≡ 2 * work.old.butterflies + (2 * cols + 3) * 2 ^ lg * lg) }
+        ≡ 2 * work.old.butterflies + (2 * cols + 3) * 2 ^ trees.old.lg * trees.old.lg) }
 {
+    let lg = trees.lg;
     reverse_rows(cells, cols, lg);
     let points = Points {
-        roots: evaluation,
+        roots: &trees.points,
         place: 1,
         lg,
     };
     evaluate_below(alloc, vanishing, 1, &points, work)?;
     multiply_rows(alloc, cells, cols, vanishing)?;
     let shift = F::coset_shift(alloc)?;
-    start_at(alloc, evaluation, &shift, lg)?;
-    moved_to_coset(
-        alloc,
-        cells,
-        vanishing,
-        cols,
-        lg,
-        interpolation,
-        evaluation,
-        work,
-    )?;
+    start_at(alloc, &mut trees.points, &shift, lg)?;
+    moved_to_coset(alloc, cells, cols, vanishing, trees, work)?;
     let back = F::coset_shift_inv(alloc)?;
-    start_at(alloc, interpolation, &back, lg)?;
-    quotients_from_coset(alloc, cells, vanishing, cols, lg, interpolation, work)?;
+    start_at(alloc, &mut trees.inverses, &back, lg)?;
+    quotients_from_coset(alloc, cells, cols, vanishing, trees, work)?;
     Ok(())
 }
 
@@ -380,8 +384,8 @@ fn recovered<F: FieldNTT>(
         (evaluations_of (matrix_of (2 ^ lg) cols cells.old) points.now) work.old work.new) }
     ensures most { AddsOneRecovery lg cols work.old work.new }
 {
-    let mut evaluation = evaluation_table(alloc, lg)?;
-    let mut interpolation = interpolation_table(alloc, lg)?;
+    let evaluation = evaluation_table(alloc, lg)?;
+    let interpolation = interpolation_table(alloc, lg)?;
     let mut vanishing = vanishing_coefficients(
         alloc,
         points,
@@ -390,15 +394,11 @@ fn recovered<F: FieldNTT>(
         &interpolation,
         work,
     )?;
-    divided(
-        alloc,
-        cells,
-        &mut vanishing,
-        cols,
+    let mut trees = Trees {
         lg,
-        &mut evaluation,
-        &mut interpolation,
-        work,
-    )?;
+        points: evaluation,
+        inverses: interpolation,
+    };
+    divided(alloc, cells, cols, &mut vanishing, &mut trees, work)?;
     Ok(())
 }

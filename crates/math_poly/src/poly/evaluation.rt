@@ -1,4 +1,8 @@
 //! Values of polynomials, by Horner's rule and as sums weighted by powers.
+//!
+//! Only types that never refuse have their coefficients taken four at a time: that copies two of
+//! each four and squares the point twice, and if a type may refuse, no clause `never` could be
+//! promised.
 
 ghost use Rattle.std.specs.Prelude.{◌≡◌, ◌++◌, [], ◌∷◌, IsTrue, IsOk, IfOk, OnOk, length};
 ghost use Rattle.std.specs.List.{AllZip, zip};

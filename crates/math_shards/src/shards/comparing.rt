@@ -7,6 +7,10 @@
 //! for each coefficient and a transform of m rows, and where `min` is far below N that is far less
 //! than a transform of N rows. The columns are taken strip by strip, so that a coset stays in a
 //! cache near the processor.
+//!
+//! All rows are compared, also those that the coefficients were made of: that the data fit follows
+//! from the comparison, however the coefficients were found. Each coset looks at each row once, so
+//! there are no more cosets than twice the cells of a row.
 
 ghost use Rattle.std.specs.Prelude.{◌≡◌, ◌↔◌, ◌+◌, ◌-◌, ◌*◌, ◌/◌, ◌%◌, ◌<◌, ◌≤◌, ◌^◌, All, length};
 ghost use Rattle.std.specs.Prelude.{IfOk, IsTrue};
@@ -19,7 +23,7 @@ ghost use Rattle.math_splitting.specs.Strips.{IsTableOf};
 use super::polynomials::Columns;
 use super::rows::Row;
 use math_base::algebra::Mem;
-use math_base::fields::goldilocks::F;
+use math_fields::goldilocks::F;
 use math_splitting::shards::{Layout, Strip};
 use math_transforms::transform::{evaluate_rows, evaluation_table, size_of};
 use math_transforms::work::Work;

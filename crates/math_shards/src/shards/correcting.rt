@@ -5,6 +5,17 @@
 //! settled indices are corrected: at most (m - `min`) / 2 of them are wrong. Then there is one list
 //! of data at most, since two would agree at `min` indices or more. The shards that are left out
 //! are those that differ from the values of the data's polynomials at their index.
+//!
+//! For example, `min` is 1, `total` is 5, and each shard of the data has the cells 1 2 0. Six
+//! shards are handed in: of index 0 with 9 9 9 and with 1 2 0, of index 1 with 1 2 0, of index 2
+//! with 1 2 5, and of index 3 with 1 2 0, twice. Index 0 has unequal cells, so m is 3, and one row
+//! may be wrong: row 2 is dropped. The data are the word 1. The shards at the positions 0 and 3 are
+//! left out; the other one of index 0 is right.
+//!
+//! All shards are joined first, as `join` does it: sound shards, as most are, take one join and no
+//! correction. Nobody knows which cells of an index are wrong; if both counted as wrong, a forged
+//! copy would take away two right shards. For each shard all are searched for its index. That needs
+//! no table and no sorting, and for the numbers of shards in use the transforms take more time.
 
 ghost use Rattle.std.specs.Prelude.{◌≡◌, ◌*◌, ◌<◌, ◌≤◌, ◌^◌, ℕ, List, All, length, take};
 ghost use Rattle.std.specs.Prelude.{IfOk, IfErr, IfNone, IfSome, IsSome, MatchResult, false, replicate};
@@ -24,7 +35,7 @@ use super::joining::{are_equal, check_numbers, fitted_elements};
 use super::unpacking::{PackedData, data_count};
 use super::{Error, Shard};
 use math_base::algebra::Mem;
-use math_base::fields::goldilocks::F;
+use math_fields::goldilocks::F;
 use math_ntt::ntt::{EvaluationVector, PolynomialVector};
 use math_splitting::shards::Layout;
 use math_transforms::transform::size_of;

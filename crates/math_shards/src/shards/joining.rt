@@ -1,9 +1,19 @@
 //! Shards to data.
+//!
+//! One function, `fitted_elements`, says below all joins whether rows fit data. If there are just
+//! `min` rows, they fit by how the coefficients were made. If there are more, every row is compared
+//! with the values of the polynomials, also those that were chosen. The other way round, the
+//! coefficients are the only ones with the values of the chosen rows, so they are the elements of
+//! any data that the rows fit.
+//!
+//! Which refusal is due is looked for only if the rows fit no data: a join that succeeds spends no
+//! time on it. The distinct indices are put in order, and a list has for each the place of its
+//! first row. Each further row of that index is compared with that one.
 
 ghost use Rattle.std.specs.Prelude.{◌≡◌, ◌↔◌, ◌+◌, ◌*◌, ◌<◌, ◌⊎◌, ℕ, List, All, length};
 ghost use Rattle.std.specs.Prelude.{IsTrue, IsFalse, IfOk, IfErr, IfSome, IfNone, MatchResult};
 ghost use Rattle.std.specs.List.{AllZip};
-ghost use Rattle.math_base.specs.Elements.{same};
+ghost use Rattle.math_fields.specs.Elements.{same};
 ghost use Rattle.math_shards.specs.Fitting.{AreRowsOf, DoRowsFit};
 ghost use Rattle.math_shards.specs.PackedWords.{HoldsWords};
 ghost use Rattle.math_splitting.specs.Shards.{JoinTo};
@@ -20,7 +30,7 @@ use super::rows::Row;
 use super::unpacking::{PackedData, data_count};
 use super::{Error, Shard};
 use math_base::algebra::Mem;
-use math_base::fields::goldilocks::F;
+use math_fields::goldilocks::F;
 use math_splitting::shards::Layout;
 use std::alloc::Global;
 

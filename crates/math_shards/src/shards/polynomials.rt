@@ -2,7 +2,7 @@
 
 ghost use Rattle.std.specs.Prelude.{◌≡◌, ◌*◌, length};
 
-use math_base::fields::goldilocks::F;
+use math_fields::goldilocks::F;
 use math_splitting::shards::Strip;
 
 /// Some columns of rows of coefficients.

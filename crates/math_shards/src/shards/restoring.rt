@@ -5,6 +5,13 @@
 //! coefficients are written over them. There are two ways. By weights each coefficient takes k
 //! products. By transforms (`math_restoring`) it takes some products for each row and level of the
 //! domain, which is faster where k is large.
+//!
+//! In a domain of N = 2^lg points, let 2^l be the least power of two that is k or more. By
+//! transforms a column takes N / 2 lg (N / 2) butterflies for both halves of the domain, or N / 2
+//! lg N where k is more than N / 2, and 2^l l for its values at 2^l points and the way back. N / 2
+//! lg N + 2^l l is a bound on both. A butterfly takes about the time of four products. So weights
+//! are taken where k^2 products for a column are no more than four times that bound, and k is no
+//! more than a row has cells, since the weights themselves take a recovery of k columns.
 
 ghost use Rattle.std.specs.Prelude.{◌≡◌, ◌*◌, ◌<◌, length, map};
 ghost use Rattle.std.specs.Prelude.{IfOk, IfSome, IfNone, OnOk};
@@ -15,7 +22,7 @@ ghost use Rattle.math_shards.specs.Weights.{AreIndicesOf};
 use super::rows::Row;
 use super::weighing::{chosen, put_weighed};
 use math_base::algebra::Mem;
-use math_base::fields::goldilocks::F;
+use math_fields::goldilocks::F;
 use math_restoring::restoring::put_restored;
 use math_splitting::shards::Layout;
 use math_transforms::transform::size_of;

@@ -4,13 +4,13 @@ ghost use Rattle.std.specs.Prelude.{◌≡◌, ◌↔◌, ◌+◌, ◌≤◌, �
 ghost use Rattle.std.specs.Prelude.{IsTrue, OnOk};
 ghost use Rattle.std.specs.Int.{from_be_bytes, w64};
 ghost use Rattle.std.specs.List.{AllZip};
-ghost use Rattle.math_base.specs.declared.fields.goldilocks.F.{F};
-ghost use Rattle.math_base.specs.Elements.{residue, same};
+ghost use Rattle.math_fields.specs.declared.goldilocks.F.{F};
+ghost use Rattle.math_fields.specs.Elements.{residue, same};
 
 use super::Shard;
 use super::joining::are_equal;
 use math_base::algebra::Mem;
-use math_base::fields::goldilocks::F;
+use math_fields::goldilocks::F;
 
 /// One shard of those that are joined.
 pub(super) trait Row: Drop {

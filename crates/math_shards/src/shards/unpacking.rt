@@ -5,19 +5,24 @@
 //! Then 64 i is 63 q + b: the 63 - b highest bits of element q are the lowest of the word, and the
 //! others are the lowest of element q + 1. So two elements give any word, and no list of all words
 //! is made. Within a run of 63 words, b and the place of the element rise by one with each word.
+//!
+//! For example, the data 7 and 8 are the elements 2 14 32 0. Word 0 says that two words follow.
+//! These three words have 192 bits and pack to four elements: three are below 2^63, and the last
+//! has no more than the 3 bits that are left for it. Elements with so few bits are the ones that
+//! their words pack to, so no list of words is packed again and compared.
 
 ghost use Rattle.std.specs.Prelude.{◌≡◌, ◌↔◌, ◌+◌, ◌*◌, ◌%◌, ◌<◌};
 ghost use Rattle.std.specs.Prelude.{◌≤◌, ◌^◌, ℕ, List, All, length};
 ghost use Rattle.std.specs.Prelude.{IsTrue, IfOk, IfSome, IfNone, drop, slice_index, slice_index_or, take};
 ghost use Rattle.std.specs.Int.{div_ceil};
-ghost use Rattle.math_base.specs.Elements.{number, residue, same};
-ghost use Rattle.math_base.specs.Packing.{words_of};
+ghost use Rattle.math_fields.specs.Elements.{number, residue, same};
+ghost use Rattle.math_fields.specs.Packing.{words_of};
 ghost use Rattle.math_shards.specs.Fitting.{AreDataOf};
 ghost use Rattle.math_shards.specs.PackedWords.{HoldsWords};
 ghost use Rattle.math_shards.specs.Unpacking.{AreBetween, AreRepacked, AreUnpacked, word_between};
 
 use math_base::algebra::Mem;
-use math_base::fields::goldilocks::F;
+use math_fields::goldilocks::F;
 use math_values::words::Word;
 use std::alloc::Global;
 
@@ -54,7 +59,7 @@ impl PackedData {
         ensures { (words : List ℕ) → HoldsWords words self.now → place < length words
             → result ≡ slice_index words place }
     {
-        word_at(&self.elements, place + 1)
+        unpacked_word(&self.elements, place + 1)
     }
 
     /// Writes the words from place `first` on over those of `out`. The data have to have as many
@@ -110,7 +115,7 @@ fn bits_at(elements: &[F], place: usize) -> u64
 }
 
 /// The word in this place of those that the elements unpack to. Past the last one it is zero.
-fn word_at(elements: &[F], place: usize) -> u64
+fn unpacked_word(elements: &[F], place: usize) -> u64
     requires { place < 2 ^ 63 }
     ensures { result ≡ slice_index (words_of elements.now) place }
 {
@@ -158,7 +163,7 @@ pub(super) fn data_count(elements: &[F], min: u32, width: usize) -> Option<usize
         × AreDataOf words min elements.now) }
     ensures none { IfNone result ((words : List ℕ) → ¬ (AreDataOf words min elements.now)) }
 {
-    let count = word_at(elements, 0);
+    let count = unpacked_word(elements, 0);
     if count >= elements.len() as u64 {
         return None;
     }
@@ -179,7 +184,7 @@ pub(super) fn data_count(elements: &[F], min: u32, width: usize) -> Option<usize
 /// Writes over the words those whose first bits are those of an element, and the others the lowest
 /// of the next element: of the first element the bits behind the `taken` lowest, and of each
 /// further one a bit less.
-fn write_words(elements: &[F], taken: u32, out: &mut [u64])
+fn write_words_between(elements: &[F], taken: u32, out: &mut [u64])
     requires elements { length elements.now ≡ length out.old + 1 }
     requires taken { taken + length out.old ≤ 63 }
     ensures { AreBetween elements.now taken out.new }
@@ -194,7 +199,7 @@ fn write_words(elements: &[F], taken: u32, out: &mut [u64])
 
 /// Writes over the words those that the elements unpack to, from place `first` on, where these are
 /// in one run of 63.
-fn write_run(elements: &[F], first: usize, out: &mut [u64])
+fn unpack_run(elements: &[F], first: usize, out: &mut [u64])
     requires fits { first + length out.old < 2 ^ 63 }
     requires run { first % 63 + length out.old ≤ 63 }
     ensures { AreUnpacked elements.now first out.new }
@@ -202,10 +207,10 @@ fn write_run(elements: &[F], first: usize, out: &mut [u64])
     let from = first + first / 63;
     let last = from + out.len();
     if last < elements.len() {
-        write_words(&elements[from..last + 1], (first % 63) as u32, out);
+        write_words_between(&elements[from..last + 1], (first % 63) as u32, out);
     } else {
         for k in 0..out.len() {
-            out[k] = word_at(elements, first + k);
+            out[k] = unpacked_word(elements, first + k);
         }
     }
 }
@@ -219,7 +224,7 @@ fn write_unpacked(elements: &[F], first: usize, out: &mut [u64])
     while done < out.len() {
         let at = first + done;
         let count = (63 - at % 63).min(out.len() - done);
-        write_run(elements, at, &mut out[done..done + count]);
+        unpack_run(elements, at, &mut out[done..done + count]);
         done += count;
     }
 }

@@ -8,24 +8,30 @@
 //! of its polynomial: these weights are the same for all columns. Transforms (`math_restoring`)
 //! give them: of k rows of k cells, where the row of shard i has one in place i and zero in every
 //! other, they are the coefficients. Each coefficient then takes k products and one reduction, and
-//! the coefficients of a column are written over its cells.
+//! the coefficients of a column are written over its cells. Where sums in several columns are taken
+//! at once, the columns are taken in strips.
 
-ghost use Rattle.std.specs.Prelude.{◌≡◌, ◌*◌, ◌<◌, ◌≤◌, All, Contains, length};
+ghost use Rattle.std.specs.Prelude.{◌≡◌, ◌+◌, ◌*◌, ◌<◌, ◌≤◌, ◌^◌, All, Contains, length};
 ghost use Rattle.std.specs.Prelude.{IfOk, OnOk};
 ghost use Rattle.math_restoring.specs.Restored.{HaveCellsAsValues};
 ghost use Rattle.math_shards.specs.Fitting.{AreRowsOf};
-ghost use Rattle.math_shards.specs.Weights.{AreChosen, AreCoefficients, AreIndicesOf, AreUnitRows};
-ghost use Rattle.math_shards.specs.Weights.{AreWeightsOf, IsColumnPut, weighed_at};
+ghost use Rattle.math_shards.specs.Weights.{AreChosen, AreCoefficients, AreColumnsPut, AreIndicesOf};
+ghost use Rattle.math_shards.specs.Weights.{ArePutBefore, AreRead, AreUnitRows, AreWeightsOf};
+ghost use Rattle.math_shards.specs.Weights.{IsColumnPut, weighed_at};
 
 use super::rows::Row;
 use math_base::algebra::Mem;
-use math_base::fields::goldilocks::F;
+use math_fields::goldilocks::F;
 use math_restoring::restoring::put_restored;
-use math_splitting::shards::{Layout, gather};
+use math_splitting::shards::{Layout, copy_column};
 use math_transforms::vanishing_points::VanishingPoints;
+use math_values::columns::{sum_columns, sums_columns_at_once};
 use math_values::strips::strip_room;
 use math_values::sums::sum_of_products;
 use std::alloc::{AllocError, Global};
+
+/// How many columns a strip has.
+const STRIP: usize = 32;
 
 /// The indices of the first `min` rows of distinct indices, or of all such rows where they are
 /// fewer, and the cells of these rows, one row after the other. There is a bit for each point of
@@ -96,14 +102,79 @@ fn put_column(cells: &mut [F], width: usize, k: usize, column: &[F], weights: &[
     }
 }
 
-/// Writes the coefficients of all columns over their cells. `column` is room for a column.
-fn put_columns(cells: &mut [F], width: usize, column: &mut [F], weights: &[F])
+/// Rows of cells: how many there are, and how many cells each has.
+#[derive(Clone, Copy)]
+struct Shape {
+    count: usize,
+    width: usize,
+}
+
+/// Reads the cells of a strip of columns, from column k on, row after row.
+fn read_strip(cells: &[F], shape: Shape, k: usize, strip: &mut [F])
+    requires size { length cells.now ≡ shape.count * shape.width }
+    requires within { k + 32 ≤ shape.width }
+    requires room { length strip.old ≡ shape.count * 32 }
+    ensures { AreRead shape.width k 32 cells.now shape.count strip.new }
+{
+    for r in 0..shape.count {
+        let at = r * shape.width + k;
+        strip[r * STRIP..(r + 1) * STRIP].copy_from_slice(&cells[at..at + STRIP]);
+    }
+}
+
+/// Writes the coefficients of a strip of columns over their cells, from column k on. `strip` is room
+/// for the cells.
+fn put_strip(cells: &mut [F], shape: Shape, k: usize, strip: &mut [F], weights: &[F])
+    requires size { length cells.old ≡ shape.count * shape.width }
+    requires within { k + 32 ≤ shape.width }
+    requires room { length strip.old ≡ shape.count * 32 }
+    requires few { shape.count ≤ 2 ^ 24 }
+    requires weights { length weights.now ≡ shape.count * shape.count }
+    ensures { AreColumnsPut weights.now shape.count shape.width k 32 cells.old cells.new }
+{
+    read_strip(cells, shape, k, strip);
+    let n = shape.count;
+    for r in 0..n {
+        let at = r * shape.width + k;
+        let row = &weights[r * n..(r + 1) * n];
+        sum_columns(strip, row, &mut cells[at..at + STRIP]);
+    }
+}
+
+/// Writes the coefficients of the first columns over their cells, a strip at a time, and returns
+/// how many columns these are: none where that would take more time. `strip` is room for a strip.
+fn put_strips(cells: &mut [F], shape: Shape, strip: &mut [F], weights: &[F]) -> usize
+    requires size { length cells.old ≡ shape.count * shape.width }
+    requires room { length strip.old ≡ shape.count * 32 }
+    requires weights { length weights.now ≡ shape.count * shape.count }
+    ensures within { result ≤ shape.width }
+    ensures put { ArePutBefore weights.now shape.count shape.width cells.old result cells.new }
+{
+    if !sums_columns_at_once(shape.count, STRIP) {
+        return 0;
+    }
+    let strips = shape.width / STRIP;
+    for s in 0..strips {
+        put_strip(cells, shape, s * STRIP, strip, weights);
+    }
+    strips * STRIP
+}
+
+/// Writes the coefficients of all columns over their cells. `column` is room for a column, and
+/// `strip` for a strip of them.
+fn put_columns(cells: &mut [F], width: usize, column: &mut [F], strip: &mut [F], weights: &[F])
     requires size { length cells.old ≡ length column.old * width }
+    requires strip { length strip.old ≡ length column.old * 32 }
     requires weights { length weights.now ≡ length column.old * length column.old }
     ensures { AreCoefficients weights.now (length column.old) width cells.old cells.new }
 {
-    for k in 0..width {
-        gather(column, cells, width, k);
+    let shape = Shape {
+        count: column.len(),
+        width,
+    };
+    let done = put_strips(cells, shape, strip, weights);
+    for k in done..width {
+        copy_column(column, cells, width, k);
         put_column(cells, width, k, column, weights);
     }
 }
@@ -111,8 +182,8 @@ fn put_columns(cells: &mut [F], width: usize, column: &mut [F], weights: &[F])
 /// Writes the coefficients of all columns over their cells, by weights: row t of the cells has the
 /// values at the power of the root that is index t.
 ///
-/// Takes memory for as many rows of as many cells as there are indices, and for the transforms that
-/// give these.
+/// Takes memory for as many rows of as many cells as there are indices and of 33 more, and for the
+/// transforms that give the weights.
 pub(super) fn put_weighed(
     alloc: Global,
     indices: &[u32],
@@ -128,6 +199,7 @@ pub(super) fn put_weighed(
     let mut weights = strip_room(alloc, n, n)?;
     write_weights(alloc, indices, layout, &mut weights)?;
     let mut column = strip_room(alloc, n, 1)?;
-    put_columns(cells, layout.width, &mut column, &weights);
+    let mut strip = strip_room(alloc, n, STRIP)?;
+    put_columns(cells, layout.width, &mut column, &mut strip, &weights);
     Ok(())
 }

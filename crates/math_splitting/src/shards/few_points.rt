@@ -5,7 +5,7 @@
 
 ghost use Rattle.std.specs.Prelude.{◌≡◌, ◌+◌, ◌*◌, ◌<◌, ◌≤◌, ◌^◌, ℕ, OnErr, OnOk, length};
 ghost use Rattle.math_theory.specs.Powers.{power};
-ghost use Rattle.math_base.specs.Elements.{residue, product, root_of};
+ghost use Rattle.math_fields.specs.Elements.{residue, product, root_of};
 ghost use Rattle.math_transforms.specs.DomainValues.{matrix_of};
 ghost use Rattle.math_transforms.specs.Matrices.{column_of};
 ghost use Rattle.math_values.specs.Values.{ArePowersOf};
@@ -15,13 +15,14 @@ ghost use Rattle.math_splitting.specs.ShardRows.{indices_in, value_element};
 ghost use Rattle.math_splitting.specs.Strips.{HasValuesAt, IsLayoutOf};
 
 use super::destinations::Room;
-use super::indices::{Wanted, wanted_count, wanted_index};
+use super::indices::{WantedIndices, wanted_count, wanted_index};
 use super::layouts::{Layout, Strip};
 use super::sources::Source;
 use super::strips::write_strip;
 use math_base::algebra::{Mem, Multiplicative, Ring};
-use math_base::fields::goldilocks::F;
+use math_fields::goldilocks::F;
 use math_transforms::transform::size_of;
+use math_values::columns::{sum_columns, sums_columns_at_once};
 use math_values::strips::strip_room;
 use math_values::sums::sum_of_products;
 use math_values::words::Word;
@@ -67,7 +68,7 @@ fn write_powers(x: F, cells: &mut [F])
 }
 
 /// Writes a column of these rows over the items of `column`, of which there is one for each row.
-pub fn gather(column: &mut [F], rows: &[F], cols: usize, k: usize)
+pub fn copy_column(column: &mut [F], rows: &[F], cols: usize, k: usize)
     requires size { length rows.now ≡ length column.old * cols }
     requires within { k < cols }
     ensures { column.new
@@ -88,8 +89,12 @@ fn write_values_at(rows: &[F], powers: &[F], column: &mut [F], out: &mut [F])
         (matrix_of (length column.old) (length out.old) rows.now) out.new }
 {
     let cols = out.len();
+    if sums_columns_at_once(powers.len(), cols) {
+        sum_columns(rows, powers, out);
+        return;
+    }
     for k in 0..cols {
-        gather(column, rows, cols, k);
+        copy_column(column, rows, cols, k);
         out[k] = sum_of_products(column, powers);
     }
 }
@@ -100,7 +105,7 @@ fn write_values_of<R: Room>(
     alloc: Global,
     rows: &[F],
     strip: Strip,
-    wanted: Wanted<'_>,
+    wanted: WantedIndices<'_>,
     room: &mut [F],
     cells: &mut [R],
 )
@@ -131,7 +136,7 @@ fn write_strips<W: Word, R: Room>(
     alloc: Global,
     source: &Source<'_, W>,
     layout: Layout,
-    wanted: Wanted<'_>,
+    wanted: WantedIndices<'_>,
     room: &mut [F],
     cells: &mut [R],
 )
@@ -167,7 +172,7 @@ pub(super) fn write_products<W: Word, R: Room>(
     alloc: Global,
     source: &Source<'_, W>,
     layout: Layout,
-    wanted: Wanted<'_>,
+    wanted: WantedIndices<'_>,
     cells: &mut [R],
 ) -> Mem<()>
     requires layout { IsLayoutOf (words_in W.word source.now) layout }

@@ -2,6 +2,9 @@
 //!
 //! Words are read one by one, from a list of words or from the bytes of a block, so no list of
 //! words is made of bytes.
+//!
+//! The word before and the word after the slice serve a block of bytes: they are the number of its
+//! bytes, and its last bytes with zeros.
 
 ghost use Rattle.std.specs.Prelude.{◌≡◌, ◌<◌, ◌^◌, length, slice_index};
 ghost use Rattle.math_splitting.specs.DataWords.{front_count, words_in};

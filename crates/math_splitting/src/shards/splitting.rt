@@ -4,6 +4,13 @@
 //! order of the tree. Of few points it is read there, and no row of the strip is moved. The rows of
 //! the shards are filled strip by strip, each in the same room, and beside them there is but one
 //! strip. Where shards are made, rows of elements are filled, and cut into shards.
+//!
+//! For example, `min` is 1, `total` is 5, and the data are one word, 1. The words 1 and 1 pack to
+//! the elements 1, 2 and 0, which are one row. A domain of 8 points has 5 or more: each column has
+//! one coefficient, so each shard has the cells 1 2 0.
+//!
+//! `split_rows` takes all memory before it writes. A transform of this field takes none, so there
+//! is nothing that could be refused then.
 
 ghost use Rattle.std.specs.Prelude.{◌≡◌, ◌+◌, ◌*◌, ◌<◌, ◌≤◌, ◌^◌, All, IfOk, OnErr, OnOk, length};
 ghost use Rattle.math_splitting.specs.DataWords.{words_in};
@@ -15,12 +22,12 @@ ghost use Rattle.math_splitting.specs.Strips.{IsLayoutOf, IsTableOf};
 use super::Shard;
 use super::destinations::Room;
 use super::few_points::{are_products_cheaper, write_products};
-use super::indices::{Wanted, wanted_count, wanted_index};
+use super::indices::{WantedIndices, wanted_count, wanted_index};
 use super::layouts::{Layout, Strip};
 use super::sources::{Source, source_of};
 use super::strips::{layout_of, row_of_index, write_values};
 use math_base::algebra::Mem;
-use math_base::fields::goldilocks::F;
+use math_fields::goldilocks::F;
 use math_transforms::transform::{evaluation_table, size_of};
 use math_values::strips::{most_cols, strip_room};
 use math_values::words::Word;
@@ -76,7 +83,7 @@ pub fn split_source<W: Word>(
         alloc,
         source,
         layout_of(source, min, total),
-        Wanted::All(total),
+        WantedIndices::All(total),
     )
 }
 
@@ -112,7 +119,7 @@ pub fn split_source_at<W: Word>(
         alloc,
         source,
         layout_of(source, min, total),
-        Wanted::At(indices),
+        WantedIndices::At(indices),
     )
 }
 
@@ -169,7 +176,7 @@ pub fn split_source_rows<W: Word, R: Room>(
         alloc,
         source,
         layout_of(source, min, total),
-        Wanted::All(total),
+        WantedIndices::All(total),
         cells,
     )
 }
@@ -211,7 +218,7 @@ pub fn split_source_rows_at<W: Word, R: Room>(
         alloc,
         source,
         layout_of(source, min, total),
-        Wanted::At(indices),
+        WantedIndices::At(indices),
         cells,
     )
 }
@@ -221,7 +228,7 @@ fn write_shards<W: Word, R: Room>(
     alloc: Global,
     source: &Source<'_, W>,
     layout: Layout,
-    wanted: Wanted<'_>,
+    wanted: WantedIndices<'_>,
     cells: &mut [R],
 ) -> Mem<()>
     requires layout { IsLayoutOf (words_in W.word source.now) layout }
@@ -240,7 +247,7 @@ fn write_all<W: Word, R: Room>(
     alloc: Global,
     source: &Source<'_, W>,
     layout: Layout,
-    wanted: Wanted<'_>,
+    wanted: WantedIndices<'_>,
     cells: &mut [R],
 ) -> Mem<()>
     requires layout { IsLayoutOf (words_in W.word source.now) layout }
@@ -265,7 +272,7 @@ fn write_rows<W: Word, R: Room>(
     alloc: Global,
     source: &Source<'_, W>,
     layout: Layout,
-    wanted: Wanted<'_>,
+    wanted: WantedIndices<'_>,
     table: &[F],
     room: &mut [F],
     cells: &mut [R],
@@ -291,7 +298,7 @@ fn write_rows<W: Word, R: Room>(
 
 /// Writes for each of the indices the row of values that is its own into its row of the cells, in
 /// the columns of the strip.
-fn write_columns<R: Room>(values: &[F], strip: Strip, wanted: Wanted<'_>, cells: &mut [R])
+fn write_columns<R: Room>(values: &[F], strip: Strip, wanted: WantedIndices<'_>, cells: &mut [R])
     requires below { All (λ i. i < strip.layout.total) (indices_in wanted) }
     requires values { length values.now ≡ 2 ^ strip.layout.lg * strip.cols }
     requires cells { IsRoomFor strip.layout.width wanted (R.words cells.old) }
@@ -308,7 +315,7 @@ fn make_shards<W: Word>(
     alloc: Global,
     source: &Source<'_, W>,
     layout: Layout,
-    wanted: Wanted<'_>,
+    wanted: WantedIndices<'_>,
 ) -> Mem<Vec<Shard>>
     requires layout { IsLayoutOf (words_in W.word source.now) layout }
     requires below { All (λ i. i < layout.total) (indices_in wanted) }
@@ -322,7 +329,12 @@ fn make_shards<W: Word>(
 }
 
 /// Shards with these rows of cells, one for each index that is asked for.
-fn cut_rows(alloc: Global, cells: &[F], layout: Layout, wanted: Wanted<'_>) -> Mem<Vec<Shard>>
+fn cut_rows(
+    alloc: Global,
+    cells: &[F],
+    layout: Layout,
+    wanted: WantedIndices<'_>,
+) -> Mem<Vec<Shard>>
     requires { length cells.now ≡ length (indices_in wanted) * layout.width }
     ensures { IfOk result (λ shards. AreCut layout.min layout.total layout.width
         (indices_in wanted.entry) cells.now (length (indices_in wanted.entry)) shards.items) }

@@ -1,4 +1,4 @@
--- A law of rings, carried to a type's own equality as docs/CARRYING.md works out.
+-- A law of rings, carried to a type's own equality as docs/THEORY.md works out.
 use Rattle.math_theory.specs.Laws.{IsEquality, IsGroup, IsProduct, IsRing}
 use Rattle.math_theory.proofs.classes.Classes.{class, class_same, same_class, ring_of_classes}
 use Rattle.math_theory.proofs.rings.RingLaws.{difference-zero}

@@ -22,11 +22,8 @@ ghost use Rattle.std.specs.Prelude.{
   length,
   if◌then◌else◌,
 };
-ghost use Rattle.math_transforms.specs.Quarters.{
-  AreProducts,
-  AreTurned,
-  IsTurned,
-};
+ghost use Rattle.math_base.specs.Columns.{IsTurned};
+ghost use Rattle.math_transforms.specs.Quarters.{AreProducts, AreTurned};
 
 use crate::transform::butterflies::{combine, sum_and_difference};
 use math_base::algebra::{Additive, Field, FieldNTT, Mem, Multiplicative, Object, Ring};
@@ -169,21 +166,27 @@ fn turn_cells<F: FieldNTT, const FORWARD: bool>(
     Ok(())
 }
 
-/// Turns four rows of `cols` cells where e and g are one, on copies as in `turn_columns`.
+/// Turns four rows of `cols` cells where e and g are one: the columns that the type takes at once,
+/// and then the others, on copies as in `turn_columns`.
 fn turn_columns_at_one<F: FieldNTT, const FORWARD: bool>(
     alloc: Global,
     rows: &mut [F],
     cols: usize,
-    f: &F,
+    weights: &Weights<'_, F>,
 ) -> Mem<()>
     requires order { 2 ≤ F.MAX_LG_ROOT_ORDER }
-    requires root { F.same f.now (F.root 2) ⊎ F.same f.now (F.inverse (F.root 2)) }
+    requires odd { F.same weights.now.f.now
+        (F.product weights.now.e.now (if FORWARD then F.root 2 else F.inverse (F.root 2))) }
+    requires below { F.same weights.now.e.now F.one }
+    requires here { F.same weights.now.g.now F.one }
     requires size { length rows.old ≡ 4 * cols }
-    ensures turned { OnOk result
-        (AreTurned F.Ring FORWARD F.one f.now F.one cols rows.old rows.new) }
+    ensures turned { OnOk result (AreTurned F.Ring FORWARD
+        weights.now.e.now weights.now.f.now weights.now.g.now cols rows.old rows.new) }
     ensures never { IsTrue F.NEVER_REFUSES → IsOk result }
 {
-    for p in 0..cols {
+    let (e, f, g) = (weights.e, weights.f, weights.g);
+    let done = F::turn_first_columns(alloc, rows, cols, e, f, g, FORWARD)?;
+    for p in done..cols {
         let second = cols + p;
         let third = 2 * cols + p;
         let fourth = 3 * cols + p;
@@ -200,7 +203,8 @@ fn turn_columns_at_one<F: FieldNTT, const FORWARD: bool>(
     Ok(())
 }
 
-/// Turns four rows of `cols` cells by products of the weights.
+/// Turns four rows of `cols` cells: the columns that the type takes at once, and then the others by
+/// products of the weights.
 ///
 /// The cells are copied and put in their places at the end. A compiler that cannot tell whether the
 /// rows lie apart reads each cell anew after a write to another; a copy it holds in a register.
@@ -210,11 +214,19 @@ fn turn_columns<F: FieldNTT, const FORWARD: bool>(
     cols: usize,
     weights: &Weights<'_, F>,
 ) -> Mem<()>
+    requires order { 2 ≤ F.MAX_LG_ROOT_ORDER }
+    requires odd { F.same weights.now.f.now
+        (F.product weights.now.e.now (if FORWARD then F.root 2 else F.inverse (F.root 2))) }
     requires size { length rows.old ≡ 4 * cols }
     ensures turned { OnOk result (AreTurned F.Ring FORWARD
         weights.now.e.now weights.now.f.now weights.now.g.now cols rows.old rows.new) }
     ensures never { IsTrue F.NEVER_REFUSES → IsOk result }
 {
+    let (e, f, g) = (weights.e, weights.f, weights.g);
+    let done = F::turn_first_columns(alloc, rows, cols, e, f, g, FORWARD)?;
+    if done == cols {
+        return Ok(());
+    }
     let mut eg = weights.e.clone(alloc)?;
     eg.mul_assign(alloc, weights.g)?;
     let mut fg = weights.f.clone(alloc)?;
@@ -227,7 +239,7 @@ fn turn_columns<F: FieldNTT, const FORWARD: bool>(
         eg: &eg,
         minus_fg: &minus_fg,
     };
-    for p in 0..cols {
+    for p in done..cols {
         let second = cols + p;
         let third = 2 * cols + p;
         let fourth = 3 * cols + p;
@@ -270,7 +282,7 @@ pub(crate) fn turn_rows<F: FieldNTT, const FORWARD: bool>(
     if below {
         let here = weights.g.equals(alloc, &one)?;
         if here {
-            turn_columns_at_one::<F, FORWARD>(alloc, rows, cols, weights.f)?;
+            turn_columns_at_one::<F, FORWARD>(alloc, rows, cols, weights)?;
             return Ok(());
         }
     }

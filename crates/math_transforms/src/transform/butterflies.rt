@@ -1,7 +1,8 @@
 //! Butterflies: the cells of two rows combined, column by column.
 
 ghost use Rattle.std.specs.Prelude.{◌≡◌, ◌+◌, ◌*◌, IsOk, IsTrue, OnOk, length};
-ghost use Rattle.math_transforms.specs.CombinedCells.{IsCombined, AreCombined};
+ghost use Rattle.math_base.specs.Columns.{IsCombined};
+ghost use Rattle.math_transforms.specs.CombinedCells.{AreCombined};
 
 use math_base::algebra::{Additive, FieldNTT, Mem, Multiplicative, Object, Ring};
 use std::alloc::Global;
@@ -47,7 +48,8 @@ pub(crate) fn combine<F: FieldNTT, const FORWARD: bool, const AT_ONE: bool>(
     Ok(())
 }
 
-/// Combines two rows of `cols` cells, column by column.
+/// Combines two rows of `cols` cells: the columns that the type takes at once, and then the others
+/// one by one.
 fn combine_columns<F: FieldNTT, const FORWARD: bool, const AT_ONE: bool>(
     alloc: Global,
     rows: &mut [F],
@@ -59,7 +61,8 @@ fn combine_columns<F: FieldNTT, const FORWARD: bool, const AT_ONE: bool>(
     ensures combined { OnOk result (AreCombined F.Ring FORWARD w.now cols rows.old rows.new) }
     ensures never { IsTrue F.NEVER_REFUSES → IsOk result }
 {
-    for p in 0..cols {
+    let done = F::combine_first_columns(alloc, rows, cols, w, FORWARD)?;
+    for p in done..cols {
         let second = cols + p;
         let mut low = rows[p].clone(alloc)?;
         let mut high = rows[second].clone(alloc)?;

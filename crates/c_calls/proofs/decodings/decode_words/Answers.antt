@@ -1,6 +1,6 @@
 use Rattle.std.proofs.Common.{◌≡◌, ◌∙◌, ◌≤◌, ◌++◌, drop, length, sym, ap, arith}
 use Rattle.std.proofs.lemmas.List.{length-map}
-use Rattle.math_base.specs.Elements.{residue}
+use Rattle.math_fields.specs.Elements.{residue}
 use Rattle.c_calls.specs.WordElements.{numbers}
 use Rattle.c_calls.proofs.WordDecodings.{decoded_words}
 use Rattle.c_calls.proofs.decodings.decode_words.Goals as goal

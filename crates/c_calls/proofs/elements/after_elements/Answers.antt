@@ -3,8 +3,8 @@ use Rattle.std.specs.Int.{to_be_bytes, w64}
 use Rattle.std.proofs.lemmas.Result.{err_from_is_err_and}
 use Rattle.math_codec.specs.Lists.{scan_items}
 use Rattle.math_codec.proofs.ItemScan.{item_read, item_fails, items_done, item_taken}
-use Rattle.math_base.specs.Elements.{number}
-use Rattle.math_base.specs.ElementEncoding.{scan_element}
+use Rattle.math_fields.specs.Elements.{number}
+use Rattle.math_fields.specs.ElementEncoding.{scan_element}
 use Rattle.c_calls.proofs.ReadWords.{elements_pushed, words_scanned}
 use Rattle.c_calls.proofs.elements.after_elements.Goals as goal
 

@@ -1,6 +1,6 @@
 use Rattle.std.proofs.Common.{◌≡◌, ◌-◌, ◌++◌, ℕ, List, length}
 use Rattle.math_codec.specs.Lists.{scan_items}
-use Rattle.math_base.specs.ElementEncoding.{scan_element}
+use Rattle.math_fields.specs.ElementEncoding.{scan_element}
 use Rattle.c_calls.specs.WordElements.{AreElements}
 use Rattle.c_calls.proofs.WrittenWords.{bytes_of}
 use Rattle.c_calls.proofs.elements.after_elements.Given as goal

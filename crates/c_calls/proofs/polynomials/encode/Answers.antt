@@ -19,6 +19,6 @@ pub returns-clause-written : goal.returns-clause-written
 returns-clause-written c =
     let words = c.args.coefficients.now in
     let front : c.write_len.new.out.items ≡ length_spelling (length words) = c.in_ok-write_len.ensures.ok ∙ ap (λ xs. xs ++ length_spelling (length words)) c.new-front.ensures.items in
-    polynomial_written c.len-from.result c.write_len.new.out.items words c.args.out.now c.copy_from_slice.new.self c.write_words.new.bytes
+    polynomial_written c.len-from.result c.write_len.new.out.items words c.args.out.now c.copy_from_slice.new.self c.spell_words.new.bytes
     (omega (arith, c.len-from.ensures, c.write_len.new.out.ok)) (omega (arith, c.if-n-out.false)) front
-    (c.copy_from_slice.ensures.after ∙ c.deref.ensures.value) c.write_words.ensures
+    (c.copy_from_slice.ensures.after ∙ c.deref.ensures.value) c.spell_words.ensures

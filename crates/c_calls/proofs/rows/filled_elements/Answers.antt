@@ -1,7 +1,7 @@
 use Rattle.std.proofs.Common.{◌≡◌, ◌≤◌, ◌∙◌, ◌+◌, ◌-◌, ◌*◌, ℕ, ◌++◌, length, take, drop, replicate, refl, ap, arith}
 use Rattle.std.proofs.Math.Nat.{mul-le-mul_right}
 use Rattle.std.proofs.lemmas.List.{length-drop, length-map, length-replicate, length-take-le, take_all}
-use Rattle.math_base.specs.Elements.{residue}
+use Rattle.math_fields.specs.Elements.{residue}
 use Rattle.c_calls.specs.WordElements.{elements}
 use Rattle.c_calls.proofs.FilledRows.{hold_more}
 use Rattle.c_calls.proofs.rows.filled_elements.Goals.{then-bytes-i-eq1+in_ok-push_elements, else-bytes-i-eq1+in_ok-resize}

@@ -1,26 +1,31 @@
-use Rattle.std.proofs.Common.{◌≡◌, ◌∙◌, ap}
+use Rattle.std.proofs.Common.{◌≡◌, ◌∙◌, length, ap}
 use Rattle.math_ntt.specs.Evaluations.{EvaluationsOf}
-use Rattle.math_base.specs.declared.fields.goldilocks.F.{F}
+use Rattle.math_fields.specs.declared.goldilocks.F.{F}
 use Rattle.c_calls.specs.WordElements.{numbers}
 use Rattle.c_calls.proofs.FilledRows.{AgreeWhereFilled, read_where_filled, recovered_filled}
-use Rattle.c_calls.specs.WordRows.{word_evaluations}
+use Rattle.c_calls.specs.WordRows.{HasRowsFor, word_evaluations}
 use Rattle.c_calls.proofs.WordMatrices.{has_domain}
 use Rattle.c_calls.proofs.rows.recover.Goals as goal
 
 pub recover-requires : goal.recover-requires
-recover-requires c = record {
-  domain = has_domain c.args.lg c.from_parts-values.result.matrix.rows c.requires.small (ap (λ m. m.rows) (c.from_parts-values.ensures.matrix ∙ c.matrix_of-matrix.ensures) ∙ c.requires.rows);
-}
+recover-requires c =
+    let filled = c.args.filled.now in
+    record {
+      domain = has_domain filled.lg c.from_parts-values.result.matrix.rows filled.small (ap (λ m. m.rows) (c.from_parts-values.ensures.matrix ∙ c.matrix_of-matrix.ensures) ∙ filled.rows);
+    }
 
 pub returns-clause-ok : goal.returns-clause-ok
 returns-clause-ok c =
+    let filled = c.args.filled.now in
+    let cols = filled.cols in
     let cells = c.args.cells.now in
-    let bytes = c.args.bytes.now in
+    let bytes = filled.bytes.now in
+    let shape : HasRowsFor (length cells) cols (length bytes) = record { domain = (filled.lg, filled.small, filled.rows); some = filled.some; count = c.requires.whole } in
     let e : EvaluationsOf F = c.from_parts-values.result in
     let written : c.write_numbers.new.words ≡ numbers c.in_ok-recover.field-0.cells =
     c.write_numbers.ensures ∙ ap numbers (c.deref.ensures.value ∙ c.into_cells-coefficients.ensures ∙ ap (λ m. m.cells) c.data.ensures) in
-    let agree : AgreeWhereFilled e (word_evaluations c.args.cols cells bytes) =
-    read_where_filled c.args.cols cells bytes c.in_ok-items.items.items e (c.from_parts-values.ensures.matrix ∙ c.matrix_of-matrix.ensures)
-    (c.from_parts-values.ensures.filled ∙ c.in_ok-points.ensures) c.requires.shape.count c.in_ok-items.ensures.count c.in_ok-items.ensures.filled in
-    recovered_filled c.args.cols cells bytes c.write_numbers.new.words e c.in_ok-recover.field-0 c.requires.shape c.requires.marks c.requires.below
+    let agree : AgreeWhereFilled e (word_evaluations cols cells bytes) =
+    read_where_filled cols cells bytes c.in_ok-items.items.items e (c.from_parts-values.ensures.matrix ∙ c.matrix_of-matrix.ensures)
+    (c.from_parts-values.ensures.filled ∙ c.in_ok-points.ensures) c.requires.whole c.in_ok-items.ensures.count c.in_ok-items.ensures.filled in
+    recovered_filled cols cells bytes c.write_numbers.new.words e c.in_ok-recover.field-0 shape filled.marks c.requires.below
     agree c.in_ok-recover.ensures.size c.in_ok-recover.ensures.fits c.in_ok-recover.ensures.only written

@@ -1,9 +1,9 @@
 use Rattle.std.proofs.Common.{◌≡◌, ◌∙◌, ◌+◌, [], ◌∷◌, ℕ, List, take, get_or, sym, ap, arith}
 use Rattle.std.proofs.lemmas.List.{map-append, take_more}
 use Rattle.math_theory.specs.Powers.{power}
-use Rattle.math_base.specs.declared.fields.goldilocks.F.{F}
-use Rattle.math_base.specs.Elements.{number, product, residue, root_of}
-use Rattle.math_base.proofs.ElementNumbers.{residue-number, same_number}
+use Rattle.math_fields.specs.declared.goldilocks.F.{F}
+use Rattle.math_fields.specs.Elements.{number, product, residue, root_of}
+use Rattle.math_fields.proofs.ElementNumbers.{residue-number, same_number}
 use Rattle.c_calls.proofs.weights.points_at.Goals as goal
 
 pub loop-index-preserved : goal.loop-index-preserved

@@ -1,5 +1,5 @@
 use Rattle.std.proofs.Common.{◌≡◌, take}
-use Rattle.math_base.specs.Elements.{goldilocks, root_of}
+use Rattle.math_fields.specs.Elements.{goldilocks, root_of}
 use Rattle.math_transforms.specs.RootWeights.{powers_at}
 use Rattle.c_calls.proofs.weights.points_at.Given as goal
 

@@ -3,6 +3,10 @@
 //! A matrix is its number of rows and its number of columns, each as a length, and then the list of
 //! its cells, row by row: the rows 1, 2 and 3, 0 over `F` are `02 02 04` and four words. The length
 //! of the list has to be rows times columns.
+//!
+//! Faults go from left to right: the size is compared after the cells were read, and a fault of a
+//! cell comes before it. The counts are read as numbers of 32 bits and multiplied as numbers of 64,
+//! so the product can't overflow.
 
 ghost use Rattle.std.specs.Prelude.{◌≡◌, ◌++◌, ◌≤◌, length, take, IfOk, OnOk, OnErr};
 ghost use Rattle.math_codec.specs.Faults.{Agrees, OnMemory};

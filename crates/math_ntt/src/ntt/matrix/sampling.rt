@@ -29,8 +29,7 @@ impl<F: Random + Drop> Matrix<F> {
         ensures size { IfOk result (λ m. IsOfSize m rows cols) }
         ensures sampled { IfOk result (λ m.
             samples F.sample (rows * cols) (G.stream rng.old) ≡ (Some m.cells, G.stream rng.new)) }
-        ensures refused { IfErr result (λ error.
-            error ≡ TooManyWords
+        ensures refused { IfErr result (λ error. error ≡ TooManyWords
             → samples F.sample (rows * cols) (G.stream rng.old) ≡ (None, G.stream rng.new)) }
     {
         let mut cells = Vec::new(alloc);

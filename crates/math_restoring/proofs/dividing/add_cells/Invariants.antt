@@ -1,5 +1,5 @@
 use Rattle.std.proofs.Common.{◌≡◌, ℕ, ◌<◌, ◌≤◌}
-use Rattle.math_base.specs.Elements.{same, sum}
+use Rattle.math_fields.specs.Elements.{same, sum}
 use Rattle.math_restoring.specs.Restored.{item}
 use Rattle.math_restoring.proofs.dividing.add_cells.Given as goal
 

@@ -1,6 +1,6 @@
 use Rattle.std.proofs.Common.{◌≡◌, ◌∙◌, ◌++◌, ◌^◌, length, take, drop, ap, arith}
-use Rattle.math_base.specs.Elements.{inverse, shift_of}
-use Rattle.math_base.proofs.ElementNumbers.{same_number}
+use Rattle.math_fields.specs.Elements.{inverse, shift_of}
+use Rattle.math_fields.proofs.ElementNumbers.{same_number}
 use Rattle.math_base.proofs.WholeWrites.{take-written}
 use Rattle.math_restoring.specs.CosetDivisions.{AreDividedInverses, AreFactors}
 use Rattle.math_values.proofs.ElementRing.{same_are_equal}

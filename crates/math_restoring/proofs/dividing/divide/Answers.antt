@@ -1,6 +1,6 @@
 use Rattle.std.proofs.Common.{rules, ◌≡◌, ◌∙◌, ◌-◌, ◌*◌, ◌≤◌, ◌^◌, length, take, drop, sym, ap, arith}
 use Rattle.std.proofs.lemmas.List.{length-take-le}
-use Rattle.math_base.specs.Elements.{inverse, residue, shift_of}
+use Rattle.math_fields.specs.Elements.{inverse, residue, shift_of}
 use Rattle.math_restoring.proofs.BlockColumns.{column-before, rows-within}
 use Rattle.math_restoring.proofs.DividedColumns.{half-fits, whole-fits}
 use Rattle.math_restoring.proofs.PointsOfTrees.{backward-tree, forward-tree}

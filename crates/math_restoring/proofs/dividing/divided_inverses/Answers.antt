@@ -1,7 +1,7 @@
 use Rattle.std.proofs.Common.{◌≡◌, ◌∙◌, ◌<◌, ◌≤◌, ◌^◌, List, length, take, sym, arith}
 use Rattle.std.proofs.lemmas.List.{get_or_default, length-take-le}
-use Rattle.math_base.specs.declared.fields.goldilocks.F.{F}
-use Rattle.math_base.specs.Elements.{shift_of, goldilocks}
+use Rattle.math_fields.specs.declared.goldilocks.F.{F}
+use Rattle.math_fields.specs.Elements.{shift_of, goldilocks}
 use Rattle.math_transforms.specs.RootTrees.{AreValuesBelow}
 use Rattle.math_transforms.proofs.PowersOfTwo.{power_of_two-rises}
 use Rattle.math_restoring.proofs.CombinedColumns.{nought}

@@ -1,6 +1,6 @@
 use Rattle.std.proofs.Common.{◌∙◌, sym, ap}
 use Rattle.math_theory.proofs.rings.PowerLaws.{power-one}
-use Rattle.math_base.specs.Elements.{number}
+use Rattle.math_fields.specs.Elements.{number}
 use Rattle.math_values.proofs.ElementRing.{elements}
 use Rattle.math_restoring.proofs.RaisedElements.{raised-squared}
 use Rattle.math_restoring.proofs.dividing.squared.Goals as goal

@@ -1,6 +1,6 @@
 use Rattle.std.proofs.Common.{◌^◌}
 use Rattle.math_theory.specs.Powers.{power}
-use Rattle.math_base.specs.Elements.{product, residue, same}
+use Rattle.math_fields.specs.Elements.{product, residue, same}
 use Rattle.math_restoring.proofs.dividing.squared.Given as goal
 
 -- so many squarings make this power

@@ -1,5 +1,5 @@
 use Rattle.std.proofs.Common.{◌≡◌, ◌∙◌, ◌+◌, ◌-◌, ◌*◌, ◌^◌, ap, arith}
-use Rattle.math_base.specs.Elements.{residue}
+use Rattle.math_fields.specs.Elements.{residue}
 use Rattle.math_transforms.proofs.PowersOfTwo.{power_of_two-double}
 use Rattle.math_restoring.proofs.PointsOfTrees.{backward-tree}
 use Rattle.math_restoring.proofs.SummedHalves.{sums-of_halves}

@@ -1,5 +1,5 @@
 use Rattle.std.proofs.Common.{ℕ, ◌<◌, get_or}
-use Rattle.math_base.specs.Elements.{product, same}
+use Rattle.math_fields.specs.Elements.{product, same}
 use Rattle.math_restoring.proofs.CombinedColumns.{nought}
 use Rattle.math_restoring.proofs.restoring.write_products.Given as goal
 

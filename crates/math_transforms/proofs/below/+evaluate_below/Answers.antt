@@ -107,6 +107,27 @@ returns-then-lg-eq4-clause-counted g t c = let h = at-level 4 c.args.points.now.
 pub returns-then-lg-eq4-clause-bounded : goal.returns-then-lg-eq4-clause-bounded
 returns-then-lg-eq4-clause-bounded g t c = let h = at-level 4 c.args.points.now.lg c.args.points.now.place c.args.cols c.if-lg-eq4.true in adds-part (64 * c.args.cols) _ _ _ (omega (arith, h.steps)) c.in_ok-evaluate_sixteen.ensures.bounded
 
+pub evaluate_thirty_two-requires-clause-size : goal.evaluate_thirty_two-requires-clause-size
+evaluate_thirty_two-requires-clause-size g t c = let h = at-level 5 c.args.points.now.lg c.args.points.now.place c.args.cols c.if-lg-eq5.true in omega (arith, h.rows, c.requires.size)
+
+pub evaluate_thirty_two-requires-clause-room : goal.evaluate_thirty_two-requires-clause-room
+evaluate_thirty_two-requires-clause-room g t c = let h = at-level 5 c.args.points.now.lg c.args.points.now.place c.args.cols c.if-lg-eq5.true in omega (arith, h.steps, c.requires.room)
+
+pub evaluate_thirty_two-requires-clause-some : goal.evaluate_thirty_two-requires-clause-some
+evaluate_thirty_two-requires-clause-some g t c = let h = at-level 5 c.args.points.now.lg c.args.points.now.place c.args.cols c.if-lg-eq5.true in omega (arith, h.rows, c.requires.size, c.if-count-cols.false)
+
+pub evaluate_thirty_two-requires-clause-inside : goal.evaluate_thirty_two-requires-clause-inside
+evaluate_thirty_two-requires-clause-inside g t c = let h = at-level 5 c.args.points.now.lg c.args.points.now.place c.args.cols c.if-lg-eq5.true in omega (arith, h.points, c.requires.points.within)
+
+pub returns-in_err-evaluate_thirty_two-clause-bounded : goal.returns-in_err-evaluate_thirty_two-clause-bounded
+returns-in_err-evaluate_thirty_two-clause-bounded g t c = let h = at-level 5 c.args.points.now.lg c.args.points.now.place c.args.cols c.if-lg-eq5.true in adds-part (160 * c.args.cols) _ _ _ (omega (arith, h.steps)) c.in_err-evaluate_thirty_two.ensures.bounded
+
+pub returns-then-lg-eq5-clause-counted : goal.returns-then-lg-eq5-clause-counted
+returns-then-lg-eq5-clause-counted g t c = let h = at-level 5 c.args.points.now.lg c.args.points.now.place c.args.cols c.if-lg-eq5.true in omega (arith, h.steps, c.in_ok-evaluate_thirty_two.ensures.counted)
+
+pub returns-then-lg-eq5-clause-bounded : goal.returns-then-lg-eq5-clause-bounded
+returns-then-lg-eq5-clause-bounded g t c = let h = at-level 5 c.args.points.now.lg c.args.points.now.place c.args.cols c.if-lg-eq5.true in adds-part (160 * c.args.cols) _ _ _ (omega (arith, h.steps)) c.in_ok-evaluate_thirty_two.ensures.bounded
+
 pub quarter_cells-part-requires-clause-level : goal.quarter_cells-part-requires-clause-level
 quarter_cells-part-requires-clause-level g t c = omega (arith, some-level c.args.points.now.lg c.args.cols (length c.args.cells.now) c.requires.size c.if-count-cols.false, c.if-lg-eq1.false, c.if-lg-eq2.false)
 

@@ -2,8 +2,28 @@ use Rattle.std.proofs.Common.{◌≡◌, ◌∙◌, ◌+◌, ◌-◌, ◌*◌, �
 use Rattle.math_base.proofs.Members.{ring_members}
 use Rattle.math_transforms.proofs.BelowSteps.{turn-square, quarter-within}
 use Rattle.math_transforms.proofs.Levels.{adds-exactly}
-use Rattle.math_transforms.proofs.RowsBelow.{AreQuarters, values-sixteen}
+use Rattle.math_transforms.proofs.RowsBelow.{AreQuarters, values-sixteen, values-turned_sixteen}
 use Rattle.math_transforms.proofs.below.evaluate_sixteen.Goals as goal
+
+pub turn_sixteen_rows-done-requires-clause-order : goal.turn_sixteen_rows-done-requires-clause-order
+turn_sixteen_rows-done-requires-clause-order g c = omega (arith, c.requires.level, c.requires.points.domain)
+
+pub turn_sixteen_rows-done-requires-clause-odd : goal.turn_sixteen_rows-done-requires-clause-odd
+turn_sixteen_rows-done-requires-clause-odd g c = c.requires.points.tree.odd
+
+pub returns-then-done-clause-bounded : goal.returns-then-done-clause-bounded
+returns-then-done-clause-bounded g c =
+    adds-exactly (32 * c.args.cols) _ _ _ (omega arith) (omega (arith, c.add_butterflies.ensures.butterflies, c.add_butterflies-then-done.ensures.butterflies, c.turn_sixteen_rows-done.auto.rows, c.requires.size))
+    (c.add_butterflies-then-done.ensures.root_products ∙ c.add_butterflies.ensures.root_products)
+
+pub returns-then-done-clause-values : goal.returns-then-done-clause-values
+returns-then-done-clause-values g c =
+    let F = g.met.F in
+    let R = ring_members g.F.Multiplicative.product g.F.Debug.debug_output g.F.Object.same g.F.Object.NEVER_REFUSES g.F.Additive.zero g.F.Additive.sum g.F.Additive.negative g.F.Ring.one in
+    let p = c.args.points.now in
+    let square : R.same (R.product (g.F.FieldNTT.root 2) (g.F.FieldNTT.root 2)) (R.negative R.one) = turn-square F.Object.equality F.Additive.group F.Multiplicative.commutes F.Ring.ring F.Field.field F.FieldNTT.roots (omega (arith, c.requires.level, c.requires.points.domain)) in
+    values-turned_sixteen R F.Object.equality F.Additive.group F.Multiplicative.commutes F.Ring.ring (g.F.FieldNTT.root 2) p.roots.now c.requires.points.tree p.lg p.place c.args.cols c.requires.points.some c.requires.points.within square c.requires.level
+    c.args.cells.now c.turn_sixteen_rows-done.new.rows c.requires.size (omega (arith, c.turn_sixteen_rows-done.auto.rows, c.requires.size)) (c.turn_sixteen_rows-done.ensures.turned c.if-done.true)
 
 pub turn_rows_at-requires-2-clause-points : goal.turn_rows_at-requires-2-clause-points
 turn_rows_at-requires-2-clause-points g c =
@@ -89,7 +109,8 @@ returns-clause-values g c =
       fourth = omega (arith, parts.fourth, c.turn_rows_at-5.auto.rows);
     } in
     values-sixteen R F.Object.equality F.Additive.group F.Multiplicative.commutes F.Ring.ring (g.F.FieldNTT.root 2) p.roots.now c.requires.points.tree p.lg p.place c.args.cols c.requires.points.some c.requires.points.within square c.requires.level
-    c.args.cells.now c.turn_rows_at.new.rows c.split_at_mut-a.result.0.now c.split_at_mut-a.result.1.now c.split_at_mut-c.result.0.now c.split_at_mut-c.result.1.now c.turn_rows_at-2.new.rows c.turn_rows_at-3.new.rows c.turn_rows_at-4.new.rows c.turn_rows_at-5.new.rows c.requires.size parts turned c.in_ok-turn_rows_at.ensures.turned
+    c.args.cells.now c.turn_rows_at.new.rows c.split_at_mut-a.result.0.now c.split_at_mut-a.result.1.now c.split_at_mut-c.result.0.now c.split_at_mut-c.result.1.now c.turn_rows_at-2.new.rows c.turn_rows_at-3.new.rows c.turn_rows_at-4.new.rows c.turn_rows_at-5.new.rows c.requires.size parts turned
+    (rw (c.turn_sixteen_rows-done.ensures.kept c.if-done.false) at c.in_ok-turn_rows_at.ensures.turned)
     c.in_ok-turn_rows_at-2.ensures.turned
     c.in_ok-turn_rows_at-3.ensures.turned
     c.in_ok-turn_rows_at-4.ensures.turned

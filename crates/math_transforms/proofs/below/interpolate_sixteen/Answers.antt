@@ -1,9 +1,29 @@
-use Rattle.std.proofs.Common.{◌≡◌, ◌∙◌, ◌+◌, ◌-◌, ◌*◌, ◌<◌, ◌≤◌, ◌^◌, ◌++◌, length, ap, ap₂, refl, rules, arith}
+use Rattle.std.proofs.Common.{◌≡◌, ◌∙◌, sym, ◌+◌, ◌-◌, ◌*◌, ◌<◌, ◌≤◌, ◌^◌, ◌++◌, length, ap, ap₂, refl, rules, arith}
 use Rattle.math_base.proofs.Members.{ring_members}
 use Rattle.math_transforms.proofs.BelowSteps.{inverse_turn-square, quarter-within}
 use Rattle.math_transforms.proofs.Levels.{adds-exactly}
-use Rattle.math_transforms.proofs.RowsBelow.{AreQuarters, multiples-sixteen}
+use Rattle.math_transforms.proofs.RowsBelow.{AreQuarters, multiples-sixteen, multiples-turned_sixteen}
 use Rattle.math_transforms.proofs.below.interpolate_sixteen.Goals as goal
+
+pub turn_sixteen_rows-done-requires-clause-order : goal.turn_sixteen_rows-done-requires-clause-order
+turn_sixteen_rows-done-requires-clause-order g c = omega (arith, c.requires.level, c.requires.points.domain)
+
+pub turn_sixteen_rows-done-requires-clause-odd : goal.turn_sixteen_rows-done-requires-clause-odd
+turn_sixteen_rows-done-requires-clause-odd g c = c.requires.points.tree.odd
+
+pub returns-then-done-clause-bounded : goal.returns-then-done-clause-bounded
+returns-then-done-clause-bounded g c =
+    adds-exactly (32 * c.args.cols) _ _ _ (omega arith) (omega (arith, c.add_butterflies.ensures.butterflies, c.add_butterflies-then-done.ensures.butterflies, c.turn_sixteen_rows-done.auto.rows, c.requires.size))
+    (c.add_butterflies-then-done.ensures.root_products ∙ c.add_butterflies.ensures.root_products)
+
+pub returns-then-done-clause-values : goal.returns-then-done-clause-values
+returns-then-done-clause-values g c =
+    let F = g.met.F in
+    let R = ring_members g.F.Multiplicative.product g.F.Debug.debug_output g.F.Object.same g.F.Object.NEVER_REFUSES g.F.Additive.zero g.F.Additive.sum g.F.Additive.negative g.F.Ring.one in
+    let p = c.args.inverses.now in
+    let square : R.same (R.product (g.F.Field.inverse (g.F.FieldNTT.root 2)) (g.F.Field.inverse (g.F.FieldNTT.root 2))) (R.negative R.one) = inverse_turn-square F.Object.equality F.Additive.group F.Multiplicative.commutes F.Ring.ring F.Field.field F.FieldNTT.roots (omega (arith, c.requires.level, c.requires.points.domain)) in
+    multiples-turned_sixteen R F.Object.equality F.Additive.group F.Multiplicative.commutes F.Ring.ring (g.F.Field.inverse (g.F.FieldNTT.root 2)) p.roots.now c.requires.points.tree p.lg p.place c.args.cols c.requires.points.some c.requires.points.within square c.requires.level
+    c.args.cells.now c.turn_sixteen_rows-done.new.rows c.requires.size (omega (arith, c.turn_sixteen_rows-done.auto.rows, c.requires.size)) (c.turn_sixteen_rows-done.ensures.turned c.if-done.true)
 
 pub turn_rows_at-requires-clause-points : goal.turn_rows_at-requires-clause-points
 turn_rows_at-requires-clause-points g c =
@@ -75,11 +95,11 @@ returns-clause-values g c =
     let s = 4 * c.args.cols in
     let square : R.same (R.product (g.F.Field.inverse (g.F.FieldNTT.root 2)) (g.F.Field.inverse (g.F.FieldNTT.root 2))) (R.negative R.one) = inverse_turn-square F.Object.equality F.Additive.group F.Multiplicative.commutes F.Ring.ring F.Field.field F.FieldNTT.roots (omega (arith, c.requires.level, c.requires.points.domain)) in
     let parts : AreQuarters s c.args.cells.now c.split_at_mut-a.result.0.now c.split_at_mut-a.result.1.now c.split_at_mut-c.result.0.now c.split_at_mut-c.result.1.now = record {
-      whole = c.split_at_mut-front.ensures.value ∙ ap₂ (λ x y. x ++ y) c.split_at_mut-a.ensures.value c.split_at_mut-c.ensures.value;
+      whole = sym (c.turn_sixteen_rows-done.ensures.kept c.if-done.false) ∙ c.split_at_mut-front.ensures.value ∙ ap₂ (λ x y. x ++ y) c.split_at_mut-a.ensures.value c.split_at_mut-c.ensures.value;
       first = omega (arith, c.split_at_mut-a.ensures.front_len);
       second = omega (arith, c.split_at_mut-a.ensures.back_len, c.split_at_mut-front.ensures.front_len);
       third = omega (arith, c.split_at_mut-c.ensures.front_len);
-      fourth = omega (arith, c.split_at_mut-c.ensures.back_len, c.split_at_mut-front.ensures.back_len, c.requires.size);
+      fourth = omega (arith, c.split_at_mut-c.ensures.back_len, c.split_at_mut-front.ensures.back_len, c.turn_sixteen_rows-done.auto.rows, c.requires.size);
     } in
     let turned : AreQuarters s ((c.turn_rows_at.new.rows ++ c.turn_rows_at-2.new.rows) ++ (c.turn_rows_at-3.new.rows ++ c.turn_rows_at-4.new.rows)) c.turn_rows_at.new.rows c.turn_rows_at-2.new.rows c.turn_rows_at-3.new.rows c.turn_rows_at-4.new.rows = record {
       whole = refl;

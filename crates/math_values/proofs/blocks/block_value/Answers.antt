@@ -1,7 +1,7 @@
 use Rattle.std.proofs.Common.{◌∙◌, map, ap, arith}
 use Rattle.std.proofs.lemmas.List.{length-map}
 use Rattle.std.proofs.lemmas.Simd.{map-map}
-use Rattle.math_base.specs.Elements.{residue, goldilocks}
+use Rattle.math_fields.specs.Elements.{residue, goldilocks}
 use Rattle.math_base.specs.Polynomials.{value_in_ring}
 use Rattle.math_values.proofs.BlockValues.{power_of}
 use Rattle.math_values.proofs.SummedProducts.{value-from}

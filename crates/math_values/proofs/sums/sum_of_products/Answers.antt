@@ -1,5 +1,5 @@
 use Rattle.std.proofs.Common.{◌∙◌, ap}
-use Rattle.math_base.specs.Elements.{residue}
+use Rattle.math_fields.specs.Elements.{residue}
 use Rattle.math_values.proofs.SummedProducts.{residue-products}
 use Rattle.math_values.proofs.sums.sum_of_products.Goals as goal
 

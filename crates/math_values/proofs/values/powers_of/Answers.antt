@@ -2,8 +2,8 @@ use Rattle.std.proofs.Common.{◌∙◌, ◌*◌, ◌%◌, length, ap, add-one, 
 use Rattle.std.proofs.lemmas.List.{length_push}
 use Rattle.math_numbers.specs.Goldilocks.{P}
 use Rattle.math_theory.specs.Powers.{power-zero, power-suc}
-use Rattle.math_base.specs.Elements.{number, residue, product}
-use Rattle.math_base.proofs.ElementNumbers.{same_number}
+use Rattle.math_fields.specs.Elements.{number, residue, product}
+use Rattle.math_fields.proofs.ElementNumbers.{same_number}
 use Rattle.math_values.proofs.BlockValues.{powers-push}
 use Rattle.math_values.proofs.values.powers_of.Goals as goal
 

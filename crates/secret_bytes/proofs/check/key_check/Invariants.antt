@@ -1,5 +1,5 @@
 use Rattle.std.proofs.Common.{◌≡◌, ◌≤◌, length, drop}
-use Rattle.math_base.specs.Elements.{sum, product, number}
+use Rattle.math_fields.specs.Elements.{sum, product, number}
 use Rattle.secret_bytes.specs.KeyChecks.{within}
 use Rattle.secret_bytes.proofs.check.key_check.Given as goal
 

@@ -2,7 +2,7 @@ use Rattle.std.proofs.Common.{◌≡◌, ◌∙◌, ◌+◌, [], ◌∷◌, ◌+
 use Rattle.std.proofs.lemmas.List.{length-map}
 use Rattle.math_theory.specs.Interpolation.{AreApart}
 use Rattle.shared_secret.specs.CorrectedShares.{IsCorrectedSecret}
-use Rattle.math_base.specs.Elements.{goldilocks, residue, same}
+use Rattle.math_fields.specs.Elements.{goldilocks, residue, same}
 use Rattle.shared_secret.specs.Shares.{points}
 use Rattle.shared_secret.specs.Weights.{AreWeightsAtPoints}
 use Rattle.secret_bytes.specs.declared.share.SecretShare.{SecretShare}

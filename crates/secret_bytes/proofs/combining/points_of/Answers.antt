@@ -2,9 +2,9 @@ use Rattle.std.proofs.Common.{◌≡◌, ◌∙◌, ◌+◌, ◌%◌, ◌++◌, 
 use Rattle.std.proofs.lemmas.List.{take_more}
 use Rattle.math_numbers.specs.Goldilocks.{P}
 use Rattle.std.proofs.lemmas.List.{map_push}
-use Rattle.math_base.specs.declared.fields.goldilocks.F.{F}
-use Rattle.math_base.specs.Elements.{residue}
-use Rattle.math_base.proofs.ElementNumbers.{same_number}
+use Rattle.math_fields.specs.declared.goldilocks.F.{F}
+use Rattle.math_fields.specs.Elements.{residue}
+use Rattle.math_fields.proofs.ElementNumbers.{same_number}
 use Rattle.secret_bytes.specs.declared.share.SecretShare.{SecretShare}
 use Rattle.secret_bytes.proofs.combining.points_of.Goals as goal
 

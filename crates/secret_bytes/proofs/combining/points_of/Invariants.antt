@@ -1,5 +1,5 @@
 use Rattle.std.proofs.Common.{◌≡◌, map, take}
-use Rattle.math_base.specs.Elements.{residue}
+use Rattle.math_fields.specs.Elements.{residue}
 use Rattle.secret_bytes.proofs.combining.points_of.Given as goal
 
 -- the points so far

@@ -1,5 +1,5 @@
 use Rattle.std.proofs.Common.{◌∙◌, length, arith}
-use Rattle.math_base.specs.Elements.{product, residue, sum}
+use Rattle.math_fields.specs.Elements.{product, residue, sum}
 use Rattle.secret_bytes.proofs.ShorterSums.{weighted_sum-take}
 use Rattle.secret_bytes.proofs.combining.shorter_sum.Goals as goal
 

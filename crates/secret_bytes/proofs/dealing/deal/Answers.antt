@@ -2,8 +2,8 @@ use Rattle.std.proofs.Common.{◌≡◌, ◌∙◌, ◌-◌, ◌*◌, ℕ, [], l
 use Rattle.std.specs.List.{All, flat_map, range_with_len}
 use Rattle.std.proofs.Common.{drop}
 use Rattle.rand_core.specs.Stream.{Stream}
-use Rattle.math_base.specs.declared.fields.goldilocks.F.{F}
-use Rattle.math_base.specs.Elements.{sample_of}
+use Rattle.math_fields.specs.declared.goldilocks.F.{F}
+use Rattle.math_fields.specs.Elements.{sample_of}
 use Rattle.math_base.proofs.SampleLists.{no_samples}
 use Rattle.secret_bytes.specs.declared.dealing.Row.{Row}
 use Rattle.secret_bytes.specs.declared.error.DealError.TheVariants.{Memory}

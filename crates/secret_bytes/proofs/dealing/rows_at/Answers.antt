@@ -1,6 +1,6 @@
 use Rattle.std.proofs.Common.{◌≡◌, ◌∙◌, ◌+◌, ◌%◌, ◌++◌, [], ◌∷◌, ap, ap₂, refl, arith, mod-eq_of_lt}
 use Rattle.math_numbers.specs.Goldilocks.{P}
-use Rattle.math_base.specs.Elements.{number}
+use Rattle.math_fields.specs.Elements.{number}
 use Rattle.secret_bytes.specs.declared.dealing.Row.{Row}
 use Rattle.secret_bytes.specs.Rows.{IsRow}
 use Rattle.secret_bytes.proofs.DealtRows.{rows-push}

@@ -1,5 +1,5 @@
 use Rattle.std.proofs.Common.{◌≡◌, []}
-use Rattle.math_base.specs.Elements.{number}
+use Rattle.math_fields.specs.Elements.{number}
 use Rattle.secret_bytes.specs.Rows.{AreRows}
 use Rattle.secret_bytes.proofs.dealing.rows_at.Given as goal
 

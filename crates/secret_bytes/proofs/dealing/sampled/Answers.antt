@@ -1,6 +1,6 @@
 use Rattle.std.proofs.Common.{rules, ◌∙◌, ◌++◌, ◌∷◌, ◌+◌, ◌-◌, ◌≤◌, [], alloc_error, ap, drop, length, subst, sym, Some, arith}
 use Rattle.std.proofs.lemmas.List.{drop-append-le}
-use Rattle.math_base.specs.Elements.{sample_of}
+use Rattle.math_fields.specs.Elements.{sample_of}
 use Rattle.math_base.proofs.SampleLists.{no_samples, sample_behind, samples_end}
 use Rattle.secret_bytes.specs.Deals.{IsDueSampling}
 use Rattle.secret_bytes.specs.declared.error.DealError.TheVariants.{Memory}

@@ -1,5 +1,5 @@
 use Rattle.std.proofs.Common.{◌≡◌, ◌+◌, drop, length, slice_get, Some}
-use Rattle.math_base.specs.Elements.{sample_of}
+use Rattle.math_fields.specs.Elements.{sample_of}
 use Rattle.math_base.specs.Samples.{samples}
 use Rattle.secret_bytes.proofs.dealing.sampled.Given as goal
 

@@ -1,5 +1,5 @@
 use Rattle.std.proofs.Common.{◌≡◌, ◌∙◌, ℕ, length, map, sym, ap, subst, arith}
-use Rattle.math_base.specs.Elements.{number}
+use Rattle.math_fields.specs.Elements.{number}
 use Rattle.secret_bytes.specs.Packings.{AllFit, number_count, unpacked}
 use Rattle.secret_bytes.proofs.UnpackedBytes.{packed-count, packed-fit, packed-unpacked, some-found, some-mapped}
 use Rattle.secret_bytes.proofs.elements.bytes_of.Goals as goal

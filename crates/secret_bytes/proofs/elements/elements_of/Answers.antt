@@ -1,5 +1,5 @@
 use Rattle.std.proofs.Common.{◌∙◌, ◌<◌, ◌≡◌, ◌++◌, ◌∷◌, [], length, arith}
-use Rattle.math_base.specs.Elements.{number}
+use Rattle.math_fields.specs.Elements.{number}
 use Rattle.secret_bytes.specs.Packings.{number_of_bytes}
 use Rattle.secret_bytes.proofs.PackedBytes.{packed-step}
 use Rattle.secret_bytes.proofs.elements.elements_of.Goals as goal

@@ -1,5 +1,5 @@
 use Rattle.std.proofs.Common.{◌≡◌, ◌++◌, ◌↔◌, length, map}
-use Rattle.math_base.specs.Elements.{number}
+use Rattle.math_fields.specs.Elements.{number}
 use Rattle.secret_bytes.specs.Packings.{AllFit, unpacked}
 use Rattle.secret_bytes.proofs.elements.unpacked.Given as goal
 

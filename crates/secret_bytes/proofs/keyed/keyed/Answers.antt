@@ -1,5 +1,5 @@
 use Rattle.std.proofs.Common.{◌≡◌, ◌∙◌, ◌++◌, ◌∷◌, [], ap, append_assoc, refl, subst, arith}
-use Rattle.math_base.specs.Elements.{same}
+use Rattle.math_fields.specs.Elements.{same}
 use Rattle.secret_bytes.specs.KeyChecks.{check_at}
 use Rattle.math_numbers.proofs.ByteLists.{all_bytes}
 use Rattle.secret_bytes.proofs.keyed.keyed.Goals as goal

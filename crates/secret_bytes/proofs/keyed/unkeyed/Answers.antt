@@ -1,6 +1,6 @@
 use Rattle.std.proofs.Common.{◌≡◌, ◌∙◌, ◌++◌, ◌∷◌, [], List, ap, append_assoc, subst}
-use Rattle.math_base.specs.declared.fields.goldilocks.F.{F}
-use Rattle.math_base.specs.Elements.{same}
+use Rattle.math_fields.specs.declared.goldilocks.F.{F}
+use Rattle.math_fields.specs.Elements.{same}
 use Rattle.secret_bytes.proofs.UnpackedBytes.{some-mapped}
 use Rattle.secret_bytes.specs.KeyChecks.{check_at}
 use Rattle.secret_bytes.specs.Packings.{ArePackedBytes}

@@ -11,17 +11,17 @@ use Rattle.shard_blocks.proofs.correcting.join_block_corrected.Goals as goal
 pub returns : goal.returns
 returns c =
     let shards = c.args.shards.now in
-    let ok = c.corrected_block.ensures.ok in
-    let err = c.corrected_block.ensures.err in
+    let ok = c.correct_to_block.ensures.ok in
+    let err = c.correct_to_block.ensures.err in
     let none = block_of_some (λ _. ⊥) settled_indices CorrectTo corrected_of_some corrected_beside one_correction in
     let beside = block_beside (λ _. ⊥) settled_indices CorrectTo corrected_of_some corrected_beside one_correction in
     let once = block_once (λ _. ⊥) settled_indices CorrectTo corrected_of_some corrected_beside one_correction in
     let refused = λ (e : Error) (other : ¬ (IsMemory e)).
-    refuses (λ _. ⊥) settled_indices CorrectToBlock none beside (λ v. v.bytes.items) (λ v. AreCorrectedBlock v.bytes.items v.left_out.items shards) shards (λ v h. (h.0, h.1.0)) e other c.corrected_block.result ok err in
+    refuses (λ _. ⊥) settled_indices CorrectToBlock none beside (λ v. v.bytes.items) (λ v. AreCorrectedBlock v.bytes.items v.left_out.items shards) shards (λ v h. (h.0, h.1.0)) e other c.correct_to_block.result ok err in
     record {
       ok = ok;
       found = answers (λ _. ⊥) settled_indices CorrectToBlock none beside (λ v. v.bytes.items) (λ v. AreCorrectedBlock v.bytes.items v.left_out.items shards) shards (λ v h. (h.0, h.1.0))
-          (λ bytes others. once bytes others shards) c.corrected_block.result ok err;
+          (λ bytes others. once bytes others shards) c.correct_to_block.result ok err;
       too_few = refused TooFew (λ h. h);
       mismatch = refused Mismatch (λ h. h);
       index = refused Index (λ h. h);

@@ -11,7 +11,7 @@ returns c = λ words block h of long.
     let k : ℕ = n / 8 in
     let all = words_of_block words block of in
     let whole : length c.args.out.now / 8 ≡ k = ap (λ m. m / 8) (sym long) in
-    let front = c.write_words.ensures words h (omega (arith, whole, all)) in
+    let front = c.write_block_words.ensures words h (omega (arith, whole, all)) in
     let left : length c.split_at_mut-front.result.1.now ≡ n % 8 = omega (arith, c.split_at_mut-front.ensures.back_len, long) in
     let some : take (n % 8) c.to_le_bytes-last.result ≡ take (n % 8) (to_le_bytes w64 (get_or words (1 + k) 0)) = elim (cases_lt 0 (n % 8)) [
       | inl more ↦

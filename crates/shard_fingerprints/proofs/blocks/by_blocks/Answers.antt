@@ -1,9 +1,9 @@
 use Rattle.std.proofs.Common.{◌≡◌, ◌∙◌, ℕ, ◌+◌, ◌-◌, ◌*◌, ◌/◌, ◌%◌, ◌≤◌, length, take, drop, get_or, sym, ap, ap₂, arith}
 use Rattle.std.proofs.lemmas.List.{get_or_default, length-drop, length-take-le, take_all}
 use Rattle.math_numbers.specs.Goldilocks.{P}
-use Rattle.math_base.specs.declared.fields.goldilocks.F.{F}
-use Rattle.math_base.specs.Elements.{number, residue, sum, product}
-use Rattle.math_base.proofs.ElementNumbers.{same_number}
+use Rattle.math_fields.specs.declared.goldilocks.F.{F}
+use Rattle.math_fields.specs.Elements.{number, residue, sum, product}
+use Rattle.math_fields.proofs.ElementNumbers.{same_number}
 use Rattle.math_values.proofs.BlockValues.{power_of, power-block}
 use Rattle.shard_fingerprints.specs.Fingerprints.{fingerprint}
 use Rattle.shard_fingerprints.proofs.WordBlocks.{block-before, weighed-block}

@@ -1,9 +1,9 @@
 use Rattle.std.proofs.Common.{◌≡◌, ◌∙◌, ◌+◌, ◌*◌, ◌%◌, ◌<◌, ◌≤◌, length, set, get_or, sym, ap, ap₂, arith}
 use Rattle.std.proofs.lemmas.List.{get_or_default, length-set}
 use Rattle.math_numbers.specs.Goldilocks.{P}
-use Rattle.math_base.specs.declared.fields.goldilocks.F.{F}
-use Rattle.math_base.specs.Elements.{number, residue, product}
-use Rattle.math_base.proofs.ElementNumbers.{same_number}
+use Rattle.math_fields.specs.declared.goldilocks.F.{F}
+use Rattle.math_fields.specs.Elements.{number, residue, product}
+use Rattle.math_fields.proofs.ElementNumbers.{same_number}
 use Rattle.math_values.proofs.BlockValues.{power_of, power-block}
 use Rattle.shard_fingerprints.proofs.WordBlocks.{below-two, power-none, power-one, power-set}
 use Rattle.shard_fingerprints.proofs.blocks.powers_of.Goals as goal

@@ -1,6 +1,6 @@
 use Rattle.std.proofs.Common.{◌≡◌, ◌∷◌, ◌∙◌, ◌%◌, ap, length}
 use Rattle.math_numbers.specs.Goldilocks.{P}
-use Rattle.math_base.specs.Elements.{number, residue}
+use Rattle.math_fields.specs.Elements.{number, residue}
 use Rattle.shard_fingerprints.specs.Fingerprints.{fingerprint}
 use Rattle.shard_fingerprints.proofs.FingerprintSteps.{fingerprint-cons}
 use Rattle.shard_fingerprints.proofs.pairs.cells_fingerprint.Goals as goal

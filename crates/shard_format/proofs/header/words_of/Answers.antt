@@ -1,5 +1,5 @@
 use Rattle.std.proofs.Common.{refl}
-use Rattle.math_base.specs.Elements.{residue}
+use Rattle.math_fields.specs.Elements.{residue}
 use Rattle.shard_format.specs.Headers.{mark, format_version}
 use Rattle.shard_fingerprints.specs.EqualElements.{element_equal}
 use Rattle.shard_format.proofs.header.words_of.Goals as goal

@@ -3,7 +3,7 @@ use Rattle.std.proofs.lemmas.List.{append-nil, drop_all, drop_at, get_or-drop, l
 use Rattle.std.proofs.lemmas.List.Folds.{flat_map-map}
 use Rattle.std.specs.Int.{to_be_bytes, w64}
 use Rattle.std.specs.List.{flat_map}
-use Rattle.math_base.specs.Elements.{number}
+use Rattle.math_fields.specs.Elements.{number}
 use Rattle.math_splitting.specs.DataWords.{spelled_words}
 use Rattle.math_splitting.proofs.SpelledWords.{bytes-spelled, length-spelled}
 use Rattle.shard_format.proofs.records.write_cells.Goals as goal

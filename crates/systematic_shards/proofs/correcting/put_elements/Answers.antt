@@ -1,12 +1,12 @@
 use Rattle.std.proofs.Common.{◌≡◌, ◌∙◌, ◌+◌, ◌*◌, ◌<◌, ℕ, length, ap₂, subst, arith}
 use Rattle.std.proofs.Math.ListN.{set}
 use Rattle.std.proofs.lemmas.List.{get_or-set_other, get_or-set_same}
-use Rattle.math_base.specs.declared.fields.goldilocks.F.{F}
-use Rattle.math_base.specs.Elements.{residue}
+use Rattle.math_fields.specs.declared.goldilocks.F.{F}
+use Rattle.math_fields.specs.Elements.{residue}
 use Rattle.math_restoring.specs.Restored.{item}
 use Rattle.systematic_shards.specs.Masks.{masked_number}
 use Rattle.systematic_shards.specs.Shards.{element_in}
-use Rattle.systematic_shards.specs.Words.{AreWritten}
+use Rattle.row_interpolation.specs.Written.{AreWritten}
 use Rattle.systematic_shards.proofs.Written.{next-written}
 use Rattle.systematic_shards.proofs.correcting.put_elements.Goals as goal
 

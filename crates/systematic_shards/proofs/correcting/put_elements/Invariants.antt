@@ -1,7 +1,7 @@
 use Rattle.std.proofs.Common.{◌+◌, ◌*◌}
 use Rattle.math_restoring.specs.Restored.{item}
 use Rattle.systematic_shards.specs.Shards.{element_in}
-use Rattle.systematic_shards.specs.Words.{AreWritten}
+use Rattle.row_interpolation.specs.Written.{AreWritten}
 use Rattle.systematic_shards.proofs.correcting.put_elements.Given as goal
 
 -- the elements so far are written

@@ -1,10 +1,10 @@
 use Rattle.std.proofs.Common.{◌≡◌, ◌∙◌, ◌+◌, ◌*◌, ◌<◌, length, ap, ap₂, subst, arith}
 use Rattle.std.proofs.lemmas.List.{get_or_default}
-use Rattle.math_base.specs.Elements.{number, residue}
+use Rattle.math_fields.specs.Elements.{number, residue}
 use Rattle.systematic_shards.specs.Correcting.{cells_at}
 use Rattle.systematic_shards.specs.Masks.{masked_number}
 use Rattle.systematic_shards.specs.Shards.{word_in}
-use Rattle.systematic_shards.specs.Words.{AreWritten}
+use Rattle.row_interpolation.specs.Written.{AreWritten}
 use Rattle.systematic_shards.proofs.Bytes.{within-room}
 use Rattle.systematic_shards.proofs.Written.{next-written}
 use Rattle.systematic_shards.proofs.correcting.write_row.Goals as goal

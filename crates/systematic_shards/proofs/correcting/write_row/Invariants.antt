@@ -1,7 +1,7 @@
 use Rattle.std.proofs.Common.{◌+◌, ◌*◌}
 use Rattle.systematic_shards.specs.Correcting.{cells_at}
 use Rattle.systematic_shards.specs.Shards.{word_in}
-use Rattle.systematic_shards.specs.Words.{AreWritten}
+use Rattle.row_interpolation.specs.Written.{AreWritten}
 use Rattle.systematic_shards.proofs.correcting.write_row.Given as goal
 
 -- the words so far are written

@@ -1,5 +1,5 @@
 use Rattle.std.proofs.Common.{ℕ, ◌<◌, get_or}
-use Rattle.math_base.specs.Elements.{residue, same}
+use Rattle.math_fields.specs.Elements.{residue, same}
 use Rattle.math_restoring.specs.Restored.{item}
 use Rattle.systematic_shards.specs.Masks.{masked_number}
 use Rattle.systematic_shards.proofs.filling.are_words_of.Given as goal

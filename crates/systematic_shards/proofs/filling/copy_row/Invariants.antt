@@ -1,5 +1,5 @@
 use Rattle.std.proofs.Common.{◌+◌, ◌-◌, ◌*◌, ◌≤◌}
-use Rattle.systematic_shards.specs.Words.{AreWritten}
+use Rattle.row_interpolation.specs.Written.{AreWritten}
 use Rattle.systematic_shards.proofs.filling.copy_row.Given as goal
 
 -- the words so far are written

@@ -10,17 +10,17 @@ loop-row-preserved g c =
     let rows = c.deref-row-items.result.now in
     let row = c.row-item.result in
     let n = c.loop-row.row-index in
-    kept-more g.M.WordMemory.word c.args.code.split.width rows c.loop-row.kept.items c.keep.new.kept.items n row
+    kept-more g.M.WordMemory.word c.args.code.split.width rows c.loop-row.kept.items c.push_unless_copy.new.kept.items n row
     (subst (λ xs. IsNonDecreasingBy (λ r. r.index) xs) (sym c.deref-row-items.ensures.value) c.in_ok-rising.ensures.rising) c.loop-row-test.true
-    (λ d. c.row-item.is ∙ get_or_default rows n row d c.loop-row-test.true) c.in_ok-keep.ensures.ok c.loop-row.invariant
+    (λ d. c.row-item.is ∙ get_or_default rows n row d c.loop-row-test.true) c.in_ok-push_unless_copy.ensures.ok c.loop-row.invariant
 
-pub returns-in_err-keep-clause-err : goal.returns-in_err-keep-clause-err
-returns-in_err-keep-clause-err g c =
+pub returns-in_err-push_unless_copy-clause-err : goal.returns-in_err-push_unless_copy-clause-err
+returns-in_err-push_unless_copy-clause-err g c =
     let rows = c.deref-row-items.result.now in
     let row = c.row-item.result in
     let n = c.loop-row.row-index in
-    let q = err_from_is_err_and c.from_residual-in_err-keep.result c.from_residual-in_err-keep.ensures.1 in
-    rw (q.1, q.2) (elim c.in_err-keep.ensures.err [
+    let q = err_from_is_err_and c.from_residual-in_err-push_unless_copy.result c.from_residual-in_err-push_unless_copy.ensures.1 in
+    rw (q.1, q.2) (elim c.in_err-push_unless_copy.ensures.err [
       | inl memory ↦ inl memory
       | inr unlike ↦
           inr (

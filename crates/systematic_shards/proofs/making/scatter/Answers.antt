@@ -2,10 +2,10 @@ use Rattle.std.proofs.Common.{◌≡◌, ◌∙◌, ◌+◌, ◌*◌, ◌<◌, �
 use Rattle.std.proofs.Math.ListN.{set}
 use Rattle.std.proofs.lemmas.List.{get_or-set_other, get_or-set_same}
 use Rattle.std.proofs.lemmas.Nat.{mul-add-lt, same_from_place}
-use Rattle.math_base.specs.Elements.{residue}
+use Rattle.math_fields.specs.Elements.{residue}
 use Rattle.math_restoring.specs.Restored.{item}
 use Rattle.systematic_shards.specs.Masks.{masked_number}
-use Rattle.systematic_shards.specs.Words.{AreWritten}
+use Rattle.row_interpolation.specs.Written.{AreWritten}
 use Rattle.systematic_shards.proofs.Written.{written-more}
 use Rattle.systematic_shards.proofs.making.scatter.Goals as goal
 

@@ -1,5 +1,5 @@
 use Rattle.std.proofs.Common.{ℕ, ◌+◌, ◌<◌}
-use Rattle.math_base.specs.Elements.{number}
+use Rattle.math_fields.specs.Elements.{number}
 use Rattle.math_restoring.specs.Restored.{item}
 use Rattle.systematic_shards.specs.Masks.{masked_number}
 use Rattle.systematic_shards.specs.Words.{IsWithin}

@@ -1,7 +1,8 @@
-use Rattle.std.proofs.Common.{◌≡◌, ◌∙◌, ◌^◌, ◌<◌, length, refl, arith}
+use Rattle.std.proofs.Common.{◌≡◌, ◌∙◌, ℕ, ◌^◌, ◌<◌, List, length, refl, sym, subst, arith}
 use Rattle.std.proofs.lemmas.List.{get_or_default}
 use Rattle.math_theory.proofs.domains.MergedPieces.{root-inverse}
 use Rattle.math_base.proofs.Members.{ring_members}
+use Rattle.math_transforms.specs.RootTrees.{IsTreeOf}
 use Rattle.math_transforms.proofs.RootInverses.{inverse-tree_squares}
 use Rattle.math_transforms.proofs.TreeEntries.{all-points}
 use Rattle.math_ntt.proofs.RecoverySteps.{nonzero-values, quotients-on_coset}
@@ -11,8 +12,11 @@ pub interpolate_below-requires-clause-points : goal.interpolate_below-requires-c
 interpolate_below-requires-clause-points g c =
     let R = ring_members g.F.Multiplicative.product g.F.Debug.debug_output g.F.Object.same g.F.Object.NEVER_REFUSES g.F.Additive.zero g.F.Additive.sum g.F.Additive.negative g.F.Ring.one in
     let F = g.met.F in
-    all-points R F.Object.equality F.Additive.group F.Multiplicative.commutes F.Ring.ring (λ l. g.F.Field.inverse (g.F.FieldNTT.root l)) (g.F.Field.inverse g.F.FieldNTT.shift) _ _ refl c.requires.lg.domain c.requires.lg.small
-    (inverse-tree_squares F.Object.equality F.Additive.group F.Multiplicative.commutes F.Ring.ring F.Field.field F.FieldNTT.roots c.args.lg c.requires.lg.domain) c.requires.back
+    let inverses : ℕ → g.row.F.Denot = λ l. g.F.Field.inverse (g.F.FieldNTT.root l) in
+    let back = g.F.Field.inverse g.F.FieldNTT.shift in
+    let tree = subst (λ (xs : List g.row.F.Denot). IsTreeOf R inverses back c.args.trees.now.lg xs) (sym c.deref-2.ensures.value) c.requires.trees.inverses in
+    all-points R F.Object.equality F.Additive.group F.Multiplicative.commutes F.Ring.ring inverses back _ _ refl c.requires.trees.domain.domain c.requires.trees.domain.small
+    (inverse-tree_squares F.Object.equality F.Additive.group F.Multiplicative.commutes F.Ring.ring F.Field.field F.FieldNTT.roots c.args.trees.now.lg c.requires.trees.domain.domain) tree
 
 pub returns-clause-quotients : goal.returns-clause-quotients
 returns-clause-quotients g c = λ p v e at_cells at_divisors nonzero.
@@ -22,11 +26,11 @@ returns-clause-quotients g c = λ p v e at_cells at_divisors nonzero.
     let P = F.Multiplicative.commutes in
     let L = F.Ring.ring in
     let R = ring_members g.F.Multiplicative.product g.F.Debug.debug_output g.F.Object.same g.F.Object.NEVER_REFUSES g.F.Additive.zero g.F.Additive.sum g.F.Additive.negative g.F.Ring.one in
-    let lg = c.args.lg in
+    let lg = c.args.trees.now.lg in
     let n = 2 ^ lg in
     let root = g.F.FieldNTT.root in
     let shift = g.F.FieldNTT.shift in
-    let order = F.FieldNTT.roots.order lg c.requires.lg.domain in
+    let order = F.FieldNTT.roots.order lg c.requires.trees.domain.domain in
     let unit = root-inverse E G P L F.Field.field _ _ order in
     let divisors = c.args.divisors.now in
     let long : length divisors ≡ n = c.requires.divisors in
@@ -36,6 +40,6 @@ returns-clause-quotients g c = λ p v e at_cells at_divisors nonzero.
     (λ k d l z. let b : k < n = omega (arith, l, long) in
     nonzero-values R E G P L F.Field.field root lg order shift c.in_ok-numerator.numerator v divisors e half at_divisors nonzero k b (rw (get_or_default divisors k d g.F.Additive.zero l) at z)) in
     quotients-on_coset R E G P L F.Field.field root lg order shift (λ l. g.F.Field.inverse (g.F.FieldNTT.root l)) (g.F.Field.inverse shift) c.in_ok-numerator.numerator c.args.cols
-    c.args.back.now p v c.args.cells.now divisors c.in_ok-inverses.inverses.items c.multiply_rows.new.cells c.interpolate_below.new.cells c.requires.some e unit
-    (F.Field.field.inverts shift F.FieldNTT.roots.shift_is_not_zero) c.requires.back half at_divisors at_cells (λ i l. inverted i (omega (arith, l, long)))
-    (rw (c.deref.ensures.value, many) at c.in_ok-multiply_rows.ensures.products) c.in_ok-interpolate_below.ensures.values
+    c.args.trees.now.inverses.items p v c.args.cells.now divisors c.in_ok-inverses.inverses.items c.multiply_rows.new.cells c.interpolate_below.new.cells c.requires.trees.some e unit
+    (F.Field.field.inverts shift F.FieldNTT.roots.shift_is_not_zero) c.requires.trees.inverses half at_divisors at_cells (λ i l. inverted i (omega (arith, l, long)))
+    (rw (c.deref.ensures.value, many) at c.in_ok-multiply_rows.ensures.products) (rw c.deref-2.ensures.value at c.in_ok-interpolate_below.ensures.values)

@@ -17,8 +17,15 @@ use Rattle.math_ntt.proofs.RecoveryCounts.{some_levels, whole-bound, whole-room}
 use Rattle.math_ntt.proofs.RecoveryOutcomes.{exact-some, refusal-none, refusal-some}
 use Rattle.math_ntt.proofs.ntt.recovery.recovered.Goals as goal
 
-pub divided-requires-clause-some : goal.divided-requires-clause-some
-divided-requires-clause-some g c = let points = c.args.points.now in some_levels c.args.lg (count_true points) (count_false points) (omega (arith, count_both points, c.requires.points)) c.requires.some c.requires.missing
+pub divided-requires-clause-trees : goal.divided-requires-clause-trees
+divided-requires-clause-trees g c =
+    let points = c.args.points.now in
+    record {
+      domain = c.requires.lg;
+      some = some_levels c.args.lg (count_true points) (count_false points) (omega (arith, count_both points, c.requires.points)) c.requires.some c.requires.missing;
+      points = c.in_ok-evaluation.ensures;
+      inverses = c.in_ok-interpolation.ensures;
+    }
 
 pub divided-requires-clause-room : goal.divided-requires-clause-room
 divided-requires-clause-room g c = omega (arith, whole-room c.args.lg c.args.cols c.requires.lg.small c.requires.fits, c.in_ok-vanishing.ensures.bounded.no_more)

@@ -1,6 +1,6 @@
 use Rattle.std.proofs.Common.{◌≡◌, ◌∙◌, ◌+◌, ◌-◌, ◌*◌, ◌<◌, ◌≤◌, ◌^◌, length, get_or, take, drop, ap₂, arith}
 use Rattle.std.proofs.lemmas.List.{length-drop, length-take-le}
-use Rattle.math_base.specs.Elements.{product, number}
+use Rattle.math_fields.specs.Elements.{product, number}
 use Rattle.math_transforms.proofs.WrittenCells.{row-within}
 use Rattle.math_transforms.proofs.WrittenRows.{part-read}
 use Rattle.math_restoring.proofs.CombinedColumns.{nought}

@@ -2,7 +2,7 @@ use Rattle.std.proofs.Common.{◌≡◌, ◌↔◌, ◌∙◌, ◌+◌, ◌-◌,
 use Rattle.std.specs.List.{All}
 use Rattle.std.proofs.lemmas.Bool.{false≢true}
 use Rattle.std.proofs.lemmas.Nat.{shr_below}
-use Rattle.math_base.specs.Elements.{number, product, root_of}
+use Rattle.math_fields.specs.Elements.{number, product, root_of}
 use Rattle.math_shards.specs.Cosets.{HasCosetCells, HasValuesFrom, coefficients_of}
 use Rattle.math_shards.proofs.CosetRows.{coset-more, coset-valued}
 use Rattle.math_shards.proofs.CosetSizes.{row_fits}

@@ -1,5 +1,5 @@
 use Rattle.std.proofs.Common.{◌%◌, ◌<◌, ◌^◌, All}
-use Rattle.math_base.specs.Elements.{root_of, same}
+use Rattle.math_fields.specs.Elements.{root_of, same}
 use Rattle.math_shards.specs.Cosets.{HasValuesFrom, coefficients_of}
 use Rattle.math_restoring.specs.CosetDivisions.{raised}
 use Rattle.math_shards.proofs.shards.comparing.have_columns.Given as goal

@@ -1,4 +1,4 @@
-use Rattle.math_base.specs.Elements.{same}
+use Rattle.math_fields.specs.Elements.{same}
 use Rattle.math_shards.proofs.CosetCells.{HoldMultiples}
 use Rattle.math_restoring.specs.CosetDivisions.{raised}
 use Rattle.math_shards.proofs.shards.comparing.write_coset.Given as goal

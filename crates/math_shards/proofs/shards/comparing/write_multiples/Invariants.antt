@@ -1,5 +1,5 @@
 use Rattle.std.proofs.Common.{ℕ, ◌<◌, get_or}
-use Rattle.math_base.specs.Elements.{product, same}
+use Rattle.math_fields.specs.Elements.{product, same}
 use Rattle.math_splitting.proofs.SameCells.{nought}
 use Rattle.math_shards.proofs.shards.comparing.write_multiples.Given as goal
 

@@ -1,7 +1,7 @@
 use Rattle.std.proofs.Common.{◌≡◌, ◌∙◌, ◌*◌, ◌≤◌, List, length, take, sym, ap, subst, arith}
 use Rattle.std.proofs.lemmas.List.{length-take-le}
 use Rattle.std.proofs.lemmas.Nat.{mul-le}
-use Rattle.math_base.specs.declared.fields.goldilocks.F.{F}
+use Rattle.math_fields.specs.declared.goldilocks.F.{F}
 use Rattle.math_shards.specs.Fitting.{AreDataOf}
 use Rattle.math_shards.proofs.JoinedRows.{width_of_data}
 use Rattle.math_shards.proofs.ShardRows.{cells_of_recovered, polynomials_of_rows}

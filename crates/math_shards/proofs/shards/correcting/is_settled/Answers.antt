@@ -2,7 +2,7 @@ use Rattle.std.proofs.Common.{◌≡◌, ◌∙◌, take, get_or, not, eqb, true
 use Rattle.std.specs.List.{AllZip, list_all}
 use Rattle.std.proofs.lemmas.Bool.{and_from, eq-eqb, false_from_ne_true, false≢true, ne_eqb, not_from_false, not_from_true, or_from, or_left, or_right}
 use Rattle.std.proofs.lemmas.List.Folds.{list_all_at, list_all_more}
-use Rattle.math_base.specs.Elements.{same}
+use Rattle.math_fields.specs.Elements.{same}
 use Rattle.math_shards.specs.Correcting.{are_same}
 use Rattle.math_shards.proofs.SettledShards.{agrees, are_same-decides}
 use Rattle.math_shards.proofs.shards.correcting.is_settled.Goals as goal

@@ -1,7 +1,7 @@
 use Rattle.std.proofs.Common.{sym, ◌∙◌, arith}
 use Rattle.std.proofs.lemmas.Bool.{eqb-true, not-false}
 use Rattle.math_transforms.proofs.PlaceByPlace.{AllZip-next}
-use Rattle.math_base.specs.Elements.{same}
+use Rattle.math_fields.specs.Elements.{same}
 use Rattle.math_shards.proofs.shards.joining.are_equal.Goals as goal
 
 pub loop-i-preserved : goal.loop-i-preserved

@@ -2,7 +2,7 @@ use Rattle.std.proofs.Common.{◌∙◌, List, map, subst, sym, arith}
 use Rattle.std.specs.List.{All}
 use Rattle.std.proofs.lemmas.Bool.{false≢true}
 use Rattle.std.proofs.lemmas.List.{length-map}
-use Rattle.math_base.specs.declared.fields.goldilocks.F.{F}
+use Rattle.math_fields.specs.declared.goldilocks.F.{F}
 use Rattle.math_transforms.specs.DomainValues.{matrix_of}
 use Rattle.math_shards.specs.Fitting.{AreDataOf, HasValuesOf}
 use Rattle.math_shards.proofs.ChosenRows.{distinct-most}

@@ -1,5 +1,5 @@
 use Rattle.std.specs.List.{AllWithin}
-use Rattle.math_base.specs.Elements.{same}
+use Rattle.math_fields.specs.Elements.{same}
 use Rattle.math_splitting.proofs.SameCells.{nought}
 use Rattle.math_shards.proofs.shards.unpacking.are_zero.Given as goal
 

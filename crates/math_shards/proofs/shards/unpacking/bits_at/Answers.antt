@@ -1,6 +1,6 @@
 use Rattle.std.proofs.Common.{◌≡◌, ◌∙◌, ◌%◌, ◌^◌, get_or, sym, ap, arith}
 use Rattle.std.proofs.lemmas.List.{get_or_past, get_or_read}
-use Rattle.math_base.specs.Elements.{number}
+use Rattle.math_fields.specs.Elements.{number}
 use Rattle.math_splitting.proofs.SameCells.{nought}
 use Rattle.math_shards.proofs.shards.unpacking.bits_at.Goals as goal
 

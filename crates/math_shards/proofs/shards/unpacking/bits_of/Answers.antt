@@ -1,6 +1,6 @@
 use Rattle.std.proofs.Common.{◌∙◌, bit_and, ap}
 use Rattle.std.proofs.lemmas.Nat.{and_mask}
-use Rattle.math_base.specs.Elements.{number}
+use Rattle.math_fields.specs.Elements.{number}
 use Rattle.math_shards.proofs.shards.unpacking.bits_of.Goals as goal
 
 pub returns : goal.returns

@@ -1,5 +1,5 @@
 use Rattle.std.proofs.Common.{◌≡◌, ℕ, ◌+◌, ◌-◌, ◌<◌, ◌≤◌, get_or, length}
-use Rattle.math_base.specs.Packing.{words_of}
+use Rattle.math_fields.specs.Packing.{words_of}
 use Rattle.math_shards.proofs.shards.unpacking.write_unpacked.Given as goal
 
 -- the words so far

@@ -1,6 +1,6 @@
 use Rattle.std.proofs.Common.{◌≡◌, ◌∙◌, ◌+◌, ◌-◌, ◌*◌, length, take, drop, refl, ap, arith}
 use Rattle.math_theory.specs.Sums.{weighted_sum}
-use Rattle.math_base.specs.Elements.{product, sum}
+use Rattle.math_fields.specs.Elements.{product, sum}
 use Rattle.math_shards.specs.Weights.{weighed_at}
 use Rattle.math_shards.proofs.PutCoefficients.{column-more}
 use Rattle.math_splitting.proofs.SameCells.{nought}

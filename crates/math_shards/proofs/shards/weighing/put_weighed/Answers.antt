@@ -1,5 +1,5 @@
 use Rattle.std.proofs.Common.{◌≡◌, ◌∙◌, ◌*◌, List, length, sym, ap, subst, arith}
-use Rattle.math_base.specs.declared.fields.goldilocks.F.{F}
+use Rattle.math_fields.specs.declared.goldilocks.F.{F}
 use Rattle.math_shards.specs.Weights.{AreCoefficients}
 use Rattle.math_shards.proofs.PutCoefficients.{written-back}
 use Rattle.math_shards.proofs.WeighedRows.{values_of_weighed}

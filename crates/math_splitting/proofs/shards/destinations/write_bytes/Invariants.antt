@@ -1,5 +1,5 @@
 use Rattle.std.proofs.Common.{◌*◌, map}
-use Rattle.math_base.specs.Elements.{number}
+use Rattle.math_fields.specs.Elements.{number}
 use Rattle.math_splitting.proofs.SpelledWords.{AreWritten}
 use Rattle.math_splitting.proofs.shards.destinations.write_bytes.Given as goal
 

@@ -1,8 +1,8 @@
 use Rattle.std.proofs.Common.{◌≡◌, ◌∙◌, ◌*◌, ◌%◌, ap, add-one, arith}
 use Rattle.math_numbers.specs.Goldilocks.{P}
 use Rattle.math_theory.specs.Powers.{power, power-suc, power-zero}
-use Rattle.math_base.specs.Elements.{number, product, residue}
-use Rattle.math_base.proofs.ElementNumbers.{same_number}
+use Rattle.math_fields.specs.Elements.{number, product, residue}
+use Rattle.math_fields.proofs.ElementNumbers.{same_number}
 use Rattle.math_transforms.proofs.WrittenRows.{written-done}
 use Rattle.math_splitting.proofs.SameCells.{nought}
 use Rattle.math_splitting.proofs.shards.few_points.write_powers.Goals as goal

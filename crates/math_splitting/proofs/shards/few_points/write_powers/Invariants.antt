@@ -1,6 +1,6 @@
 use Rattle.std.proofs.Common.{◌≡◌, ◌<◌, ℕ, get_or}
 use Rattle.math_theory.specs.Powers.{power}
-use Rattle.math_base.specs.Elements.{product, residue}
+use Rattle.math_fields.specs.Elements.{product, residue}
 use Rattle.math_splitting.proofs.SameCells.{nought}
 use Rattle.math_splitting.proofs.shards.few_points.write_powers.Given as goal
 

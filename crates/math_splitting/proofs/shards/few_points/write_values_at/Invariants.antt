@@ -1,6 +1,6 @@
 use Rattle.std.proofs.Common.{◌≡◌, ◌<◌, ℕ, get_or, length}
 use Rattle.math_theory.specs.Sums.{weighted_sum}
-use Rattle.math_base.specs.Elements.{product, sum}
+use Rattle.math_fields.specs.Elements.{product, sum}
 use Rattle.math_transforms.specs.DomainValues.{matrix_of}
 use Rattle.math_transforms.specs.Matrices.{column_of}
 use Rattle.math_splitting.proofs.SameCells.{nought}

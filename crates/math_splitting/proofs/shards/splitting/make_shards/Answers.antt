@@ -1,7 +1,7 @@
 use Rattle.std.proofs.Common.{◌≡◌, ◌∙◌, ◌*◌, ◌++◌, List, length, take, drop, ap, subst, arith}
 use Rattle.std.proofs.lemmas.List.{length-map}
-use Rattle.math_base.specs.declared.fields.goldilocks.F.{F}
-use Rattle.math_base.specs.Elements.{number}
+use Rattle.math_fields.specs.declared.goldilocks.F.{F}
+use Rattle.math_fields.specs.Elements.{number}
 use Rattle.math_base.proofs.WholeWrites.{take-written}
 use Rattle.math_splitting.specs.DataWords.{words_in}
 use Rattle.math_splitting.specs.ShardRows.{AreCut, indices_in}

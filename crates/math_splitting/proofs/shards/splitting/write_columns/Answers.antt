@@ -1,5 +1,5 @@
 use Rattle.std.proofs.Common.{◌≡◌, ◌∙◌, ℕ, ◌+◌, ◌*◌, ◌<◌, ◌≤◌, List, drop, get_or, length, take, refl, ap, arith}
-use Rattle.math_base.specs.declared.fields.goldilocks.F.{F}
+use Rattle.math_fields.specs.declared.goldilocks.F.{F}
 use Rattle.math_transforms.proofs.WrittenCells.{row-within}
 use Rattle.math_splitting.specs.ShardRows.{indices_in, strip_element}
 use Rattle.math_splitting.specs.Strips.{place_of}

@@ -1,7 +1,7 @@
 use Rattle.std.proofs.Common.{◌≡◌, ◌∙◌, ◌*◌, [], length, refl, ap, subst, arith}
 use Rattle.std.specs.Global.{Vec}
 use Rattle.std.specs.Ptr.{as_ptr}
-use Rattle.math_base.specs.declared.fields.goldilocks.F.{F}
+use Rattle.math_fields.specs.declared.goldilocks.F.{F}
 use Rattle.math_splitting.specs.DataWords.{words_in}
 use Rattle.math_splitting.specs.Shards.{width_for}
 use Rattle.math_splitting.specs.ShardRows.{HaveColumns, indices_in}

@@ -1,5 +1,5 @@
 use Rattle.std.proofs.Common.{ℕ, ◌+◌, ◌-◌, ◌<◌, ◌≤◌, get_or, length}
-use Rattle.math_base.specs.Elements.{same}
+use Rattle.math_fields.specs.Elements.{same}
 use Rattle.math_splitting.specs.DataWords.{words_in}
 use Rattle.math_splitting.specs.Strips.{packed_at}
 use Rattle.math_splitting.proofs.SameCells.{nought}

@@ -1,6 +1,6 @@
 use Rattle.std.proofs.Common.{◌≡◌, ◌∙◌, ℕ, ◌+◌, ◌-◌, ◌<◌, length, length-append, map, take, drop, get_or, refl, ap, ap₂, arith}
 use Rattle.std.proofs.lemmas.List.{get_or_append_left, get_or-take, length-drop, length-take-le, take-map}
-use Rattle.math_base.specs.Elements.{number}
+use Rattle.math_fields.specs.Elements.{number}
 use Rattle.math_splitting.specs.Strips.{piece_of}
 use Rattle.math_splitting.proofs.SameCells.{nought}
 use Rattle.math_splitting.proofs.SourceWords.{part-mapped}

@@ -2,11 +2,11 @@ use Rattle.std.proofs.Common.{◌+◌, ◌*◌, not, eqb, arith}
 use Rattle.std.proofs.lemmas.List.{get_or_default}
 use Rattle.math_base.proofs.Members.{ring_members}
 use Rattle.math_transforms.proofs.TurnedCells.{turned-of}
-use Rattle.math_transforms.proofs.TurnedColumns.{turned-none, turned-more}
+use Rattle.math_transforms.proofs.TurnedColumns.{turned-more}
 use Rattle.math_transforms.proofs.below.quarters.turn_columns.Goals as goal
 
 pub loop-p-init : goal.loop-p-init
-loop-p-init g c = turned-none _ _ _ _ _ _ _
+loop-p-init g c = c.in_ok-done.ensures.turned
 
 pub loop-p-preserved : goal.loop-p-preserved
 loop-p-preserved g c =
@@ -38,3 +38,6 @@ turn_by_products-requires g c =
 
 pub returns-clause-turned : goal.returns-clause-turned
 returns-clause-turned g c = record { turned = λ p l. c.loop-p.invariant.turned p (omega arith) }
+
+pub returns-then-done-cols-clause-turned : goal.returns-then-done-cols-clause-turned
+returns-then-done-cols-clause-turned g c = record { turned = λ p l. c.in_ok-done.ensures.turned.turned p (omega (arith, l, c.if-done-cols.true)) }

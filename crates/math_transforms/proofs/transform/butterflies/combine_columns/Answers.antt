@@ -1,12 +1,12 @@
 use Rattle.std.proofs.Common.{◌+◌, not, eqb, arith}
 use Rattle.std.proofs.lemmas.List.{get_or_default}
 use Rattle.math_base.proofs.Members.{ring_members}
-use Rattle.math_transforms.proofs.CombinedPairs.{combined-none, combined-more}
+use Rattle.math_transforms.proofs.CombinedPairs.{combined-more}
 use Rattle.math_transforms.proofs.TurnedCells.{combined-of}
 use Rattle.math_transforms.proofs.transform.butterflies.combine_columns.Goals as goal
 
 pub loop-p-init : goal.loop-p-init
-loop-p-init g c = combined-none _ _ _ _ _
+loop-p-init g c = c.in_ok-done.ensures.combined
 
 pub loop-p-preserved : goal.loop-p-preserved
 loop-p-preserved g c =

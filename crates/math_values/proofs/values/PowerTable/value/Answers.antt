@@ -1,6 +1,6 @@
 use Rattle.std.proofs.Common.{◌∙◌, ap}
 use Rattle.math_base.specs.Polynomials.{value_in_ring}
-use Rattle.math_base.specs.Elements.{goldilocks}
+use Rattle.math_fields.specs.Elements.{goldilocks}
 use Rattle.math_values.proofs.BlockValues.{residues-of-numbers}
 use Rattle.math_values.proofs.values.PowerTable.value.Goals as goal
 

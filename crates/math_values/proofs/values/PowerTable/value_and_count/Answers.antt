@@ -1,10 +1,10 @@
 use Rattle.std.proofs.Common.{◌≡◌, ◌∙◌, ◌+◌, ◌-◌, length, map, drop, refl, ap, ap₂, arith}
 use Rattle.std.proofs.lemmas.List.{length-map, length-drop, length-take-le, take_all}
 use Rattle.math_theory.specs.Powers.{power-zero}
-use Rattle.math_base.specs.declared.fields.goldilocks.F.{F}
-use Rattle.math_base.specs.Elements.{residue, sum, product, goldilocks}
+use Rattle.math_fields.specs.declared.goldilocks.F.{F}
+use Rattle.math_fields.specs.Elements.{residue, sum, product, goldilocks}
 use Rattle.math_base.specs.Polynomials.{value_in_ring}
-use Rattle.math_base.proofs.ElementNumbers.{same_number}
+use Rattle.math_fields.proofs.ElementNumbers.{same_number}
 use Rattle.math_values.proofs.BlockValues.{none-counted, counted-block, whole-counted, map-block, value-block, power-block}
 use Rattle.math_values.proofs.values.PowerTable.value_and_count.Goals as goal
 

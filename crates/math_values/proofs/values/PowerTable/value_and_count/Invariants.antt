@@ -1,5 +1,5 @@
 use Rattle.std.proofs.Common.{◌≡◌, ◌≤◌, ◌-◌, eqb, not, IsTrue, length, map, take}
-use Rattle.math_base.specs.Elements.{residue, goldilocks}
+use Rattle.math_fields.specs.Elements.{residue, goldilocks}
 use Rattle.math_base.specs.Polynomials.{value_in_ring}
 use Rattle.math_values.proofs.BlockValues.{power_of, AreCounted}
 use Rattle.math_values.proofs.values.PowerTable.value_and_count.Given as goal

@@ -1,5 +1,5 @@
 use Rattle.std.proofs.Common.{rules, ◌∙◌, ap, sym, List}
-use Rattle.math_base.specs.declared.fields.goldilocks.F.{F}
+use Rattle.math_fields.specs.declared.goldilocks.F.{F}
 use Rattle.shard_format.specs.Headers.{scan_fingerprints}
 use Rattle.shard_format.specs.HeaderLaws.{header_scanned}
 use Rattle.shard_format.proofs.header.HeaderRead.read_cfg.Goals as goal

@@ -1,5 +1,6 @@
 use Rattle.std.proofs.Common.{◌≡◌, ◌+◌, ◌*◌, get_or, length, subst, sym, arith}
-use Rattle.systematic_shards.specs.Words.{AreWritten, IsWithin}
+use Rattle.row_interpolation.specs.Written.{AreWritten}
+use Rattle.systematic_shards.specs.Words.{IsWithin}
 use Rattle.systematic_shards.proofs.Written.{next-written}
 use Rattle.systematic_shards.proofs.memory.U64WordMemory.write_run.Goals as goal
 

@@ -1,5 +1,5 @@
 use Rattle.std.proofs.Common.{◌+◌, get_or}
-use Rattle.systematic_shards.specs.Words.{AreWritten}
+use Rattle.row_interpolation.specs.Written.{AreWritten}
 use Rattle.systematic_shards.proofs.memory.U64WordMemory.write_run.Given as goal
 
 -- the words so far

@@ -10,6 +10,6 @@ returns-then-end-words c = λ k l.
     let from = c.args.from in
     let n = from + length c.args.out.now - from in
     let inside : from + k < length cells / 8 = omega (arith, l, c.if-end-words.true, c.as_chunks.ensures.front_len) in
-    c.read_whole.ensures k l
+    c.read_whole_words.ensures k l
     ∙ word-chunk cells (get_or (take n (drop from words)) k []) (from + k)
     (part-read [] words from n k (omega (arith, l)) ∙ ap (λ ws. get_or ws (from + k) []) c.as_chunks.ensures.front ∙ chunk-at 8 (length cells / 8) cells (from + k) [] inside)

@@ -1,13 +1,11 @@
-use Rattle.std.proofs.Common.{◌≡◌, ◌∙◌, ℕ, ◌+◌, ◌*◌, ◌/◌, ◌^◌, ◌++◌, ◌⊎◌, IsTrue, length, take, drop, ap, sym, subst}
-use Rattle.math_theory.specs.Recovery.{count_true}
+use Rattle.std.proofs.Common.{◌≡◌, ◌∙◌, ℕ, ◌^◌, ◌++◌, length, take, drop, ap, sym, subst}
 use Rattle.math_base.proofs.WholeWrites.{take-written}
 use Rattle.math_base.proofs.Members.{ring_members}
 use Rattle.math_transforms.specs.DomainValues.{matrix_of}
 use Rattle.math_transforms.specs.Matrices.{MatrixOf}
-use Rattle.math_transforms.specs.MissingPoints.{count_false}
-use Rattle.math_ntt.specs.AddedWork.{AddsUpTo}
+use Rattle.math_ntt.specs.AddedWork.{AddsAtMostOneRecovery}
 use Rattle.math_ntt.specs.Evaluations.{EvaluationsOf}
-use Rattle.math_ntt.specs.RecoveredRows.{AreOnlyRecovered, IsExactWork, IsLateWork, IsRefusedWork}
+use Rattle.math_ntt.specs.RecoveredRows.{AreOnlyRecovered, IsExactWork, IsRefusal}
 use Rattle.math_ntt.proofs.AddedWork.{on-err, within-half}
 use Rattle.math_ntt.proofs.RecoveredWholes.{evaluations, at_any, only-recovered}
 use Rattle.math_ntt.proofs.ntt.evaluations.EvaluationVector.recover_counted.Given as given
@@ -27,9 +25,9 @@ module _ (g : given.Over) (c : After-recovered_cells g) where
       (at_any P c.matrix.inside.rows c.matrix.inside.cols c.lg_of-lg.result c.matrix.inside.cells.items c.self.inside.filled c.lg_of-lg.ensures.value h)
 
   most : (m : ℕ) → c.args.self.matrix.rows ≡ 2 ^ m
-      → AddsUpTo (c.args.self.matrix.rows * m * (3 * m + 3 * c.args.self.matrix.cols + 2) / 2) (128 * c.args.self.matrix.rows) c.args.work.now c.recovered_cells.new.work
+      → AddsAtMostOneRecovery c.args.self.matrix.rows m c.args.self.matrix.cols c.args.work.now c.recovered_cells.new.work
   most =
-      at_its_lg (λ m e. AddsUpTo (e.matrix.rows * m * (3 * m + 3 * e.matrix.cols + 2) / 2) (128 * e.matrix.rows) c.args.work.now c.recovered_cells.new.work)
+      at_its_lg (λ m e. AddsAtMostOneRecovery e.matrix.rows m e.matrix.cols c.args.work.now c.recovered_cells.new.work)
       (within-half _ _ _ _ c.recovered_cells.ensures.most)
 
 pub returns-in_err-recovered_cells-clause-most : goal.returns-in_err-recovered_cells-clause-most
@@ -45,18 +43,8 @@ returns-clause-exact g c =
 
 pub returns-in_err-recovered_cells-clause-refused : goal.returns-in_err-recovered_cells-clause-refused
 returns-in_err-recovered_cells-clause-refused g c = on-err c.from_residual.result (
-    at_its_lg g (goal.at.returns-in_err-recovered_cells-clause-refused g c).After-recovered_cells (λ m e. IsRefusedWork m e c.args.work.now c.recovered_cells.new.work)
-    (rw c.deref_mut.ensures.value at c.in_err-recovered_cells.ensures.refused.refused))
-
-pub returns-in_err-recovered_cells-clause-late : goal.returns-in_err-recovered_cells-clause-late
-returns-in_err-recovered_cells-clause-late g c = λ never. on-err c.from_residual.result (
-    at_its_lg g (goal.at.returns-in_err-recovered_cells-clause-late g c).After-recovered_cells (λ m e. IsLateWork m e c.args.work.now c.recovered_cells.new.work)
-    (c.in_err-recovered_cells.ensures.refused.late never))
-
-pub returns-in_err-recovered_cells-clause-unbegun : goal.returns-in_err-recovered_cells-clause-unbegun
-returns-in_err-recovered_cells-clause-unbegun g c never h = on-err c.from_residual.result
-    (subst (λ (e : EvaluationsOf g.row.F.Denot). IsTrue g.F.Object.NEVER_REFUSES → (count_true e.filled ≡ 0) ⊎ (count_false e.filled ≡ 0) → c.recovered_cells.new.work ≡ c.args.work.now)
-    c.self.view_is c.in_err-recovered_cells.ensures.refused.unbegun never h)
+    at_its_lg g (goal.at.returns-in_err-recovered_cells-clause-refused g c).After-recovered_cells (λ m e. IsRefusal g.F.Object.NEVER_REFUSES m e c.args.work.now c.recovered_cells.new.work)
+    (rw c.deref_mut.ensures.value at c.in_err-recovered_cells.ensures.refused))
 
 pub returns-clause-only : goal.returns-clause-only
 returns-clause-only g c =

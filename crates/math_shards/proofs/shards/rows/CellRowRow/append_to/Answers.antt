@@ -1,7 +1,7 @@
 use Rattle.std.proofs.Common.{◌∙◌, ◌%◌, ◌++◌, map, ap, arith}
 use Rattle.std.proofs.lemmas.List.{length-map, take_all}
 use Rattle.math_numbers.specs.Goldilocks.{P}
-use Rattle.math_base.specs.Elements.{residue}
+use Rattle.math_fields.specs.Elements.{residue}
 use Rattle.math_shards.proofs.RowWords.{number_at, words-more}
 use Rattle.math_shards.proofs.shards.rows.CellRowRow.append_to.Goals as goal
 

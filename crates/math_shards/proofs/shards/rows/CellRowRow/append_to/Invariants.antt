@@ -1,5 +1,5 @@
 use Rattle.std.proofs.Common.{◌≡◌, ◌++◌, map, take}
-use Rattle.math_base.specs.Elements.{residue}
+use Rattle.math_fields.specs.Elements.{residue}
 use Rattle.math_shards.proofs.shards.rows.CellRowRow.append_to.Given as goal
 
 -- behind the items stand the elements of the cells so far

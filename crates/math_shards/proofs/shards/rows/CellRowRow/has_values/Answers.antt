@@ -4,8 +4,8 @@ use Rattle.std.specs.List.{AllZip}
 use Rattle.std.proofs.lemmas.Bool.{eq-eqb, eqb-true}
 use Rattle.std.proofs.lemmas.List.{length-drop, length-map, take_all}
 use Rattle.math_numbers.specs.Goldilocks.{P}
-use Rattle.math_base.specs.declared.fields.goldilocks.F.{F}
-use Rattle.math_base.specs.Elements.{residue, same}
+use Rattle.math_fields.specs.declared.goldilocks.F.{F}
+use Rattle.math_fields.specs.Elements.{residue, same}
 use Rattle.math_shards.proofs.RowWords.{element_at, equal-more, number_in}
 use Rattle.math_shards.proofs.shards.rows.CellRowRow.has_values.Goals as goal
 

@@ -1,7 +1,7 @@
 use Rattle.std.proofs.Common.{◌↔◌, drop, map, take}
 use Rattle.std.specs.Bool.{IsTrue}
 use Rattle.std.specs.List.{AllZip}
-use Rattle.math_base.specs.Elements.{residue, same}
+use Rattle.math_fields.specs.Elements.{residue, same}
 use Rattle.math_shards.proofs.shards.rows.CellRowRow.has_values.Given as goal
 
 -- all were equal so far exactly where the values so far are the elements of the cells

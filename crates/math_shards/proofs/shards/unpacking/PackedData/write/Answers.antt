@@ -1,5 +1,5 @@
 use Rattle.std.proofs.Common.{◌∙◌, ◌+◌, List, ap, drop, subst, take, arith}
-use Rattle.math_base.specs.declared.fields.goldilocks.F.{F}
+use Rattle.math_fields.specs.declared.goldilocks.F.{F}
 use Rattle.math_shards.specs.Unpacking.{AreUnpacked}
 use Rattle.math_shards.proofs.UnpackedWords.{written_data}
 use Rattle.math_shards.proofs.shards.unpacking.PackedData.write.Goals as goal

@@ -1,8 +1,8 @@
 use Rattle.std.proofs.Common.{◌≡◌, ◌∙◌, ◌+◌, ◌-◌, ◌≤◌, ◌++◌, List, ℕ, drop, length, map, take, append_assoc, ap, ap₂, sym, arith}
 use Rattle.std.proofs.lemmas.List.{drop-drop, drop-map, length-map, map-append, take-map, take-append-drop}
 use Rattle.std.proofs.lemmas.Slice.{take-put_mid, drop-put_mid}
-use Rattle.math_base.specs.declared.fields.goldilocks.F.{F}
-use Rattle.math_base.specs.Elements.{number}
+use Rattle.math_fields.specs.declared.goldilocks.F.{F}
+use Rattle.math_fields.specs.Elements.{number}
 use Rattle.math_splitting.proofs.shards.destinations.FRoom.write.Goals as goal
 use borrow.Rule.Slice.PartMut.{put_mid}
 

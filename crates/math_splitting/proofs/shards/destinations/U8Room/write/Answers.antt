@@ -1,6 +1,6 @@
 use Rattle.std.proofs.Common.{◌≡◌, ◌∙◌, ◌++◌, drop, length, map, take, ap, arith}
 use Rattle.std.proofs.lemmas.List.{length-map}
-use Rattle.math_base.specs.Elements.{number}
+use Rattle.math_fields.specs.Elements.{number}
 use Rattle.math_splitting.specs.DataWords.{bytes_behind, spelled_words}
 use Rattle.math_splitting.proofs.SpelledWords.{behind-written, length-spelled, numbers_fit, spelled-written}
 use Rattle.math_splitting.proofs.shards.destinations.U8Room.write.Goals as goal

@@ -1,0 +1,9 @@
+pub mod Collisions
+pub mod Levels
+pub mod BoundPaths
+pub mod Enough
+pub mod BoundRoots
+pub mod Steps
+pub mod BoundRecords
+pub mod KeptLevels
+pub mod FileMessages

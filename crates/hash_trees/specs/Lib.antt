@@ -1,0 +1,4 @@
+pub mod Trees
+pub mod TreeLevels
+pub mod Binding
+pub mod Files

@@ -1,0 +1,33 @@
+//! The digests of leaves and nodes.
+
+ghost use Rattle.std.specs.Prelude.{◌≡◌};
+ghost use Rattle.hash_trees.specs.Trees.{leaf_message, node_message};
+ghost use Rattle.sha2.specs.Sha512.{sha512_256};
+
+use sha2::{Digest, Sha512_256};
+
+/// Returns the digest of the leaf of a record: that of a byte of 0 and the bytes of the record.
+///
+/// ```
+/// use hash_trees::leaf_digest;
+/// &leaf_digest(b"one")[..8]; // [90, 152, 82, 99, 73, 169, 130, 100]
+/// ```
+pub fn leaf_digest(content: &[u8]) -> [u8; 32]
+    ensures { result ≡ sha512_256 (leaf_message content.now) }
+{
+    let mut hasher = Sha512_256::new();
+    hasher.update(&[0u8]);
+    hasher.update(content);
+    hasher.finalize()
+}
+
+/// The digest of a node from those of the two below it.
+pub(crate) fn node_digest(left: &[u8; 32], right: &[u8; 32]) -> [u8; 32]
+    ensures { result ≡ sha512_256 (node_message left.now right.now) }
+{
+    let mut hasher = Sha512_256::new();
+    hasher.update(&[1u8]);
+    hasher.update(left);
+    hasher.update(right);
+    hasher.finalize()
+}

@@ -1,6 +1,0 @@
-use Rattle.std.proofs.Common.{◌≡◌}
-use Rattle.math_base.specs.Roots.{squared, greatest_root}
-use Rattle.math_base.proofs.fields.goldilocks.F.root_of_unity.Given as goal
-
-abbrev pub invariant-loop-done : goal.invariant-loop-done
-invariant-loop-done l = l.out.value ≡ squared l._done greatest_root

@@ -1,5 +1,0 @@
-use Rattle.math_numbers.specs.Bits.{bits-zero}
-use Rattle.math_base.proofs.fields.goldilocks.packing.WaitingBits.none.Goals as goal
-
-pub returns-clause-bits : goal.returns-clause-bits
-returns-clause-bits c = bits-zero 0

@@ -1,3 +1,0 @@
-//! Fields.
-
-pub mod goldilocks;

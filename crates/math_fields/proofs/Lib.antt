@@ -1,0 +1,10 @@
+pub mod PowerSteps
+pub mod ElementNumbers
+pub mod SampleSteps
+pub mod BitFronts
+pub mod Packing
+pub mod Repacking
+pub mod ElementRing
+pub mod TurnedElements
+pub mod EightColumns
+pub mod SixteenCells

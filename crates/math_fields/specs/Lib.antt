@@ -1,0 +1,9 @@
+pub mod Roots
+pub mod Elements
+pub mod Lanes
+pub mod ElementLaws
+pub mod ElementRootLaws
+pub mod ElementEncoding
+pub mod ElementEncodingLaws
+pub mod Repacking
+pub mod Packing

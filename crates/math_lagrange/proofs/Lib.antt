@@ -1,0 +1,2 @@
+pub mod RootWeightSteps
+pub mod RootWeightCases

@@ -1,0 +1,2 @@
+pub mod WordReductions
+pub mod LaneLists

@@ -1,7 +1,0 @@
-use Rattle.std.proofs.Common.{◌+◌, get_or}
-use Rattle.systematic_shards.specs.Words.{AreWritten, word_of_bytes}
-use Rattle.systematic_shards.proofs.memory.spell_each.Given as goal
-
--- the words so far
-abbrev pub invariant-loop-k : goal.invariant-loop-k
-invariant-loop-k l = AreWritten (λ j. l.at + j) (λ j. get_or l.words j 0) l.k (word_of_bytes l.initial.cells) (word_of_bytes l.cells)

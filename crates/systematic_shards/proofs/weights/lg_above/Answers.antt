@@ -1,6 +1,0 @@
-use Rattle.std.proofs.Common.{arith}
-use Rattle.math_transforms.proofs.PresentIndices.{lg-of_total}
-use Rattle.systematic_shards.proofs.weights.lg_above.Goals as goal
-
-pub returns-clause-value : goal.returns-clause-value
-returns-clause-value c = lg-of_total c.args.count (omega (arith, c.requires)) c.ranges.count.fits
