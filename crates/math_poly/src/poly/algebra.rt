@@ -17,6 +17,7 @@ impl<K: Drop> Poly<K> {
     /// Makes the polynomial of f's answers at the coefficients, each in its place.
     ///
     /// ```
+    /// use commonware_math::algebra::Mem;
     /// let p = Poly::from_coefficients(vec![in alloc; F::from(4), F::from(6)]?);
     /// p.translate(alloc, |c: &F| -> Mem<F> { Ok(*c + F::from(1)) })?; // Poly(5 + 7 X^1)
     /// ```
