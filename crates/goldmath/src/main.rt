@@ -3,6 +3,9 @@
 
 use std::process::ExitCode;
 
+/// The level of processor that the program is built for. `.ci/build` names it here.
+const LEVEL: &str = "x86-64-v2";
+
 fn main(rt: HostRuntime) -> ExitCode {
-    goldmath_commands::run(&rt)
+    goldmath_commands::run(&rt, LEVEL)
 }

@@ -24,8 +24,8 @@ use std::process::ExitCode;
 use std::{env, io};
 use text::fault_line;
 
-/// What `--version` prints: the version of the repository.
-const VERSION: &str = "goldmath 1.0.0\n";
+/// The version of the repository.
+const VERSION: &str = "goldmath 1.0.0";
 
 /// What `--help` prints.
 const HELP: &str = "\
@@ -43,13 +43,22 @@ goldmath: values of encoded polynomials, and recovery of missing rows
 Status: 0 done, 1 refused, 2 usage error.
 ";
 
-/// What is printed of the program itself, where the words ask for that. They are no words of `run`.
-fn about(words: &[String]) -> Option<&'static str>
+/// What is asked of the program itself.
+#[derive(Clone, Copy)]
+enum About {
+    /// How to use it.
+    Help,
+    /// Its version, and the level of processor that it is built for.
+    Version,
+}
+
+/// What the words ask of the program itself. They are then no words of `engine::run`.
+fn about(words: &[String]) -> Option<About>
     ensures { IfSome result (λ _. AreWrongWords (map string_bytes words.now)) }
 {
     match words {
-        [word] if word.as_str() == "--help" => Some(HELP),
-        [word] if word.as_str() == "--version" => Some(VERSION),
+        [word] if word.as_str() == "--help" => Some(About::Help),
+        [word] if word.as_str() == "--version" => Some(About::Version),
         _ => None,
     }
 }
@@ -80,12 +89,21 @@ fn fail(rt: &HostRuntime, line: &[u8], status: u8) -> ExitCode {
     ExitCode::from(status)
 }
 
-/// Writes the answer, and gives the status: 1 where it could not be written.
-fn answer_with(rt: &HostRuntime, bytes: &[u8]) -> ExitCode {
-    match write_answer(rt, bytes) {
+/// The status: 1 where the answer could not be written, which is said.
+fn status_of(rt: &HostRuntime, written: io::Result<()>) -> ExitCode {
+    match written {
         Ok(()) => ExitCode::SUCCESS,
         Err(_) => fail(rt, b"refused: write failed\n", 1),
     }
+}
+
+/// Prints what is asked of the program itself, and gives the status.
+fn print_about(rt: &HostRuntime, about: About, level: &str) -> ExitCode {
+    let written = match about {
+        About::Help => print!(rt; "{HELP}"),
+        About::Version => println!(rt; "{VERSION} ({level})"),
+    };
+    status_of(rt, written)
 }
 
 /// Says why there is no answer, and gives the status: 2 for a usage error, 1 otherwise.
@@ -114,20 +132,22 @@ fn refuse_input(rt: &HostRuntime, error: &io::Error) -> ExitCode {
 }
 
 /// Does what the words after the program's name ask for, and gives what the program ends with.
-pub fn run(rt: &HostRuntime) -> ExitCode {
+///
+/// `level` is the level of processor that the program is built for, which `--version` prints.
+pub fn run(rt: &HostRuntime, level: &str) -> ExitCode {
     let words = match words_given(rt) {
         Ok(words) => words,
         Err(error) => return refuse_input(rt, &error),
     };
-    if let Some(text) = about(words.as_slice()) {
-        return answer_with(rt, text.as_bytes());
+    if let Some(about) = about(words.as_slice()) {
+        return print_about(rt, about, level);
     }
     let bytes = match input(rt) {
         Ok(bytes) => bytes,
         Err(error) => return refuse_input(rt, &error),
     };
     match engine::run(rt.alloc(), words.as_slice(), bytes.as_slice()) {
-        Ok(answer) => answer_with(rt, answer.as_slice()),
+        Ok(answer) => status_of(rt, write_answer(rt, answer.as_slice())),
         Err(fault) => refuse(rt, &fault),
     }
 }

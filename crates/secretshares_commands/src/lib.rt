@@ -22,7 +22,7 @@ use std::process::ExitCode;
 use std::{env, io};
 
 /// The version of the repository.
-const VERSION: &str = "secretshares 1.0.0\n";
+const VERSION: &str = "secretshares 1.0.0";
 
 /// What `--help` prints.
 const HELP: &str = "\
@@ -137,8 +137,14 @@ fn words_given(rt: &HostRuntime) -> Result<Vec<String>, Fault> {
     }
 }
 
+/// Prints the version, and the level of processor that the program is built for.
+fn print_version(rt: &HostRuntime, level: &str) -> Result<(), Fault> {
+    println!(rt; "{VERSION} ({level})")?;
+    Ok(())
+}
+
 /// Does what the words ask for.
-fn run_words(rt: &HostRuntime) -> Result<(), Fault> {
+fn run_words(rt: &HostRuntime, level: &str) -> Result<(), Fault> {
     let words = words_given(rt)?;
     let Some((command, rest)) = words.split_first() else {
         return Err(Fault::Usage(WrongWord::NoCommand));
@@ -146,7 +152,7 @@ fn run_words(rt: &HostRuntime) -> Result<(), Fault> {
     let asks_for_help = matches!(rest, [word] if word.as_str() == "--help");
     match command.as_str() {
         "--help" if rest.is_empty() => print(rt, HELP.as_bytes()),
-        "--version" if rest.is_empty() => print(rt, VERSION.as_bytes()),
+        "--version" if rest.is_empty() => print_version(rt, level),
         "deal" | "combine" if asks_for_help => print(rt, HELP.as_bytes()),
         "deal" => deal(rt, rest),
         "combine" => combine(rt, rest),
@@ -157,8 +163,10 @@ fn run_words(rt: &HostRuntime) -> Result<(), Fault> {
 }
 
 /// Does what the words after the program's name ask for, and gives what the program ends with.
-pub fn run(rt: &HostRuntime) -> ExitCode {
-    match run_words(rt) {
+///
+/// `level` is the level of processor that the program is built for, which `--version` prints.
+pub fn run(rt: &HostRuntime, level: &str) -> ExitCode {
+    match run_words(rt, level) {
         Ok(()) => ExitCode::SUCCESS,
         Err(fault) => {
             let _told = eprintln!(rt; "{fault}");

@@ -30,7 +30,7 @@ use std::io::ErrorKind;
 use std::process::ExitCode;
 
 /// The version of the repository.
-const VERSION: &str = "shardfile 1.0.0\n";
+const VERSION: &str = "shardfile 1.0.0";
 
 /// What `--help` prints.
 const HELP: &str = "\
@@ -67,6 +67,12 @@ fn print(rt: &HostRuntime, text: &str) -> Result<(), Refusal> {
     Ok(())
 }
 
+/// Prints the version, and the level of processor that the program is built for.
+fn print_version(rt: &HostRuntime, level: &str) -> Result<(), Refusal> {
+    println!(rt; "{VERSION} ({level})")?;
+    Ok(())
+}
+
 /// The words after the program's name. It refuses one that is no text.
 fn words_given(rt: &HostRuntime) -> Result<Vec<String>, Refusal> {
     match env::args(rt) {
@@ -86,14 +92,14 @@ fn command_given(rt: &HostRuntime) -> Option<Command> {
 }
 
 /// Does what the words ask for, of which the first names this command, or none.
-fn run_words(rt: &HostRuntime, command: Option<Command>) -> Result<(), Refusal> {
+fn run_words(rt: &HostRuntime, command: Option<Command>, level: &str) -> Result<(), Refusal> {
     let words = words_given(rt)?;
     let Some((first, rest)) = words.split_first() else {
         return Err(Refusal::Usage(WrongWord::NoCommand));
     };
     match command {
         Some(command) => run_command(rt, command, rest),
-        None => answer(rt, first.as_str(), rest),
+        None => answer(rt, first.as_str(), rest, level),
     }
 }
 
@@ -113,10 +119,10 @@ fn run_command(rt: &HostRuntime, command: Command, words: &[String]) -> Result<(
 }
 
 /// Answers a first word that is no command: it asks what the program is, or how it is used.
-fn answer(rt: &HostRuntime, word: &str, rest: &[String]) -> Result<(), Refusal> {
+fn answer(rt: &HostRuntime, word: &str, rest: &[String], level: &str) -> Result<(), Refusal> {
     match (word, rest) {
         ("help" | "--help" | "-h", []) => print(rt, HELP),
-        ("--version" | "-V", []) => print(rt, VERSION),
+        ("--version" | "-V", []) => print_version(rt, level),
         ("help", [name]) => explain(rt, name.as_str()),
         ("help" | "--help" | "-h" | "--version" | "-V", _) => {
             Err(Refusal::Usage(WrongWord::NoMore(owned(rt.alloc(), word)?)))
@@ -153,9 +159,11 @@ fn refuse(rt: &HostRuntime, refusal: &Refusal, command: Option<Command>) -> Stat
 }
 
 /// Does what the words after the program's name ask for, and gives what the program ends with.
-pub fn run(rt: &HostRuntime) -> ExitCode {
+///
+/// `level` is the level of processor that the program is built for, which `--version` prints.
+pub fn run(rt: &HostRuntime, level: &str) -> ExitCode {
     let command = command_given(rt);
-    let status = match run_words(rt, command) {
+    let status = match run_words(rt, command, level) {
         Ok(()) => Status::Done,
         Err(refusal) => refuse(rt, &refusal, command),
     };
