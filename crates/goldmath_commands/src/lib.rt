@@ -45,7 +45,7 @@ Status: 0 done, 1 refused, 2 usage error.
 
 /// What is asked of the program itself.
 #[derive(Clone, Copy)]
-enum About {
+enum Asked {
     /// How to use it.
     Help,
     /// Its version, and the level of processor that it is built for.
@@ -53,12 +53,12 @@ enum About {
 }
 
 /// What the words ask of the program itself. They are then no words of `engine::run`.
-fn about(words: &[String]) -> Option<About>
+fn about(words: &[String]) -> Option<Asked>
     ensures { IfSome result (λ _. AreWrongWords (map string_bytes words.now)) }
 {
     match words {
-        [word] if word.as_str() == "--help" => Some(About::Help),
-        [word] if word.as_str() == "--version" => Some(About::Version),
+        [word] if word.as_str() == "--help" => Some(Asked::Help),
+        [word] if word.as_str() == "--version" => Some(Asked::Version),
         _ => None,
     }
 }
@@ -98,10 +98,10 @@ fn status_of(rt: &HostRuntime, written: io::Result<()>) -> ExitCode {
 }
 
 /// Prints what is asked of the program itself, and gives the status.
-fn print_about(rt: &HostRuntime, about: About, level: &str) -> ExitCode {
-    let written = match about {
-        About::Help => print!(rt; "{HELP}"),
-        About::Version => println!(rt; "{VERSION} ({level})"),
+fn print_about(rt: &HostRuntime, asked: Asked, level: &str) -> ExitCode {
+    let written = match asked {
+        Asked::Help => print!(rt; "{HELP}"),
+        Asked::Version => println!(rt; "{VERSION} ({level})"),
     };
     status_of(rt, written)
 }
@@ -139,8 +139,8 @@ pub fn run(rt: &HostRuntime, level: &str) -> ExitCode {
         Ok(words) => words,
         Err(error) => return refuse_input(rt, &error),
     };
-    if let Some(about) = about(words.as_slice()) {
-        return print_about(rt, about, level);
+    if let Some(asked) = about(words.as_slice()) {
+        return print_about(rt, asked, level);
     }
     let bytes = match input(rt) {
         Ok(bytes) => bytes,
