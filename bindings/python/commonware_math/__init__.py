@@ -354,7 +354,8 @@ def version() -> tuple[int, int, int]:
 def proved() -> dict[str, str]:
     """Returns which proved sources the library was made of, as the file beside it says: its ``version``; the ``commit`` and
     the ``date`` of the sources; the ``kit`` that proved them, with its logic; the ``levels`` of processor for which the
-    library is there. A package also has ``gate``: the last line of the gate of that commit, or ``not run``.
+    library is there; and ``vectors``, those at which it computes with vectors, or ``none``. A package also has ``gate``: the
+    last line of the gate of that commit, or ``not run``.
 
     Raises FileNotFoundError if there is no such file, as beside a library that ``./install`` did not install.
 
