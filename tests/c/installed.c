@@ -124,6 +124,16 @@ int main(void) {
   WANT(cwm_systematic_verify(all, 3, row, 24, 10, 2, 3, mask, &belong) == CWM_DONE && belong == 0);
   WANT(cwm_systematic_rebuild(all, 3, row, 24, 10, 2, 3, mask, first, 1, lost_row, 8) == CWM_INCONSISTENT);
 
+  /* of three rows, one of which is the data, one may be wrong, and of two none */
+  uint8_t three_rows[24];
+  memcpy(three_rows, bytes, 8);
+  WANT(cwm_systematic_encode(bytes, 8, 1, 3, three_rows + 8, 16, &mask) == CWM_DONE && mask == 0);
+  three_rows[3] ^= 1;
+  WANT(cwm_systematic_rebuild_corrected(all, 3, three_rows, 24, 8, 1, 3, mask, first, 1, lost_row, 8, left_out, 3, &many) == CWM_DONE);
+  WANT(memcmp(lost_row, bytes, 8) == 0 && many == 1 && left_out[0] == 0);
+  WANT(cwm_systematic_rebuild_corrected(all, 2, three_rows, 16, 8, 1, 3, mask, first, 1, lost_row, 8, left_out, 2, &many) ==
+       CWM_INCONSISTENT);
+
   /* the root of these shards: the paths of the first two have two digests, and the last one's has one; the first shard is spoiled */
   size_t steps = 0, room = 0, places[3] = {7, 7, 7};
   uint8_t root[CWM_DIGEST_SIZE], paths[6 * CWM_DIGEST_SIZE];
