@@ -1,11 +1,11 @@
 //! Files that may be shard files, and what their headers say.
 
 use crate::fault::Fault;
-use math_codec::codec;
+use math_codec::codec::{self, Read};
 use partial_files::fault::{Fault as FileFault, owned};
 use partial_files::identity::{Identity, check_no_input};
 use partial_files::rights::rights_of;
-use shard_format::header::{HEADER_SIZE, Header, header_in};
+use shard_format::header::{Header, LARGEST_HEADER};
 use std::alloc::{AllocError, Global};
 use std::fs::{self, File, Metadata};
 use std::io;
@@ -178,8 +178,8 @@ fn open_source(
     let Some(file) = open_file(rt, name)? else {
         return Ok(Err("cannot be opened"));
     };
-    let mut bytes = [0u8; HEADER_SIZE];
-    let size = metadata.len().min(HEADER_SIZE as u64) as usize;
+    let mut bytes = [0u8; LARGEST_HEADER];
+    let size = metadata.len().min(LARGEST_HEADER as u64) as usize;
     if !fill_from(&file, 0, &mut bytes[..size]) {
         return Ok(Err("cannot be read"));
     }
@@ -193,10 +193,12 @@ fn open_source(
     }
 }
 
-/// The header that the bytes are, or what is wrong with them.
+/// The header that the bytes begin with, or what is wrong with them.
 fn read_header(alloc: Global, bytes: &[u8]) -> Result<Result<Header, &'static str>, AllocError> {
-    match header_in(alloc, bytes) {
-        Ok(header) => Ok(Ok(header)),
+    let mut rest = bytes;
+    match Header::read_cfg(alloc, &mut rest, &()) {
+        Ok(header) if header.format.has_cells() => Ok(Ok(header)),
+        Ok(_) => Ok(Err(ANOTHER_VERSION)),
         Err(codec::Error::Memory(error)) => Err(error),
         Err(error) => Ok(Err(what_is_wrong(error))),
     }
@@ -207,7 +209,7 @@ fn what_is_wrong(error: codec::Error) -> &'static str {
     match error {
         codec::Error::EndOfBuffer => "has no whole header",
         codec::Error::Invalid(_, "mark") => "has no header of a shard file",
-        codec::Error::Invalid(_, "version") => ANOTHER_VERSION,
+        codec::Error::Invalid(_, "version" | "paths") => ANOTHER_VERSION,
         codec::Error::Invalid(_, "number") => IMPOSSIBLE_HEADER,
         codec::Error::Invalid(_, "fingerprint") => ANOTHER_FINGERPRINT,
         _ => DAMAGED_HEADER,

@@ -13,6 +13,7 @@ use crate::fault::Fault;
 use math_fields::goldilocks::{F, MODULUS};
 use shard_blocks::cells_for;
 use shard_fingerprints::Keys;
+use shard_format::formats::Format;
 use shard_format::header::Header;
 use shard_format::records::{block_count, block_size, file_size};
 use std::random::RandomSource;
@@ -69,6 +70,7 @@ impl Split {
         ensures { IfOk result (λ split. split.header.length ≡ length) }
     {
         let header = Header {
+            format: Format::Cells,
             index: 0,
             min,
             total,

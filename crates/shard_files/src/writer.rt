@@ -9,7 +9,7 @@ use partial_files::finishing::{folders_of, name_all, remove_all};
 use partial_files::names::MOST_FILES;
 use partial_files::partial::{Manner, Partial};
 use shard_blocks::split_block_rows_at;
-use shard_format::header::{HEADER_SIZE, header_bytes};
+use shard_format::header::{LARGEST_HEADER, header_bytes};
 use shard_format::records::write_record;
 use std::alloc::Global;
 
@@ -76,7 +76,8 @@ impl ShardWriter {
         self.partials.reserve(1)?;
         self.indices.push(index)?;
         let mut partial = Partial::create(rt, path, &self.how, number)?;
-        let written = partial.append(rt, &[0; HEADER_SIZE]);
+        let size = self.split.header.format.header_size();
+        let written = partial.append(rt, &[0; LARGEST_HEADER][..size]);
         if number >= MOST_KEPT_OPEN {
             partial.close();
         }

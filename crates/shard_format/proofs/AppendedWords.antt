@@ -8,9 +8,7 @@ appended_four none one two three four a b c d p q r s =
     s ∙ ap (λ (x : List ℕ). x ++ d) (r ∙ ap (λ (x : List ℕ). x ++ c) (q ∙ ap (λ (x : List ℕ). x ++ b) p))
     ∙ append_assoc ((none ++ a) ++ b) c d ∙ append_assoc (none ++ a) b (c ++ d) ∙ append_assoc none a (b ++ (c ++ d))
 
--- the same, where the first three belong together, and the last is known by another name
-pub appended_three_and_one :
-    (none one two three four a b c d e : List ℕ) → one ≡ none ++ a → two ≡ one ++ b → three ≡ two ++ c → four ≡ three ++ d → d ≡ e → four ≡ none ++ ((a ++ (b ++ c)) ++ e)
-appended_three_and_one none one two three four a b c d e p q r s t =
-    let all = appended_four none one two three four a b c d p q r s in
-    rw (all, t) (simp append_assoc)
+-- the same in three steps
+pub appended_three : (none one two three a b c : List ℕ) → one ≡ none ++ a → two ≡ one ++ b → three ≡ two ++ c → three ≡ none ++ (a ++ (b ++ c))
+appended_three none one two three a b c p q r =
+    r ∙ ap (λ (x : List ℕ). x ++ c) (q ∙ ap (λ (x : List ℕ). x ++ b) p) ∙ append_assoc (none ++ a) b c ∙ append_assoc none a (b ++ c)

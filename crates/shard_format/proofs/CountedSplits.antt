@@ -10,7 +10,7 @@ use Rattle.shard_format.specs.Splits.{AreOfOneSplit, IsPossible, IsRival, IsEnou
 
 -- of one split there are equally many, whichever of its headers is taken
 pub count_same : (g h : Header) (headers : List Header) → AreOfOneSplit g h → count_of_split g headers ≡ count_of_split h headers
-count_same g h headers e = rw (e.least, e.most, e.block, e.length, e.first_key, e.second_key) refl
+count_same g h headers e = rw (e.format, e.least, e.most, e.block, e.length, e.first_key, e.second_key) refl
 
 -- where a header more is of no split of which more are there, what was counted stays
 pub kept : (headers seen : List Header) (best : Option Counted) (h : Header) → IsLargestOf headers seen best → (IsEnough headers h → count_of_split h headers ≤ count_in best)

@@ -5,3 +5,5 @@ pub mod MarkedIndices
 pub mod RecordPlaces
 pub mod SpelledElements
 pub mod SpelledRecords
+pub mod RowElements
+pub mod RowRecords

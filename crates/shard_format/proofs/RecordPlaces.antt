@@ -1,8 +1,12 @@
 -- Where blocks and records lie.
-use Rattle.std.proofs.Common.{◌≡◌, ◌∙◌, ℕ, zero, suc, ◌+◌, ◌-◌, ◌*◌, ◌/◌, ◌^◌, ◌<◌, ◌≤◌, sym, ap, subst, arith, add-one}
+use Rattle.std.proofs.Common.{◌≡◌, ◌∙◌, ℕ, zero, suc, ◌+◌, ◌-◌, ◌*◌, ◌/◌, ◌^◌, ◌<◌, ◌≤◌, ◌++◌, length, refl, sym, ap, subst, arith, add-one}
 use Rattle.std.proofs.Math.Nat.{mul-le-mul_left, mul-le-mul_right, add-mul, one-mul, zero-mul, div-mul-le_self, lt-div-mul-add, min-eq_left, min-eq_right}
 use Rattle.std.specs.Prelude.{min}
+use Rattle.shard_format.specs.declared.formats.Format.{Format}
+use Rattle.shard_format.specs.declared.formats.Format.TheVariants as formats
 use Rattle.shard_format.specs.declared.header.Header.{Header}
+use Rattle.shard_format.specs.Formats.{header_size, version_of}
+use Rattle.shard_format.specs.Headers.{beginning_spelling, fingerprints_spelling, header_spelling, header_words, keys_spelling, paths_spelling, split_spelling}
 use Rattle.shard_format.specs.Records.{block_count, block_size, record_size, record_place, records_end, RecordsFollow, RecordsEndWithFile, BlocksMakeFile, FileFits}
 
 -- one more of the same size
@@ -22,10 +26,23 @@ needed bytes block n some below =
     let within = div-mul-le_self (bytes + block - 1) block in
     omega (arith, next, within, more n block)
 
-pub follow : (h : Header) (cells : ℕ) → RecordsFollow h cells
-follow h cells = record {
-  first = ap (λ n. 88 + n) (zero-mul (record_size h cells));
-  next = λ number. let size = more number (record_size h cells) in ap (λ n. 88 + n) size ∙ omega arith;
+-- a header has as many bytes as its format says
+header_length : (h : Header) → header_size h.format ≡ length (header_spelling h)
+header_length h = sized h.format where
+  sized : (f : Format) → header_size f ≡ length ((beginning_spelling (version_of f) h.index ++ (split_spelling h.min h.total h.block h.length ++ (keys_spelling h.keys ++ paths_spelling f))) ++ fingerprints_spelling h.keys (header_words h))
+  sized formats.Cells = refl
+  sized formats.Rows = refl
+  sized formats.RowsWithPaths = refl
+
+header_small : (f : Format) → header_size f ≤ 96
+header_small formats.Cells = omega arith
+header_small formats.Rows = omega arith
+header_small formats.RowsWithPaths = omega arith
+
+pub follow : (h : Header) (words : ℕ) → RecordsFollow h words
+follow h words = record {
+  first = ap (λ n. header_size h.format + n) (zero-mul (record_size h words)) ∙ omega (arith, header_length h);
+  next = λ number. let size = more number (record_size h words) in ap (λ n. header_size h.format + n) size ∙ omega arith;
 }
 
 pub blocks : (h : Header) → 1 ≤ h.block → BlocksMakeFile h
@@ -49,17 +66,17 @@ blocks h positive = record {
 }
 
 -- where the records of some blocks end, of which there is one at least
-ends : (h : Header) (cells last number count : ℕ) → number + 1 ≡ count → records_end h cells last count ≡ record_place h cells number + record_size h last
-ends h cells last number count e = ap (records_end h cells last) (sym e ∙ add-one number)
+ends : (h : Header) (words last number count : ℕ) → number + 1 ≡ count → records_end h words last count ≡ record_place h words number + record_size h last
+ends h words last number count e = ap (records_end h words last) (sym e ∙ add-one number)
 
-pub within : (h : Header) (cells last : ℕ) → RecordsEndWithFile h cells last
-within h cells last = record {
-  end = λ number e. ends h cells last number (block_count h) e;
-  empty = λ e. ap (records_end h cells last) e;
+pub within : (h : Header) (words last : ℕ) → RecordsEndWithFile h words last
+within h words last = record {
+  end = λ number e. ends h words last number (block_count h) e;
+  empty = λ e. ap (records_end h words last) e ∙ header_length h;
   within = λ number below.
       let before = block_count h - 1 in
-      let end = ends h cells last before (block_count h) (omega (arith, below)) in
-      let size = record_size h cells in
+      let end = ends h words last before (block_count h) (omega (arith, below)) in
+      let size = record_size h words in
       let places : (number + 1) * size ≤ before * size = mul-le-mul_right size (omega (arith, below)) in
       omega (arith, end, places, more number size);
 }
@@ -72,14 +89,14 @@ bounded bytes block count size some below small =
     let twice : count * (2 * block) ≡ 2 * (count * block) = omega arith in
     omega (arith, each, here, twice)
 
-ends_below : (h : Header) (cells last count : ℕ) → h.block ≤ 2 ^ 20 → h.length < 2 ^ 62 → record_size h last ≤ 2 * h.block
-    → ((number : ℕ) → number + 1 ≡ count → number * record_size h cells ≤ 2 * h.length) → records_end h cells last count < 2 ^ 64
-ends_below h cells last zero small short rest places = omega arith
-ends_below h cells last (suc number) small short rest places =
+ends_below : (h : Header) (words last count : ℕ) → h.block ≤ 2 ^ 20 → h.length < 2 ^ 62 → record_size h last ≤ 2 * h.block
+    → ((number : ℕ) → number + 1 ≡ count → number * record_size h words ≤ 2 * h.length) → records_end h words last count < 2 ^ 64
+ends_below h words last zero small short rest places = omega (arith, header_small h.format)
+ends_below h words last (suc number) small short rest places =
     let place = places number (add-one number) in
-    omega (arith, place, small, short, rest)
+    omega (arith, place, small, short, rest, header_small h.format)
 
-pub fits : (h : Header) (cells last : ℕ) → 1 ≤ h.block → FileFits h cells last
-fits h cells last some small short whole rest =
-    ends_below h cells last (block_count h) small short rest
-    (λ number e. bounded h.length h.block number (record_size h cells) some (omega (arith, e)) whole)
+pub fits : (h : Header) (words last : ℕ) → 1 ≤ h.block → FileFits h words last
+fits h words last some small short whole rest =
+    ends_below h words last (block_count h) small short rest
+    (λ number e. bounded h.length h.block number (record_size h words) some (omega (arith, e)) whole)

@@ -7,6 +7,7 @@ use Rattle.math_fields.specs.declared.goldilocks.F.{F}
 use Rattle.shard_fingerprints.specs.declared.pairs.Fingerprints.{Fingerprints}
 use Rattle.shard_fingerprints.specs.Fingerprints.{cell_words, fingerprint}
 use Rattle.math_fields.specs.Elements.{number, same}
+use Rattle.shard_format.specs.Formats.{header_size, mask_size}
 use Rattle.shard_format.specs.Headers.{header_spelling}
 use Rattle.shard_format.specs.declared.header.Header.{Header}
 
@@ -18,25 +19,26 @@ block_count h = (h.length + h.block - 1) / h.block
 abbrev pub block_size : Header → ℕ → ℕ
 block_size h number = min h.block (h.length - number * h.block)
 
--- how many bytes the record of a block has, whose shard has `cells` cells: the index, `min`, `total` and the number of cells, each as a
--- length, eight bytes a cell, and two words
+-- how many bytes the record of a block has, whose shard has `words` words, which are cells in version 2: the index, `min`, `total` and the
+-- number of words, each as a length, the mask, eight bytes a word, and two words
 abbrev pub record_size : Header → ℕ → ℕ
-record_size h cells =
-    length (length_spelling h.index) + length (length_spelling h.min) + length (length_spelling h.total) + length (length_spelling cells) + 8 * cells + 16
+record_size h words =
+    length (length_spelling h.index) + length (length_spelling h.min) + length (length_spelling h.total) + length (length_spelling words)
+    + mask_size h.format + 8 * words + 16
 
--- where the record of the block with this number begins: after the header and as many records of whole blocks, whose shards have `cells`
--- cells
+-- where the record of the block with this number begins: after the header and as many records of whole blocks, whose shards have `words`
+-- words
 abbrev pub record_place : Header → ℕ → ℕ → ℕ
-record_place h cells number = 88 + number * record_size h cells
+record_place h words number = header_size h.format + number * record_size h words
 
--- where the records of `number` blocks end, where the shard of the last has `last` cells, and the shard of each other one `cells`
+-- where the records of `number` blocks end, where the shard of the last has `last` words, and the shard of each other one `words`
 abbrev pub records_end : Header → ℕ → ℕ → ℕ → ℕ
-records_end h cells last zero = 88
-records_end h cells last (suc number) = record_place h cells number + record_size h last
+records_end h words last zero = header_size h.format
+records_end h words last (suc number) = record_place h words number + record_size h last
 
 -- how many bytes the shard file has: the records of all blocks end where it does
 abbrev pub file_size : Header → ℕ → ℕ → ℕ
-file_size h cells last = records_end h cells last (block_count h)
+file_size h words last = records_end h words last (block_count h)
 
 -- a number, and the greatest number of a word in place of each that is greater
 abbrev pub capped : ℕ → ℕ
@@ -88,9 +90,9 @@ record_spelling h block cells =
     numbers_spelling h (length cells) ++ elements_spelling (cells ++ (fingerprint words h.keys.first ∷ fingerprint words h.keys.second ∷ []))
 
 -- the first record begins behind the header, and each further one where the one before it ends
-pub record RecordsFollow (h : Header) (cells : ℕ) : Type 0 where
-  pub first : record_place h cells 0 ≡ length (header_spelling h)
-  pub next : (number : ℕ) → record_place h cells (number + 1) ≡ record_place h cells number + record_size h cells
+pub record RecordsFollow (h : Header) (words : ℕ) : Type 0 where
+  pub first : record_place h words 0 ≡ length (header_spelling h)
+  pub next : (number : ℕ) → record_place h words (number + 1) ≡ record_place h words number + record_size h words
 
 -- each block but the last has the block size, the last has what is left, which is at least one byte, and there is none beyond
 pub record BlocksMakeFile (h : Header) : Type 0 where
@@ -101,11 +103,11 @@ pub record BlocksMakeFile (h : Header) : Type 0 where
 
 -- the shard file ends where the record of the last block does, or with the header where there is none; each record ends there or before,
 -- and its place and size fit a word where the size of the file does
-pub record RecordsEndWithFile (h : Header) (cells last : ℕ) : Type 0 where
-  pub end : (number : ℕ) → number + 1 ≡ block_count h → file_size h cells last ≡ record_place h cells number + record_size h last
-  pub empty : block_count h ≡ 0 → file_size h cells last ≡ length (header_spelling h)
-  pub within : (number : ℕ) → number + 1 < block_count h → record_place h cells number + record_size h cells ≤ file_size h cells last
+pub record RecordsEndWithFile (h : Header) (words last : ℕ) : Type 0 where
+  pub end : (number : ℕ) → number + 1 ≡ block_count h → file_size h words last ≡ record_place h words number + record_size h last
+  pub empty : block_count h ≡ 0 → file_size h words last ≡ length (header_spelling h)
+  pub within : (number : ℕ) → number + 1 < block_count h → record_place h words number + record_size h words ≤ file_size h words last
 
 -- where no record has more than twice the bytes of a block, and the file has fewer than 2^62, the size of the shard file fits a word
 abbrev pub FileFits : Header → ℕ → ℕ → Type 0
-FileFits h cells last = h.block ≤ 2 ^ 20 → h.length < 2 ^ 62 → record_size h cells ≤ 2 * h.block → record_size h last ≤ 2 * h.block → file_size h cells last < 2 ^ 64
+FileFits h words last = h.block ≤ 2 ^ 20 → h.length < 2 ^ 62 → record_size h words ≤ 2 * h.block → record_size h last ≤ 2 * h.block → file_size h words last < 2 ^ 64

@@ -2,6 +2,7 @@
 use Rattle.std.specs.Prelude.{◌≡◌, ℕ, ◌*◌, ◌/◌, ◌<◌, ◌≤◌, ◌^◌, min, Bool, ◌==◌, ◌&&◌, List, All, Contains, count_by, Option, Some, None, MatchOption, IfSome}
 use Rattle.math_fields.specs.Elements.{number, same}
 use Rattle.shard_format.specs.declared.header.Header.{Header}
+use Rattle.shard_format.specs.Formats.{is_same_format}
 use Rattle.shard_format.specs.declared.splits.Counted.{Counted}
 use Rattle.shard_format.specs.declared.splits.Choice.{Choice}
 use Rattle.shard_format.specs.declared.splits.Choice.TheVariants as choices
@@ -19,8 +20,9 @@ pub record IsPossible (h : Header) : Type 0 where
   pub block : 1 ≤ h.block
   pub bounded : h.block ≤ largest_block h.min h.total
 
--- both are headers of shards of one file, split in one way, at one time: their keys are the same too
+-- both are headers of shards of one file, split in one way, at one time, in one format: their keys are the same too
 pub record AreOfOneSplit (g h : Header) : Type 0 where
+  pub format : g.format ≡ h.format
   pub least : g.min ≡ h.min
   pub most : g.total ≡ h.total
   pub block : g.block ≡ h.block
@@ -34,10 +36,10 @@ pub record IsThatOf (h : Header) (n : ℕ) (s : Header) : Type 0 where
   pub number : h.index ≡ n
   pub split : AreOfOneSplit h s
 
--- whether both are headers of shards of one file, split in one way, with the same keys
+-- whether both are headers of shards of one file, split in one way, in one format, with the same keys
 abbrev pub is_of_split : Header → Header → Bool
 is_of_split g h =
-    (g.min == h.min) && (g.total == h.total) && (g.block == h.block) && (g.length == h.length)
+    is_same_format g.format h.format && (g.min == h.min) && (g.total == h.total) && (g.block == h.block) && (g.length == h.length)
     && (number g.keys.first == number h.keys.first) && (number g.keys.second == number h.keys.second)
 
 -- how many of the headers are of the split of this one

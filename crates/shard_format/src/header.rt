@@ -1,19 +1,22 @@
-//! The header of a shard file: eleven words of eight bytes, highest byte first.
+//! The header of a shard file: words of eight bytes, highest byte first.
 //!
 //! They are the mark, the version, the index, `min`, `total`, the block size, the length of the
-//! file, the two keys, and the fingerprints of all these under the one key and under the other.
+//! file, the two keys, in version 3 whether records have paths, and the fingerprints of all these
+//! under the one key and under the other.
 
-ghost use Rattle.std.specs.Prelude.{◌≡◌, ◌≢◌, ◌↔◌, ◌<◌, ◌≤◌, ◌++◌, length, take, IsTrue, IfOk, OnOk, OnErr, MatchResult};
+ghost use Rattle.std.specs.Prelude.{◌≡◌, ◌≢◌, ◌↔◌, ◌<◌, ◌≤◌, ◌++◌, length, take, IsTrue, IsFalse, IfOk, OnOk, OnErr, MatchResult};
 ghost use Rattle.std.specs.Int.{w64, to_be_bytes};
 ghost use Rattle.math_numbers.specs.Goldilocks.{P};
 ghost use Rattle.math_codec.specs.Faults.{Agrees, IsMemory, OnMemory, Reads, scan_exactly};
 ghost use Rattle.math_fields.specs.Elements.{number};
-ghost use Rattle.shard_format.specs.Headers.{AdmitsHeader, AreNotZero, beginning_spelling, fingerprints_spelling, header_spelling, header_words, keys_spelling, split_spelling, words_spelling};
-ghost use Rattle.shard_format.specs.Headers.{scan_beginning, scan_fingerprints, scan_fixed, scan_header, scan_key, scan_keys, scan_length, scan_number, scan_split, scan_words};
+ghost use Rattle.shard_format.specs.Formats.{version_of, word_count};
+ghost use Rattle.shard_format.specs.Headers.{AdmitsHeader, AreNotZero, beginning_spelling, fingerprints_spelling, header_spelling, header_words, keys_spelling, paths_spelling, split_spelling, words_spelling};
+ghost use Rattle.shard_format.specs.Headers.{scan_beginning, scan_fingerprints, scan_fixed, scan_flag, scan_header, scan_key, scan_keys, scan_length, scan_number, scan_paths, scan_split, scan_version, scan_words, version_in};
 ghost use Rattle.shard_format.specs.HeaderLaws.{header_again, header_apart};
 ghost use Rattle.shard_format.specs.Splits.{AreOfOneSplit, IsPossible, IsThatOf, is_of_split, largest_block};
 ghost use Rattle.shard_format.specs.declared.header.Verdict.TheVariants.{Fits, Impossible, OtherIndex, OtherSplit};
 
+use crate::formats::Format;
 use math_codec::codec::{Encoding, Error, Mem, Read, Write, decode, roll_back};
 use math_fields::goldilocks::{F, MODULUS};
 use shard_fingerprints::{Keys, words_fingerprints};
@@ -22,15 +25,14 @@ use std::alloc::Global;
 /// The word that every shard file begins with: 137, `SHARD`, and a line's end.
 const MARK: u64 = 0x8953_4841_5244_0d0a;
 
-/// The version of the format.
-const VERSION: u64 = 2;
-
-/// The number of bytes of a header.
-pub const HEADER_SIZE: usize = 88;
+/// The number of bytes of a header of version 3. One of version 2 has fewer.
+pub const LARGEST_HEADER: usize = 96;
 
 /// What a shard file says of itself.
 #[derive(Clone, Copy, Debug)]
 pub struct Header {
+    /// What the records hold.
+    pub format: Format,
     /// Which of the shards it is, from 0 on.
     pub index: u32,
     /// How many shards give the file back.
@@ -51,13 +53,17 @@ impl Encoding for Header {
     ghost alike = { λ g h. g ≡ h };
 }
 
-/// The nine words of a header before its fingerprints, as elements.
-fn words_of(header: &Header) -> [F; 9]
-    ensures { result ≡ header_words header.now }
+/// How many words a header has before its fingerprints, at most.
+const MOST_WORDS: usize = 10;
+
+/// The words of a header before its fingerprints, as elements, and the last of them in every
+/// version.
+fn all_words(header: &Header) -> [F; MOST_WORDS]
+    ensures { take (word_count (version_of header.now.format)) result ≡ header_words header.now }
 {
     [
         F::from(MARK),
-        F::from(VERSION),
+        F::from(header.format.version()),
         F::from(header.index as u64),
         F::from(header.min as u64),
         F::from(header.total as u64),
@@ -65,7 +71,16 @@ fn words_of(header: &Header) -> [F; 9]
         F::from(header.length),
         header.keys.first,
         header.keys.second,
+        F::from(header.format.paths_word()),
     ]
+}
+
+/// The words of a header before its fingerprints, as elements, which are put into `room`.
+fn words_of<'a>(header: &Header, room: &'a mut [F; MOST_WORDS]) -> &'a [F]
+    ensures { result.now ≡ header_words header.now }
+{
+    *room = all_words(header);
+    &room[..header.format.word_count()]
 }
 
 /// Reads the one word that may stand here; another one is `Invalid` under the name.
@@ -87,7 +102,7 @@ fn read_fixed(alloc: Global, input: &mut &[u8], word: u64, name: &'static str) -
 
 /// Reads a word below 2^32.
 #[tactic(auto, unfolding(crate::specs::Headers::scan_number))]
-fn read_number(alloc: Global, input: &mut &[u8]) -> Result<u32, Error>
+pub(crate) fn read_number(alloc: Global, input: &mut &[u8]) -> Result<u32, Error>
     ensures taken { IfOk result (λ n. input.old.now ≡ to_be_bytes w64 n ++ input.new.now) }
     ensures stays { OnErr result (input.new ≡ input.old) }
     ensures memory { OnMemory result ⊥ }
@@ -139,21 +154,90 @@ fn read_key(alloc: Global, input: &mut &[u8]) -> Result<F, Error>
     Ok(F::from(word))
 }
 
+/// Reads the version: 2 or 3.
+#[tactic(auto, unfolding(crate::specs::Headers::scan_version))]
+fn read_version(alloc: Global, input: &mut &[u8]) -> Result<u64, Error>
+    ensures taken { IfOk result
+        (λ version. input.old.now ≡ to_be_bytes w64 version ++ input.new.now) }
+    ensures known { IfOk result (λ version. (2 ≤ version) × (version ≤ 3)) }
+    ensures stays { OnErr result (input.new ≡ input.old) }
+    ensures memory { OnMemory result ⊥ }
+    ensures exact { Reads result input.new.now (scan_version input.old.now) }
+{
+    let mut rest = *input;
+    let version = u64::read_cfg(alloc, &mut rest, &())?;
+    if version != 2 && version != 3 {
+        return Err(Error::Invalid("header", "version"));
+    }
+    *input = rest;
+    Ok(version)
+}
+
+/// What a header begins with, after its mark.
+#[derive(Clone, Copy)]
+struct Beginning {
+    version: u64,
+    index: u32,
+    ghost least: { 2 ≤ version },
+    ghost most: { version ≤ 3 },
+}
+
 /// Reads the mark, the version and the index.
 #[tactic(auto, unfolding(crate::specs::Headers::scan_beginning))]
-fn read_beginning(alloc: Global, input: &mut &[u8]) -> Result<u32, Error>
+fn read_beginning(alloc: Global, input: &mut &[u8]) -> Result<Beginning, Error>
     ensures taken { IfOk result
-        (λ index. input.old.now ≡ beginning_spelling index ++ input.new.now) }
+        (λ b. input.old.now ≡ beginning_spelling b.version b.index ++ input.new.now) }
+    ensures version { IfOk result (λ b. b.version ≡ version_in input.old.now) }
     ensures stays { OnErr result (input.new ≡ input.old) }
     ensures memory { OnMemory result ⊥ }
     ensures exact { Reads result input.new.now (scan_beginning input.old.now) }
 {
     let mut rest = *input;
     read_fixed(alloc, &mut rest, MARK, "mark")?;
-    read_fixed(alloc, &mut rest, VERSION, "version")?;
+    let version = read_version(alloc, &mut rest)?;
     let index = read_number(alloc, &mut rest)?;
     *input = rest;
-    Ok(index)
+    Ok(Beginning { version, index })
+}
+
+/// Reads a word that is 0 or 1, and says whether it is 1.
+#[tactic(auto, unfolding(crate::specs::Headers::scan_flag))]
+fn read_flag(alloc: Global, input: &mut &[u8]) -> Result<bool, Error>
+    ensures set { IfOk result (λ flag. IsTrue flag
+        → input.old.now ≡ to_be_bytes w64 1 ++ input.new.now) }
+    ensures clear { IfOk result (λ flag. IsFalse flag
+        → input.old.now ≡ to_be_bytes w64 0 ++ input.new.now) }
+    ensures stays { OnErr result (input.new ≡ input.old) }
+    ensures memory { OnMemory result ⊥ }
+    ensures exact { Reads result input.new.now (scan_flag input.old.now) }
+{
+    let mut rest = *input;
+    let word = u64::read_cfg(alloc, &mut rest, &())?;
+    if word >= 2 {
+        return Err(Error::Invalid("header", "paths"));
+    }
+    *input = rest;
+    Ok(word == 1)
+}
+
+/// Reads what a header of this version says of paths.
+fn read_format(alloc: Global, input: &mut &[u8], version: u64) -> Result<Format, Error>
+    requires least { 2 ≤ version }
+    requires most { version ≤ 3 }
+    ensures taken { IfOk result (λ f. input.old.now ≡ paths_spelling f ++ input.new.now) }
+    ensures version { IfOk result (λ f. version_of f ≡ version) }
+    ensures stays { OnErr result (input.new ≡ input.old) }
+    ensures memory { OnMemory result ⊥ }
+    ensures exact { Reads result input.new.now (scan_paths version input.old.now) }
+{
+    if version == 2 {
+        return Ok(Format::Cells);
+    }
+    if read_flag(alloc, input)? {
+        Ok(Format::RowsWithPaths)
+    } else {
+        Ok(Format::Rows)
+    }
 }
 
 /// What all headers of a split share beside its keys: `min`, `total`, the block size and the
@@ -207,7 +291,7 @@ fn read_keys(alloc: Global, input: &mut &[u8]) -> Result<Keys, Error>
 }
 
 /// The number of an element.
-fn number_of(a: F) -> u64
+pub(crate) fn number_of(a: F) -> u64
     ensures { result ≡ number a }
 {
     u64::from_le_bytes(a.to_le_bytes())
@@ -248,7 +332,7 @@ fn read_header(alloc: Global, input: &mut &[u8]) -> Result<Header, Error>
     ensures exact { Reads result input.new.now (scan_words input.old.now) }
 {
     let mut rest = *input;
-    let index = read_beginning(alloc, &mut rest)?;
+    let Beginning { version, index } = read_beginning(alloc, &mut rest)?;
     let Numbers {
         min,
         total,
@@ -256,8 +340,10 @@ fn read_header(alloc: Global, input: &mut &[u8]) -> Result<Header, Error>
         length,
     } = read_numbers(alloc, &mut rest)?;
     let keys = read_keys(alloc, &mut rest)?;
+    let format = read_format(alloc, &mut rest, version)?;
     *input = rest;
     Ok(Header {
+        format,
         index,
         min,
         total,
@@ -276,13 +362,15 @@ impl Read for Header {
 
     ghost grows = { λ _ _. ⊥ };
 
-    /// Reads the mark, the version, the five numbers, the keys and the fingerprints, and refuses
-    /// with the first fault of these.
+    /// Reads the mark, the version, the five numbers, the keys, what the header says of paths and
+    /// the fingerprints, and refuses with the first fault of these.
     #[tactic(auto, unfolding(crate::specs::Headers::scan_header))]
     fn read_cfg(alloc: Global, input: &mut &[u8], _cfg: &()) -> Result<Header, Error> {
         let mut rest = *input;
         let header = read_header(alloc, &mut rest)?;
-        read_fingerprints(alloc, &mut rest, &header.keys, &words_of(&header))?;
+        let mut room = [F::from(0); MOST_WORDS];
+        let words = words_of(&header, &mut room);
+        read_fingerprints(alloc, &mut rest, &header.keys, words)?;
         *input = rest;
         Ok(header)
     }
@@ -317,37 +405,72 @@ pub(crate) fn write_pair(alloc: Global, first: F, second: F, out: &mut Vec<u8>) 
 }
 
 /// Writes the mark, the version and the index. What is written stays where memory runs out.
-fn write_beginning(alloc: Global, index: u32, out: &mut Vec<u8>) -> Mem<()>
-    ensures ok { OnOk result (out.new.items ≡ out.old.items ++ beginning_spelling index) }
+fn write_beginning(alloc: Global, version: u64, index: u32, out: &mut Vec<u8>) -> Mem<()>
+    ensures ok { OnOk result (out.new.items ≡ out.old.items ++ beginning_spelling version index) }
     ensures kept { take (length out.old.items) out.new.items ≡ out.old.items }
 {
     MARK.write(alloc, out)?;
-    VERSION.write(alloc, out)?;
+    version.write(alloc, out)?;
     (index as u64).write(alloc, out)?;
     Ok(())
 }
 
-/// Writes a header. What is written stays where memory runs out.
-fn write_header_words(alloc: Global, header: &Header, out: &mut Vec<u8>) -> Mem<()>
-    ensures ok { OnOk result (out.new.items ≡ out.old.items ++ header_spelling header.now) }
+/// Writes what a header says of paths. What is written stays where memory runs out.
+fn write_paths(alloc: Global, format: Format, out: &mut Vec<u8>) -> Mem<()>
+    ensures ok { OnOk result (out.new.items ≡ out.old.items ++ paths_spelling format) }
+    ensures kept { take (length out.old.items) out.new.items ≡ out.old.items }
+{
+    match format {
+        Format::Cells => Ok(()),
+        Format::Rows => 0u64.write(alloc, out),
+        Format::RowsWithPaths => 1u64.write(alloc, out),
+    }
+}
+
+/// Writes the words of a header before its fingerprints. What is written stays where memory runs
+/// out.
+fn write_words(alloc: Global, header: &Header, out: &mut Vec<u8>) -> Mem<()>
+    ensures ok { OnOk result (out.new.items ≡ out.old.items ++ words_spelling header.now) }
     ensures kept { take (length out.old.items) out.new.items ≡ out.old.items }
 {
     let keys = header.keys;
-    let fingerprints = words_fingerprints(&keys, &words_of(header));
-    write_beginning(alloc, header.index, out)?;
+    write_beginning(alloc, header.format.version(), header.index, out)?;
     write_split(alloc, header, out)?;
     write_pair(alloc, keys.first, keys.second, out)?;
-    write_pair(alloc, fingerprints.first, fingerprints.second, out)?;
+    write_paths(alloc, header.format, out)?;
+    Ok(())
+}
+
+/// Writes the fingerprints of some words under two keys. What is written stays where memory runs
+/// out.
+fn write_fingerprints(alloc: Global, keys: &Keys, words: &[F], out: &mut Vec<u8>) -> Mem<()>
+    ensures ok { OnOk result (out.new.items
+        ≡ out.old.items ++ fingerprints_spelling keys.now words.now) }
+    ensures kept { take (length out.old.items) out.new.items ≡ out.old.items }
+{
+    let fingerprints = words_fingerprints(keys, words);
+    write_pair(alloc, fingerprints.first, fingerprints.second, out)
+}
+
+/// Writes a header. What is written stays where memory runs out.
+fn write_header(alloc: Global, header: &Header, out: &mut Vec<u8>) -> Mem<()>
+    ensures ok { OnOk result (out.new.items ≡ out.old.items ++ header_spelling header.now) }
+    ensures kept { take (length out.old.items) out.new.items ≡ out.old.items }
+{
+    let mut room = [F::from(0); MOST_WORDS];
+    let words = words_of(header, &mut room);
+    write_words(alloc, header, out)?;
+    write_fingerprints(alloc, &header.keys, words, out)?;
     Ok(())
 }
 
 impl Write for Header {
     ghost fits = { λ _. Unit {0} };
 
-    /// Writes the eleven words.
+    /// Writes the words.
     fn write(&self, alloc: Global, out: &mut Vec<u8>) -> Mem<()> {
         let start = out.len();
-        let written = write_header_words(alloc, self, out);
+        let written = write_header(alloc, self, out);
         roll_back(alloc, written, start, out)
     }
 }
@@ -415,12 +538,13 @@ impl Header {
     }
 
     /// Returns whether both are headers of shards of one file, split in one way with one pair of
-    /// keys.
+    /// keys, in one format.
     pub fn is_of_split(&self, other: &Header) -> bool
         ensures exact { IsTrue result ↔ AreOfOneSplit self.now other.now }
         ensures test { result ≡ is_of_split self.now other.now }
     {
-        self.min == other.min
+        self.format.is_same(other.format)
+            && self.min == other.min
             && self.total == other.total
             && self.block == other.block
             && self.length == other.length

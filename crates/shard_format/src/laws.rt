@@ -2,6 +2,7 @@
 
 ghost use Rattle.std.specs.Prelude.{◌≤◌, ℕ};
 ghost use Rattle.shard_format.specs.Records.{BlocksMakeFile, FileFits, RecordsEndWithFile, RecordsFollow};
+ghost use Rattle.shard_format.specs.Rows.{RowsHaveTheirWords};
 ghost use Rattle.shard_format.specs.declared.header.Header.{Header};
 
 /// The blocks of a file have all of its bytes, each block but the last as many as the header says.
@@ -13,7 +14,13 @@ pub fn blocks_make_the_file()
 /// of the last block. Its size fits a word where that of no record is more than twice the block
 /// size and the file has fewer than 2^62 bytes.
 pub fn records_make_the_shard_file()
-    ensures follow { (h : Header) (cells : ℕ) → RecordsFollow h cells }
-    ensures within { (h : Header) (cells last : ℕ) → RecordsEndWithFile h cells last }
-    ensures fits { (h : Header) (cells last : ℕ) → 1 ≤ h.block → FileFits h cells last }
+    ensures follow { (h : Header) (words : ℕ) → RecordsFollow h words }
+    ensures within { (h : Header) (words last : ℕ) → RecordsEndWithFile h words last }
+    ensures fits { (h : Header) (words last : ℕ) → 1 ≤ h.block → FileFits h words last }
+{}
+
+/// Rows that differ in the block, the index, the mask or a word have lists of words that differ. So
+/// `shard_fingerprints::laws::damage_is_missed_rarely` says how rarely damage to them is missed.
+pub fn rows_have_their_words()
+    ensures { RowsHaveTheirWords }
 {}

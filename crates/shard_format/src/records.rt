@@ -1,14 +1,16 @@
 //! The blocks of a file and the records of a shard file: how many there are, how large each is and
 //! where it begins, and whether a record is the one that has to stand there.
 //!
-//! A record is the shard of a block and its two fingerprints. Callers hand in how many cells the
-//! shard of a block has; `shard_blocks` says it.
+//! A record is the shard of a block and its two fingerprints. Callers hand in how many words the
+//! shard of a block has: in version 2 its cells, which `shard_blocks` counts, and in version 3 the
+//! words of a row, which `systematic_shards` counts. What stands in a record of version 3 is said in
+//! `rows`.
 
 ghost use Rattle.std.specs.Prelude.{◌≡◌, ◌≢◌, ◌↔◌, ◌<◌, ◌≤◌, ◌^◌, ◌+◌, ◌*◌, ◌++◌, List, length, map, take, OnOk, IsTrue, IsFalse, IfOk, IfSome, IsNone};
 ghost use Rattle.math_fields.specs.declared.goldilocks.F.{F};
 ghost use Rattle.shard_format.specs.Records.{AreCellsThatFit, HaveFingerprints, IsRecordOf, IsShardOfHeader, block_count, block_size, capped, element_spelling, elements_spelling, file_size, numbers_spelling, record_place, record_size, record_spelling};
 
-use crate::header::{HEADER_SIZE, Header, write_pair};
+use crate::header::{Header, write_pair};
 use math_base::algebra::Mem;
 use math_codec::codec::{len_size, write_len};
 use math_fields::goldilocks::{F, MODULUS};
@@ -37,41 +39,42 @@ pub fn block_size(header: &Header, number: u64) -> u32
     left.min(u64::from(header.block)) as u32
 }
 
-/// Returns how many bytes the record of a block has whose shard has so many cells, or 2^64 - 1 if
-/// they are more.
-pub fn record_size(header: &Header, cells: usize) -> u64
-    ensures { result ≡ capped (record_size header.now cells) }
+/// Returns how many bytes the record of a block has whose shard has so many words, or 2^64 - 1 if
+/// they are more. The words are cells in version 2.
+pub fn record_size(header: &Header, words: usize) -> u64
+    ensures { result ≡ capped (record_size header.now words) }
 {
     let numbers = len_size(header.index as usize)
         + len_size(header.min as usize)
         + len_size(header.total as usize)
-        + len_size(cells);
-    (cells as u64)
+        + len_size(words);
+    let others = numbers + header.format.mask_size() + FINGERPRINTS_SIZE;
+    (words as u64)
         .saturating_mul(8)
-        .saturating_add((numbers + FINGERPRINTS_SIZE) as u64)
+        .saturating_add(others as u64)
 }
 
 /// Returns where the record of the block with this number begins in the shard file, or 2^64 - 1 if
-/// that is beyond it. The shard of a whole block has `cells` cells.
-pub fn record_place(header: &Header, cells: usize, number: u64) -> u64
-    ensures { result ≡ capped (record_place header.now cells number) }
+/// that is beyond it. The shard of a whole block has `words` words.
+pub fn record_place(header: &Header, words: usize, number: u64) -> u64
+    ensures { result ≡ capped (record_place header.now words number) }
 {
-    record_size(header, cells)
+    record_size(header, words)
         .saturating_mul(number)
-        .saturating_add(HEADER_SIZE as u64)
+        .saturating_add(header.format.header_size() as u64)
 }
 
 /// Returns how many bytes the shard file has, or 2^64 - 1 if they are more. The shard of a whole
-/// block has `cells` cells, and that of the last block `last_cells`. A block has one byte or more.
-pub fn file_size(header: &Header, cells: usize, last_cells: usize) -> u64
+/// block has `words` words, and that of the last block `last`. A block has one byte or more.
+pub fn file_size(header: &Header, words: usize, last: usize) -> u64
     requires { 1 ≤ header.now.block }
-    ensures { result ≡ capped (file_size header.now cells last_cells) }
+    ensures { result ≡ capped (file_size header.now words last) }
 {
     let count = block_count(header);
     if count == 0 {
-        return HEADER_SIZE as u64;
+        return header.format.header_size() as u64;
     }
-    record_place(header, cells, count - 1).saturating_add(record_size(header, last_cells))
+    record_place(header, words, count - 1).saturating_add(record_size(header, last))
 }
 
 /// Returns whether a shard with this index, `min` and `total` and so many cells is one of the file
@@ -98,7 +101,7 @@ pub fn fits(header: &Header, block: u64, cells: &[F], stored: &Fingerprints) -> 
 }
 
 /// What the record of a block begins with whose shard has so many cells.
-fn record_numbers(alloc: Global, header: &Header, cells: u32) -> Mem<Vec<u8>>
+pub(crate) fn record_numbers(alloc: Global, header: &Header, cells: u32) -> Mem<Vec<u8>>
     ensures { IfOk result (λ bytes. bytes.items ≡ numbers_spelling header.now cells) }
 {
     let mut bytes = Vec::new(alloc);
@@ -169,8 +172,8 @@ fn are_cells_that_fit(header: &Header, block: u64, count: usize, elements: &[F])
     fits(header, block, cells, &stored)
 }
 
-/// Returns whether the bytes are a record of this block in the file with this header, with so many
-/// cells, and fingerprints that are theirs.
+/// Returns whether the bytes are a record of version 2 of this block in the file with this header,
+/// with so many cells, and fingerprints that are theirs.
 ///
 /// `room` is for its elements: hand in the same for one record after the other.
 pub fn is_record_of(
@@ -216,8 +219,8 @@ fn append_cells(cells: &[F], out: &mut Vec<u8>) -> Mem<()>
     Ok(())
 }
 
-/// Writes the record of this block in the file with this header that has these cells, in place of
-/// what `out` had: the bytes of the cells, a word each, and before and behind them what
+/// Writes the record of version 2 of this block in the file with this header that has these cells,
+/// in place of what `out` had: the bytes of the cells, a word each, and before and behind them what
 /// `is_record_of` asks for. There are fewer than 2^32 cells.
 pub fn write_record(
     alloc: Global,

@@ -8,11 +8,11 @@ pub returns-in_err-read_fingerprints-clause-exact : goal.returns-in_err-read_fin
 returns-in_err-read_fingerprints-clause-exact c =
     let h = c.in_ok-header.header in
     let scanned = header_scanned h c.args.input.now.now c.read_header.new.input.now c.in_ok-header.ensures.admitted c.in_ok-header.ensures.taken c.in_ok-header.ensures.exact in
-    let read = scanned ∙ ap (λ (words : List F). scan_fingerprints words h.keys.first h.keys.second c.read_header.new.input.now) (sym c.words_of.ensures) in
+    let read = scanned ∙ ap (λ (words : List F). scan_fingerprints words h.keys.first h.keys.second c.read_header.new.input.now) (sym c.words_of-words.ensures) in
     rw read (search rules)
 
 pub returns-clause-exact : goal.returns-clause-exact
 returns-clause-exact c =
     let h = c.in_ok-header.header in
     let scanned = header_scanned h c.args.input.now.now c.read_header.new.input.now c.in_ok-header.ensures.admitted c.in_ok-header.ensures.taken c.in_ok-header.ensures.exact in
-    scanned ∙ ap (λ (words : List F). scan_fingerprints words h.keys.first h.keys.second c.read_header.new.input.now) (sym c.words_of.ensures) ∙ c.in_ok-read_fingerprints.ensures.exact
+    scanned ∙ ap (λ (words : List F). scan_fingerprints words h.keys.first h.keys.second c.read_header.new.input.now) (sym c.words_of-words.ensures) ∙ c.in_ok-read_fingerprints.ensures.exact

@@ -1,0 +1,55 @@
+use Rattle.std.proofs.Common.{◌≡◌, ◌∙◌, ℕ, ◌+◌, ◌<◌, ◌^◌, List, [], ◌∷◌, ◌++◌, length, map, take, sym, ap, true≢false, arith}
+use Rattle.std.specs.List.{range_with_len}
+use Rattle.std.proofs.lemmas.Bool.{false≢true}
+use Rattle.std.proofs.lemmas.List.{take_all, take_more_set}
+use Rattle.std.proofs.lemmas.List.FromFn.{map-range_with_len_more}
+use Rattle.math_fields.specs.declared.goldilocks.F.{F}
+use Rattle.math_fields.specs.Elements.{residue}
+use Rattle.systematic_shards.specs.Masks.{masked_number}
+use Rattle.systematic_shards.specs.Words.{word_of_bytes}
+use Rattle.shard_format.proofs.RowElements.{all-more, true-unless}
+use Rattle.shard_format.proofs.rows.write_elements.Goals.{then-not-put_element, else-not-put_element}
+use Rattle.shard_format.proofs.rows.write_elements.Goals as goal
+
+pub loop-k-preserved : goal.loop-k-preserved
+loop-k-preserved c =
+    let row = c.args.row.now in
+    let mask = c.args.mask in
+    let k = c.loop-k.k in
+    let elements = c.loop-k.elements in
+    let f : ℕ → F = λ j. residue (masked_number mask (word_of_bytes row j)) in
+    let inside : k < length elements = omega (arith, c.loop-k-test.true, c.loop-k.auto.elements) in
+    record {
+      words = ap (take (k + 1)) c.put_element.ensures.word ∙ take_more_set elements k (f k) inside ∙ ap (λ (xs : List F). xs ++ f k ∷ []) c.loop-k.invariant.words
+          ∙ sym (map-range_with_len_more f 0 k k (omega arith));
+      are = elim c.if-not-put_element.branch [
+        | then-not-put_element w ↦ rw w.are-is (λ e. absurd (true≢false (sym e)))
+        | else-not-put_element w ↦
+            rw w.are-is (λ e. all-more (λ j. masked_number mask (word_of_bytes row j) < c.args.bound) k (c.loop-k.invariant.are e) (c.put_element.ensures.below.0 w.if-not-put_element.false))
+      ];
+      not = elim c.if-not-put_element.branch [
+        | then-not-put_element w ↦ rw w.are-is (λ e. (k, omega arith, λ b. false≢true (sym w.if-not-put_element.true ∙ c.put_element.ensures.below.1 b)))
+        | else-not-put_element w ↦ rw w.are-is (λ e. let some = c.loop-k.invariant.not e in (some.0, omega (arith, some.1), some.2))
+      ];
+      fit = all-more (λ j. word_of_bytes row j < 2 ^ 64) k c.loop-k.invariant.fit c.put_element.ensures.fit;
+    }
+
+pub returns-clause-words : goal.returns-clause-words
+returns-clause-words c =
+    let k = c.loop-k.k in
+    let elements = c.loop-k.elements in
+    let f : ℕ → F = λ j. residue (masked_number c.args.mask (word_of_bytes c.args.row.now j)) in
+    let all : k ≡ length c.args.elements.now = omega (arith, c.loop-k-test.false, c.loop-k.auto.k-end) in
+    sym (take_all k elements (omega (arith, all, c.loop-k.auto.elements))) ∙ c.loop-k.invariant.words ∙ ap (λ n. map f (range_with_len 0 n)) all
+
+pub returns-clause-below : goal.returns-clause-below
+returns-clause-below c =
+    let all : c.loop-k.k ≡ length c.args.elements.now = omega (arith, c.loop-k-test.false, c.loop-k.auto.k-end) in (
+      λ yes j l. c.loop-k.invariant.are yes j (omega (arith, l, all)),
+      λ every. true-unless c.loop-k.are (λ e. let some = c.loop-k.invariant.not e in some.2 (every some.0 (omega (arith, some.1, all)))),
+    )
+
+pub returns-clause-fit : goal.returns-clause-fit
+returns-clause-fit c = λ j l.
+    let all : c.loop-k.k ≡ length c.args.elements.now = omega (arith, c.loop-k-test.false, c.loop-k.auto.k-end) in
+    c.loop-k.invariant.fit j (omega (arith, l, all))
