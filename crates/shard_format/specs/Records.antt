@@ -26,8 +26,8 @@ record_size h words =
     length (length_spelling h.index) + length (length_spelling h.min) + length (length_spelling h.total) + length (length_spelling words)
     + mask_size h.format + 8 * words + 16
 
--- where the record of the block with this number begins: after the header and as many records of whole blocks, whose shards have `words`
--- words
+-- where the record of the block with this number begins in a file without paths: after the header and as many records of whole blocks,
+-- whose shards have `words` words
 abbrev pub record_place : Header → ℕ → ℕ → ℕ
 record_place h words number = header_size h.format + number * record_size h words
 

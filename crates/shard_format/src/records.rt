@@ -4,7 +4,7 @@
 //! A record is the shard of a block and its two fingerprints. Callers hand in how many words the
 //! shard of a block has: in version 2 its cells, which `shard_blocks` counts, and in version 3 the
 //! words of a row, which `systematic_shards` counts. What stands in a record of version 3 is said in
-//! `rows`.
+//! `rows`. Places, and the size of a file, are those of files without paths.
 
 ghost use Rattle.std.specs.Prelude.{◌≡◌, ◌≢◌, ◌↔◌, ◌<◌, ◌≤◌, ◌^◌, ◌+◌, ◌*◌, ◌++◌, List, length, map, take, OnOk, IsTrue, IsFalse, IfOk, IfSome, IsNone};
 ghost use Rattle.math_fields.specs.declared.goldilocks.F.{F};
