@@ -34,7 +34,8 @@ use std::alloc::{AllocError, AllocFailed, Global};
 use std::fmt::Debug;
 use thiserror::Error;
 
-/// What a call answers that fails only if memory runs out. `math_codec`, which stands on nothing, has the same.
+/// What a call answers that fails only if memory runs out. `math_codec`, which stands on nothing,
+/// has the same.
 pub type Mem<T> = Result<T, AllocError>;
 
 /// A value that can be cloned and compared by its type's own equality.

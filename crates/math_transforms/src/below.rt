@@ -15,11 +15,12 @@
 //! halves of the points. So each half is given the same coefficients, until there are as many rows
 //! as coefficients.
 //!
-//! Only the two functions of a step count, before the rows are turned, and as many butterflies as
-//! the rows in hand have pairs of cells. So no loop counts, a type can turn rows in its own way,
-//! and a step that is refused has counted something. The weights are compared with one, once for
-//! all columns: that saves N - 1 products of a column, and no caller has to say where the entries
-//! are one.
+//! The two functions of a step count before the rows are turned, and as many butterflies as the
+//! rows in hand have pairs of cells. So no loop counts, a type can turn rows in its own way, and a
+//! step that is refused has counted something. Where a type takes four levels of sixteen rows at
+//! once, which is never refused, these are counted behind it. The weights are compared with one,
+//! once for all columns: that saves N - 1 products of a column, and no caller has to say where the
+//! entries are one.
 
 ghost use Rattle.std.specs.Prelude.{
   ◌≡◌,

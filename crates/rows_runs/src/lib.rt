@@ -1,7 +1,8 @@
-//! What the program `rows` does: it runs the calls that the rows of files name, and compares their answers, or runs each of them
-//! again and again, with each of its allocations refused in turn.
+//! What the program `rows` does: it runs the calls that the rows of files name, and compares their
+//! answers, or runs each of them again and again, with each of its allocations refused in turn.
 //!
-//! Each row whose answer differs, or that can't be run, is printed, and then how many answers there were.
+//! Each row whose answer differs, or that can't be run, is printed, and then how many answers there
+//! were.
 #![tactic(auto)]
 
 mod calls;
