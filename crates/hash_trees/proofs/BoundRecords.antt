@@ -1,8 +1,8 @@
 -- What a root binds of records.
 use Rattle.std.proofs.Common.{◌≡◌, ◌⊎◌, ℕ, zero, suc, ◌<◌, ◌≤◌, List, [], ◌∷◌, length, map, refl, sym, ◌∙◌, subst, arith, inl, inr}
 use Rattle.std.specs.Prelude.{slice_index_or}
-use Rattle.hash_trees.specs.Trees.{LeadsTo, leaf_message, root}
-use Rattle.hash_trees.specs.Binding.{OnlyRecordsAreShown, OnlyRecordsAreUnder, PathsLeadUp, RecordsAreBound, RootsAreBound, RootsGoUp, leaves, record_path, records_root}
+use Rattle.hash_trees.specs.Trees.{LeadsTo, leaf_message, path, root}
+use Rattle.hash_trees.specs.Binding.{OnlyLeavesAreUnder, OnlyRecordsAreShown, OnlyRecordsAreUnder, PathsLeadUp, RecordsAreBound, RootsAreBound, RootsGoUp, leaves, record_path, records_root}
 use Rattle.hash_trees.proofs.BoundPaths.{path_binds, path_leads}
 use Rattle.hash_trees.proofs.BoundRoots.{digests-leaves, length-leaves, length-messages, trees_bind}
 use Rattle.hash_trees.proofs.Collisions.{collide_behind, collide_in_front, leaves_bind, same_or_not}
@@ -48,6 +48,11 @@ pub only_records_are_under : OnlyRecordsAreUnder
 only_records_are_under h index records x others s a =
     records_are_bound h (length records) index x (slice_index_or records index []) (records_root h records) others (record_path h records index) s a
     (paths_lead_up h index records a.0)
+
+pub only_leaves_are_under : OnlyLeavesAreUnder
+only_leaves_are_under h index leaves leaf others s size a =
+    path_binds h (length leaves) (length leaves) index leaf (slice_index_or leaves index []) others (path h leaves index) (root h leaves) s size a.1
+    (path_leads h (length leaves) leaves index a.0 (below_power (length leaves)))
 
 pub only_records_are_shown : OnlyRecordsAreShown
 only_records_are_shown h records [] s a = inl tt

@@ -6,7 +6,7 @@ use Rattle.hash_trees.specs.Trees.{LeadsAbove, above, half, is_alone, neighbour,
 use Rattle.hash_trees.proofs.BoundPaths.{alone_down, alone_up, none_down, step_down, step_up}
 use Rattle.hash_trees.proofs.Levels.{half_of_power, length-above}
 
-one_le_power : (n : ℕ) → 1 ≤ 2 ^ n
+pub one_le_power : (n : ℕ) → 1 ≤ 2 ^ n
 one_le_power zero = omega arith
 one_le_power (suc n) =
     let before = one_le_power n in
@@ -21,7 +21,7 @@ below_power (suc n) =
     let twice : 2 ^ suc n ≡ 2 * 2 ^ n = grind arith in
     omega (arith, before, some, twice)
 
-within_power : (m k : ℕ) → m ≤ k → m ≤ 2 ^ k
+pub within_power : (m k : ℕ) → m ≤ k → m ≤ 2 ^ k
 within_power m k l = let below = below_power k in omega (arith, l, below)
 
 -- one level more is that level itself
@@ -35,7 +35,7 @@ root_stays h (suc k) level l =
     let fewer = half_of_power k (length level) l in
     root_stays h k (above h level) (omega (arith, size, fewer))
 
-last_or_before : (n k : ℕ) → n ≤ suc k → (n ≡ suc k) ⊎ (n ≤ k)
+pub last_or_before : (n k : ℕ) → n ≤ suc k → (n ≡ suc k) ⊎ (n ≤ k)
 last_or_before n k l = grind (arith, l)
 
 pub root_enough : (h : List ℕ → List ℕ) (k : ℕ) (level : List (List ℕ)) → length level ≤ k → root_above h k level ≡ root_above h (length level) level

@@ -7,3 +7,8 @@ pub mod Steps
 pub mod BoundRecords
 pub mod KeptLevels
 pub mod FileMessages
+pub mod LoweredNodes
+pub mod WaysDown
+pub mod CountedSteps
+pub mod LevelsOfTrees
+pub mod TrueWays

@@ -78,6 +78,15 @@ OnlyRecordsAreUnder =
     → IsUnder h (length records) index content others (records_root h records)
     → (content ≡ slice_index_or records index []) ⊎ CollidesAt h records index content others
 
+-- a digest that is under the root of some leaves, as long as the leaf at its index, is that leaf, or two different messages that were hashed have the
+-- same digest: to see that it is under the root, and that the leaf is
+abbrev pub OnlyLeavesAreUnder : Type 0
+OnlyLeavesAreUnder =
+    (h : List ℕ → List ℕ) (index : ℕ) (leaves : List (List ℕ)) (leaf : List ℕ) (others : List (List ℕ)) → HasDigests h
+    → length leaf ≡ length (slice_index_or leaves index []) → IsLeafUnder h (length leaves) index leaf others (root h leaves)
+    → (leaf ≡ slice_index_or leaves index [])
+    ⊎ Collide h (on_path h (length leaves) index leaf others) (on_path h (length leaves) index (slice_index_or leaves index []) (path h leaves index))
+
 -- a record that is shown: its index, its bytes, and its path
 pub record Shown : Type 0 where
   pub index : ℕ

@@ -1,7 +1,8 @@
 //! The root of a file that is kept in blocks.
 
-ghost use Rattle.std.specs.Prelude.{◌≡◌, ◌≤◌, ◌<◌, [], length, IfOk};
-ghost use Rattle.hash_trees.specs.Files.{file_message, file_root};
+ghost use Rattle.std.specs.Option.{option_copied};
+ghost use Rattle.std.specs.Prelude.{◌≡◌, ◌≤◌, ◌<◌, [], length, unwrap_or, IfOk};
+ghost use Rattle.hash_trees.specs.Files.{file_message, file_root, file_root_over};
 ghost use Rattle.hash_trees.specs.Trees.{root};
 ghost use Rattle.sha2.specs.Sha512.{sha512_256};
 
@@ -37,6 +38,29 @@ fn file_digest(numbers: FileNumbers, top: &[u8]) -> Digest
     hasher.finalize()
 }
 
+/// Returns the root of a file with these numbers from the top of the tree over its blocks, as
+/// [`file_root`] does from the roots of the blocks. A file without a block has no such tree, and
+/// then the top is `None`.
+///
+/// ```
+/// use hash_trees::{FileNumbers, file_root, file_root_above, leaf_digest, root};
+/// let numbers = FileNumbers { min: 10, total: 16, block_size: 1024, size: 2000 };
+/// let roots = [leaf_digest(b"one"), leaf_digest(b"two")];
+/// let top = root(alloc, &roots)?;
+/// file_root_above(numbers, Some(&top)) == file_root(alloc, numbers, &roots)?; // true
+/// &file_root_above(numbers, Some(&top))[..8]; // [97, 116, 44, 16, 111, 28, 65, 78]
+/// let numbers = FileNumbers { min: 10, total: 16, block_size: 1024, size: 0 };
+/// &file_root_above(numbers, None)[..8]; // [119, 25, 141, 209, 70, 223, 42, 171]
+/// ```
+pub fn file_root_above(numbers: FileNumbers, top: Option<&Digest>) -> Digest
+    ensures { result ≡ file_root_over sha512_256 numbers (unwrap_or (option_copied top.entry) []) }
+{
+    match top {
+        Some(top) => file_digest(numbers, top),
+        None => file_digest(numbers, &[]),
+    }
+}
+
 /// Returns the root of a file with these numbers, whose blocks have these roots.
 ///
 /// It is the digest of a byte of 2, `min`, `total`, `block_size` and `size`, eight bytes each, the
@@ -59,8 +83,8 @@ pub fn file_root(
     ensures { IfOk result (λ top. top ≡ file_root sha512_256 numbers block_roots.now) }
 {
     if block_roots.is_empty() {
-        return Ok(file_digest(numbers, &[]));
+        return Ok(file_root_above(numbers, None));
     }
     let top = root(alloc, block_roots)?;
-    Ok(file_digest(numbers, &top))
+    Ok(file_root_above(numbers, Some(&top)))
 }

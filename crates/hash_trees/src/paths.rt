@@ -1,6 +1,7 @@
 //! Paths from a leaf up to the root.
 
-ghost use Rattle.std.specs.Prelude.{◌≡◌, ◌↔◌, ◌≤◌, ◌<◌, ◌++◌, length, IfOk, IsTrue, OnOk};
+ghost use Rattle.std.specs.Prelude.{◌≡◌, ◌↔◌, ◌≤◌, ◌<◌, ◌++◌, ℕ, List, length};
+ghost use Rattle.std.specs.Prelude.{IfNone, IfOk, IfSome, IsTrue, OnOk};
 ghost use Rattle.hash_trees.specs.Binding.{IsLeafUnder, IsUnder};
 ghost use Rattle.hash_trees.specs.Trees.{LeadsTo, half, is_alone, neighbour, path, step_message};
 ghost use Rattle.sha2.specs.Sha512.{sha512_256};
@@ -11,7 +12,7 @@ use crate::trees::above;
 use std::alloc::{AllocError, Global};
 
 /// How many nodes the level above has.
-fn half(n: usize) -> usize
+pub(crate) fn half(n: usize) -> usize
     ensures { result ≡ half n }
 {
     n / 2 + n % 2
@@ -84,25 +85,58 @@ pub fn path(alloc: Global, leaves: &[Digest], index: usize) -> Result<Vec<Digest
     Ok(others)
 }
 
-/// Whether a path leads from the digest at place `i` of `n` nodes up to this root.
-fn leads_to(n: usize, i: usize, digest: Digest, others: &[Digest], top: &Digest) -> bool
+/// The root that a path leads up to from the digest at place `i` of `n` nodes, if its length fits.
+fn top_above(n: usize, i: usize, digest: Digest, others: &[Digest]) -> Option<Digest>
     requires { i < n }
-    ensures { IsTrue result ↔ LeadsTo sha512_256 n i digest others.now top.now }
+    ensures { (top : List ℕ) → LeadsTo sha512_256 n i digest others.now top ↔ (result ≡ Some top) }
 {
     if n == 1 {
-        return others.is_empty() && digest.as_slice() == top.as_slice();
+        return if others.is_empty() {
+            Some(digest)
+        } else {
+            None
+        };
     }
     if is_alone(n, i) {
-        return leads_to(half(n), i / 2, digest, others, top);
+        return top_above(half(n), i / 2, digest, others);
     }
     let [other, rest @ ..] = others else {
-        return false;
+        return None;
     };
-    leads_to(half(n), i / 2, step_digest(i, &digest, other), rest, top)
+    top_above(half(n), i / 2, step_digest(i, &digest, other), rest)
 }
 
-/// Returns whether the leaf at this index of `total` is under the root `top` by this path. A leaf may
+/// Returns the only root that the leaf at this index of `total` is under by this path. A leaf may
 /// be any digest, as the root of another tree.
+///
+/// There is none if the index is `total` or more, or if the path has a digest too few or too many.
+///
+/// ```
+/// use hash_trees::{leaf_digest, path, root, root_by_path};
+/// let leaves = [leaf_digest(b"one"), leaf_digest(b"two"), leaf_digest(b"three")];
+/// let others = path(alloc, &leaves, 1)?;
+/// &root_by_path(3, 1, &leaves[1], &others).unwrap_or([0; 32])[..4]; // [92, 185, 105, 131]
+/// root_by_path(3, 1, &leaves[1], &others) == Some(root(alloc, &leaves)?); // true
+/// root_by_path(3, 1, &leaves[0], &others) == Some(root(alloc, &leaves)?); // false
+/// root_by_path(3, 2, &leaves[1], &others); // None
+/// root_by_path(3, 3, &leaves[1], &others); // None
+/// ```
+pub fn root_by_path(total: usize, index: usize, leaf: &Digest, others: &[Digest]) -> Option<Digest>
+    ensures some { IfSome result
+        (λ top. IsLeafUnder sha512_256 total index leaf.now others.now top) }
+    ensures only { IfSome result (λ top. (other : List ℕ)
+        → IsLeafUnder sha512_256 total index leaf.now others.now other → other ≡ top) }
+    ensures none { IfNone result ((other : List ℕ)
+        → IsLeafUnder sha512_256 total index leaf.now others.now other → ⊥) }
+{
+    if index >= total {
+        return None;
+    }
+    top_above(total, index, *leaf, others)
+}
+
+/// Returns whether the leaf at this index of `total` is under the root `top` by this path. A leaf
+/// may be any digest, as the root of another tree.
 ///
 /// It answers no if the index is `total` or more, or if the path has a digest too few or too many.
 ///
@@ -124,10 +158,10 @@ pub fn is_leaf_under(
 ) -> bool
     ensures { IsTrue result ↔ IsLeafUnder sha512_256 total index leaf.now others.now top.now }
 {
-    if index >= total {
-        return false;
+    match root_by_path(total, index, leaf, others) {
+        Some(found) => found.as_slice() == top.as_slice(),
+        None => false,
     }
-    leads_to(total, index, *leaf, others, top)
 }
 
 /// Returns whether the record at this index of `total` is under the root `top` by this path.

@@ -1,7 +1,8 @@
 //! A tree that is kept with all its levels.
 
-ghost use Rattle.std.specs.Prelude.{◌≡◌, ◌≤◌, ◌<◌, ◌++◌, ℕ, List, length, map, IfOk, OnOk};
-ghost use Rattle.hash_trees.specs.TreeLevels.{AreLevels, lowest};
+ghost use Rattle.std.specs.Prelude.{◌≡◌, ◌↔◌, ◌≤◌, ◌<◌, ◌++◌, ℕ, List, length, map};
+ghost use Rattle.std.specs.Prelude.{IfOk, IfSome, IsSome, OnOk};
+ghost use Rattle.hash_trees.specs.TreeLevels.{AreChildrenOf, AreLevels, HasChildren, lowest};
 ghost use Rattle.hash_trees.specs.Trees.{path, root};
 ghost use Rattle.sha2.specs.Sha512.{sha512_256};
 
@@ -96,5 +97,35 @@ impl Tree {
         let mut others = Vec::new(alloc);
         add_path_by_levels(&self.levels, index, &mut others)?;
         Ok(others)
+    }
+    /// Returns the digests of the children of the node at this place of this level, the left one
+    /// first. There are none if it has not two children: at level 0 are the leaves, and a node
+    /// without a neighbour goes up as it is.
+    ///
+    /// Places are counted from the left.
+    ///
+    /// ```
+    /// use hash_trees::{Tree, leaf_digest, node_digest};
+    /// let leaves = vec![in alloc; leaf_digest(b"1"), leaf_digest(b"2"), leaf_digest(b"3")]?;
+    /// let tree = Tree::new(alloc, leaves)?;
+    /// tree.pair(1, 0) == Some((leaf_digest(b"1"), leaf_digest(b"2"))); // true
+    /// let (left, right) = tree.pair(2, 0).unwrap_or(([0; 32], [0; 32]));
+    /// node_digest(&left, &right) == tree.root(); // true
+    /// tree.pair(1, 1); // None
+    /// tree.pair(0, 0); // None
+    /// ```
+    pub fn pair(&self, level: usize, place: usize) -> Option<(Digest, Digest)>
+        ensures some { IsSome result ↔ HasChildren sha512_256 self.now level place }
+        ensures pair { IfSome result
+            (λ pair. AreChildrenOf sha512_256 self.now level place pair.0 pair.1) }
+    {
+        if level == 0 || level > self.levels.len() {
+            return None;
+        }
+        let below = &self.levels[level - 1];
+        if place >= below.len() / 2 {
+            return None;
+        }
+        Some((below[2 * place], below[2 * place + 1]))
     }
 }

@@ -9,8 +9,18 @@ use crate::Digest;
 use crate::digests::{leaf_digest, node_digest};
 use std::alloc::{AllocError, Global};
 
-/// The level above.
-pub(crate) fn above(alloc: Global, level: &[Digest]) -> Result<Vec<Digest>, AllocError>
+/// Returns the level above the one with these nodes: a node for each two of them, and the last one
+/// as it is where it has no neighbour.
+///
+/// ```
+/// use hash_trees::{above, leaf_digest, node_digest};
+/// let leaves = [leaf_digest(b"one"), leaf_digest(b"two"), leaf_digest(b"three")];
+/// let nodes = above(alloc, &leaves)?;
+/// nodes.len(); // 2
+/// nodes[0] == node_digest(&leaves[0], &leaves[1]); // true
+/// nodes[1] == leaves[2]; // true
+/// ```
+pub fn above(alloc: Global, level: &[Digest]) -> Result<Vec<Digest>, AllocError>
     ensures { IfOk result (λ nodes. nodes.items ≡ above sha512_256 level.now) }
 {
     let mut nodes = Vec::new(alloc);
