@@ -100,6 +100,7 @@ pub fn commit(
         (root sha512_256 c.tree)) }
     ensures tree { IfOk result (λ c. c.tree
         ≡ leaves sha512_256 (shard_records split c.mask block.now parity.new)) }
+    ensures count { IfOk result (λ c. length c.tree ≡ split.total) }
     ensures few { OnOk result (split.total ≤ 2 ^ 16) }
     ensures due { IfErr result (IsCommitDue split) }
     ensures err { OnErr result (parity.new ≡ parity.old) }

@@ -25,7 +25,7 @@ mod shards;
 
 pub use committing::{Commitment, commit};
 pub use joining::{join_committed, join_under};
-pub use shards::{Shard, is_shard_under};
+pub use shards::{Shard, is_shard_under, root_by_shard};
 use std::alloc::AllocError;
 use thiserror::Error;
 
