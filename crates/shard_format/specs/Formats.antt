@@ -1,5 +1,5 @@
 -- The formats of shard files, and what a header says of its format.
-use Rattle.std.specs.Prelude.{ℕ, ◌+◌, ◌*◌, List, [], ◌∷◌, Bool, ◌==◌, ◌&&◌, if◌then◌else◌}
+use Rattle.std.specs.Prelude.{ℕ, ◌+◌, ◌*◌, List, [], ◌∷◌, Bool, true, false, ◌==◌, ◌&&◌, if◌then◌else◌}
 use Rattle.shard_format.specs.declared.formats.Format.{Format}
 use Rattle.shard_format.specs.declared.formats.Format.TheVariants as formats
 
@@ -20,6 +20,12 @@ abbrev pub paths_words : Format → List ℕ
 paths_words formats.Cells = []
 paths_words formats.Rows = 0 ∷ []
 paths_words formats.RowsWithPaths = 1 ∷ []
+
+-- whether records have paths
+abbrev pub has_paths : Format → Bool
+has_paths formats.Cells = false
+has_paths formats.Rows = false
+has_paths formats.RowsWithPaths = true
 
 -- both formats are the same: they have one version, and both have paths or neither has
 abbrev pub is_same_format : Format → Format → Bool

@@ -1,5 +1,5 @@
 -- The blocks of a file, and the records of a shard file: sizes and places.
-use Rattle.std.specs.Prelude.{◌≡◌, ℕ, zero, suc, ◌+◌, ◌-◌, ◌*◌, ◌/◌, ◌<◌, ◌≤◌, ◌^◌, List, [], ◌∷◌, ◌++◌, length, min}
+use Rattle.std.specs.Prelude.{◌≡◌, ◌≢◌, ℕ, zero, suc, ◌+◌, ◌-◌, ◌*◌, ◌/◌, ◌<◌, ◌≤◌, ◌^◌, ◌&&◌, if◌then◌else◌, nat_lt, List, [], ◌∷◌, ◌++◌, length, min}
 use Rattle.std.specs.Int.{to_be_bytes, w64}
 use Rattle.std.specs.List.{flat_map}
 use Rattle.math_codec.specs.Lengths.{length_spelling}
@@ -7,8 +7,10 @@ use Rattle.math_fields.specs.declared.goldilocks.F.{F}
 use Rattle.shard_fingerprints.specs.declared.pairs.Fingerprints.{Fingerprints}
 use Rattle.shard_fingerprints.specs.Fingerprints.{cell_words, fingerprint}
 use Rattle.math_fields.specs.Elements.{number, same}
-use Rattle.shard_format.specs.Formats.{header_size, mask_size}
+use Rattle.hash_trees.specs.Steps.{path_steps}
+use Rattle.shard_format.specs.Formats.{has_paths, header_size, mask_size}
 use Rattle.shard_format.specs.Headers.{header_spelling}
+use Rattle.shard_format.specs.declared.formats.Format.TheVariants.{RowsWithPaths}
 use Rattle.shard_format.specs.declared.header.Header.{Header}
 
 -- how many blocks the file has: its length by the block size, rounded up
@@ -26,19 +28,33 @@ record_size h words =
     length (length_spelling h.index) + length (length_spelling h.min) + length (length_spelling h.total) + length (length_spelling words)
     + mask_size h.format + 8 * words + 16
 
--- where the record of the block with this number begins in a file without paths: after the header and as many records of whole blocks,
--- whose shards have `words` words
-abbrev pub record_place : Header → ℕ → ℕ → ℕ
-record_place h words number = header_size h.format + number * record_size h words
+-- how many bytes the path behind a record has: 32 for each digest of the path where records have paths and the index is below `total`, and
+-- else none
+abbrev pub path_size : Header → ℕ
+path_size h = if has_paths h.format && nat_lt h.index h.total then 32 * path_steps h.total h.index else 0
 
--- where the records of `number` blocks end, where the shard of the last has `last` words, and the shard of each other one `words`
+-- where the record of the block with this number begins: after the header and as many records of whole blocks, whose shards have `words`
+-- words, each with its path behind it
+abbrev pub record_place : Header → ℕ → ℕ → ℕ
+record_place h words number = header_size h.format + number * (record_size h words + path_size h)
+
+-- where the records of `number` blocks end, with their paths, where the shard of the last has `last` words, and the shard of each other one
+-- `words`
 abbrev pub records_end : Header → ℕ → ℕ → ℕ → ℕ
 records_end h words last zero = header_size h.format
-records_end h words last (suc number) = record_place h words number + record_size h last
+records_end h words last (suc number) = record_place h words number + record_size h last + path_size h
 
--- how many bytes the shard file has: the records of all blocks end where it does
+-- how many bytes a pair of digests has that stands behind the records: 64 where records have paths, and else none
+abbrev pub pair_size : Header → ℕ
+pair_size h = if has_paths h.format then 64 else 0
+
+-- how many bytes all pairs have: there is one pair less than blocks
+abbrev pub pairs_size : Header → ℕ
+pairs_size h = (block_count h - 1) * pair_size h
+
+-- how many bytes the shard file has: it ends with the pairs, which begin where the records and paths of all blocks end
 abbrev pub file_size : Header → ℕ → ℕ → ℕ
-file_size h words last = records_end h words last (block_count h)
+file_size h words last = records_end h words last (block_count h) + pairs_size h
 
 -- a number, and the greatest number of a word in place of each that is greater
 abbrev pub capped : ℕ → ℕ
@@ -89,10 +105,10 @@ record_spelling h block cells =
     let words = cell_words block h.index cells in
     numbers_spelling h (length cells) ++ elements_spelling (cells ++ (fingerprint words h.keys.first ∷ fingerprint words h.keys.second ∷ []))
 
--- the first record begins behind the header, and each further one where the one before it ends
+-- the first record begins behind the header, and each further one where the path of the one before it ends, which follows that
 pub record RecordsFollow (h : Header) (words : ℕ) : Type 0 where
   pub first : record_place h words 0 ≡ length (header_spelling h)
-  pub next : (number : ℕ) → record_place h words (number + 1) ≡ record_place h words number + record_size h words
+  pub next : (number : ℕ) → record_place h words (number + 1) ≡ record_place h words number + record_size h words + path_size h
 
 -- each block but the last has the block size, the last has what is left, which is at least one byte, and there is none beyond
 pub record BlocksMakeFile (h : Header) : Type 0 where
@@ -101,13 +117,19 @@ pub record BlocksMakeFile (h : Header) : Type 0 where
   pub some : (number : ℕ) → number < block_count h → 1 ≤ block_size h number
   pub none : (number : ℕ) → block_count h ≤ number → block_size h number ≡ 0
 
--- the shard file ends where the record of the last block does, or with the header where there is none; each record ends there or before,
--- and its place and size fit a word where the size of the file does
+-- the records and paths end where the path of the last block does; the pairs begin there, one for each block before the last, and the shard
+-- file ends with them; it ends with the record of the last block where there are no paths, and with the header where there is no block; each
+-- record and its path end where the pairs begin or before, and its place and size fit a word where the size of the file does
 pub record RecordsEndWithFile (h : Header) (words last : ℕ) : Type 0 where
-  pub end : (number : ℕ) → number + 1 ≡ block_count h → file_size h words last ≡ record_place h words number + record_size h last
+  pub end : (number : ℕ) → number + 1 ≡ block_count h → records_end h words last (block_count h) ≡ record_place h words number + record_size h last + path_size h
+  pub pairs : (number : ℕ) → number + 1 ≡ block_count h → file_size h words last ≡ records_end h words last (block_count h) + number * pair_size h
+  pub without : h.format ≢ RowsWithPaths → (number : ℕ) → number + 1 ≡ block_count h → file_size h words last ≡ record_place h words number + record_size h last
   pub empty : block_count h ≡ 0 → file_size h words last ≡ length (header_spelling h)
-  pub within : (number : ℕ) → number + 1 < block_count h → record_place h words number + record_size h words ≤ file_size h words last
+  pub within : (number : ℕ) → number + 1 < block_count h → record_place h words number + record_size h words + path_size h ≤ records_end h words last (block_count h)
 
--- where no record has more than twice the bytes of a block, and the file has fewer than 2^62, the size of the shard file fits a word
+-- where no record, with its path and a pair, has more than `times` times the bytes of a block, and so many blocks have fewer than 2^62 and so
+-- many files fewer than 2^63, the size of the shard file fits a word
 abbrev pub FileFits : Header → ℕ → ℕ → Type 0
-FileFits h words last = h.block ≤ 2 ^ 20 → h.length < 2 ^ 62 → record_size h words ≤ 2 * h.block → record_size h last ≤ 2 * h.block → file_size h words last < 2 ^ 64
+FileFits h words last =
+    (times : ℕ) → record_size h words + path_size h + pair_size h ≤ times * h.block → record_size h last + path_size h ≤ times * h.block
+    → times * h.block < 2 ^ 62 → times * h.length < 2 ^ 63 → file_size h words last < 2 ^ 64

@@ -12,8 +12,8 @@ pub enum Format {
     /// Version 3 without paths: rows of the data as they are, and parity rows, as
     /// `systematic_shards` makes them.
     Rows,
-    /// Version 3 with paths: the same rows, each with its path in a tree of hashes. No call makes or
-    /// reads such files yet, and `records` says the places of records in files without paths alone.
+    /// Version 3 with paths: the same rows, each followed by its path in a tree of hashes, and the
+    /// pairs of a tree over the blocks behind the last.
     RowsWithPaths,
 }
 

@@ -10,9 +10,11 @@ pub fn blocks_make_the_file()
     ensures { (h : Header) → 1 ≤ h.block → BlocksMakeFile h }
 {}
 
-/// Records lie one behind the other, the first behind the header, and the shard file ends with that
-/// of the last block. Its size fits a word where that of no record is more than twice the block
-/// size and the file has fewer than 2^62 bytes.
+/// Records lie one behind the other, each with its path behind it, the first behind the header. The
+/// pairs begin where the path of the last block ends, and the shard file ends with them. Without
+/// paths it ends with the record of the last block. Its size fits a word where no record, with its
+/// path and a pair, has more than k times the bytes of a block, k blocks have fewer than 2^62, and
+/// k files fewer than 2^63.
 pub fn records_make_the_shard_file()
     ensures follow { (h : Header) (words : ℕ) → RecordsFollow h words }
     ensures within { (h : Header) (words last : ℕ) → RecordsEndWithFile h words last }

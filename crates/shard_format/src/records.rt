@@ -4,13 +4,16 @@
 //! A record is the shard of a block and its two fingerprints. Callers hand in how many words the
 //! shard of a block has: in version 2 its cells, which `shard_blocks` counts, and in version 3 the
 //! words of a row, which `systematic_shards` counts. What stands in a record of version 3 is said in
-//! `rows`. Places, and the size of a file, are those of files without paths.
+//! `rows`. In files with paths the path of each record follows it, and the pairs of children of the
+//! nodes of a tree over the blocks stand behind the last.
 
 ghost use Rattle.std.specs.Prelude.{◌≡◌, ◌≢◌, ◌↔◌, ◌<◌, ◌≤◌, ◌^◌, ◌+◌, ◌*◌, ◌++◌, List, length, map, take, OnOk, IsTrue, IsFalse, IfOk, IfSome, IsNone};
 ghost use Rattle.math_fields.specs.declared.goldilocks.F.{F};
 ghost use Rattle.shard_format.specs.Records.{AreCellsThatFit, HaveFingerprints, IsRecordOf, IsShardOfHeader, block_count, block_size, capped, element_spelling, elements_spelling, file_size, numbers_spelling, record_place, record_size, record_spelling};
+ghost use Rattle.shard_format.specs.Records.{pairs_size, path_size, records_end};
 
 use crate::header::{Header, write_pair};
+use hash_trees::path_steps;
 use math_base::algebra::Mem;
 use math_codec::codec::{len_size, write_len};
 use math_fields::goldilocks::{F, MODULUS};
@@ -20,6 +23,12 @@ use std::alloc::{AllocError, Global};
 
 /// The number of bytes of the fingerprints of a record: two words.
 pub const FINGERPRINTS_SIZE: usize = 16;
+
+/// The number of bytes of a digest of a path.
+const DIGEST_SIZE: usize = 32;
+
+/// The number of bytes of a pair of digests.
+pub const PAIR_SIZE: u64 = 64;
 
 /// Returns how many blocks the file has. A block has one byte or more.
 pub fn block_count(header: &Header) -> u64
@@ -54,14 +63,55 @@ pub fn record_size(header: &Header, words: usize) -> u64
         .saturating_add(others as u64)
 }
 
+/// Returns how many bytes the path behind a record has: none where records have no paths, or where
+/// the index is that of no shard.
+pub fn path_size(header: &Header) -> usize
+    ensures { result ≡ path_size header.now }
+{
+    if !header.format.has_paths() || header.index >= header.total {
+        return 0;
+    }
+    DIGEST_SIZE * path_steps(header.total as usize, header.index as usize)
+}
+
 /// Returns where the record of the block with this number begins in the shard file, or 2^64 - 1 if
 /// that is beyond it. The shard of a whole block has `words` words.
 pub fn record_place(header: &Header, words: usize, number: u64) -> u64
     ensures { result ≡ capped (record_place header.now words number) }
 {
-    record_size(header, words)
-        .saturating_mul(number)
+    let each = record_size(header, words).saturating_add(path_size(header) as u64);
+    each.saturating_mul(number)
         .saturating_add(header.format.header_size() as u64)
+}
+
+/// Returns where the records and paths of all blocks end in the shard file, and the pairs begin if
+/// there are some, or 2^64 - 1 if that is beyond it. The shard of a whole block has `words` words,
+/// and that of the last block `last`. A block has one byte or more.
+pub fn records_end(header: &Header, words: usize, last: usize) -> u64
+    requires { 1 ≤ header.now.block }
+    ensures { result ≡ capped (records_end header.now words last (block_count header.now)) }
+{
+    let count = block_count(header);
+    if count == 0 {
+        return header.format.header_size() as u64;
+    }
+    record_place(header, words, count - 1)
+        .saturating_add(record_size(header, last))
+        .saturating_add(path_size(header) as u64)
+}
+
+/// Returns how many bytes the pairs behind the records have, or 2^64 - 1 if they are more: 64 for
+/// each block but one, and none where records have no paths. A block has one byte or more.
+pub fn pairs_size(header: &Header) -> u64
+    requires { 1 ≤ header.now.block }
+    ensures { result ≡ capped (pairs_size header.now) }
+{
+    if !header.format.has_paths() {
+        return 0;
+    }
+    block_count(header)
+        .saturating_sub(1)
+        .saturating_mul(PAIR_SIZE)
 }
 
 /// Returns how many bytes the shard file has, or 2^64 - 1 if they are more. The shard of a whole
@@ -70,11 +120,7 @@ pub fn file_size(header: &Header, words: usize, last: usize) -> u64
     requires { 1 ≤ header.now.block }
     ensures { result ≡ capped (file_size header.now words last) }
 {
-    let count = block_count(header);
-    if count == 0 {
-        return header.format.header_size() as u64;
-    }
-    record_place(header, words, count - 1).saturating_add(record_size(header, last))
+    records_end(header, words, last).saturating_add(pairs_size(header))
 }
 
 /// Returns whether a shard with this index, `min` and `total` and so many cells is one of the file

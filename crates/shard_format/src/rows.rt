@@ -185,6 +185,29 @@ fn parts_of<'a>(alloc: Global, numbers: &[u8], width: u32, bytes: &'a [u8]) -> O
     Some(Parts { row, stored })
 }
 
+/// Returns the row of so many words that the bytes begin a record with for this header, whatever
+/// its words and what follows them; or `None` where they begin none: with other numbers, a mask of
+/// 2^32 or more, or too few bytes.
+pub fn row_at<'a>(
+    alloc: Global,
+    header: &Header,
+    width: u32,
+    bytes: &'a [u8],
+) -> Mem<Option<MaskedRow<'a>>>
+    ensures some { IfOk result (λ answer. IfSome answer (λ row. (row.width ≡ width)
+        × ((rest : List ℕ) × (bytes.now
+        ≡ row_spelling header.now row.mask width row.bytes.now ++ rest)))) }
+    ensures none { IfOk result (λ answer. IsNone answer → (mask : ℕ) (row rest : List ℕ)
+        → mask < 2 ^ 32 → length row ≡ 8 * width
+        → bytes.now ≢ row_spelling header.now mask width row ++ rest) }
+{
+    let numbers = record_numbers(alloc, header, width)?;
+    let Some(found) = parts_of(alloc, &numbers, width, bytes) else {
+        return Ok(None);
+    };
+    Ok(Some(found.row))
+}
+
 /// Whether the bytes are the word of the element.
 fn are_word_of(element: F, bytes: &[u8]) -> bool
     ensures { IsTrue result ↔ (bytes.now ≡ to_be_bytes w64 (number element)) }
