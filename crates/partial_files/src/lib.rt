@@ -16,3 +16,4 @@ pub mod names;
 pub mod partial;
 pub mod restored;
 pub mod rights;
+pub mod scratch;

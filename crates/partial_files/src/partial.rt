@@ -1,9 +1,9 @@
 //! One file that is written under another name than its final one.
 
 use crate::fault::{Fault, name_error, owned};
-use crate::names::partial_name;
+use crate::names::{MOST_FILES, partial_name};
 use crate::rights::{rights_at, settle_at, settle_file};
-use std::alloc::Global;
+use std::alloc::{AllocError, Global};
 use std::fs::{self, File, OpenOptions};
 use std::io::{self, ErrorKind, Seek};
 use std::os::unix::fs::{FileExt, OpenOptionsExt};
@@ -33,6 +33,12 @@ impl Manner {
             rights,
             run: u64::from_le_bytes(run),
         })
+    }
+
+    /// The last name of a partial file of the run, in the folder of this one. Other files of the
+    /// run have it only where there are as many as a run writes.
+    pub(crate) fn last_name(&self, alloc: Global, beside: &str) -> Result<String, AllocError> {
+        partial_name(alloc, beside, self.run, MOST_FILES as usize - 1)
     }
 }
 
@@ -184,7 +190,7 @@ impl Partial {
 
 /// A new file with these rights less those that the system takes from every new one. It refuses
 /// where anything is there.
-fn new_file(rt: &HostRuntime, path: &str, rights: u32) -> io::Result<File> {
+pub(crate) fn new_file(rt: &HostRuntime, path: &str, rights: u32) -> io::Result<File> {
     OpenOptions::new()
         .read(true)
         .write(true)

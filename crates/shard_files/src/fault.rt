@@ -28,7 +28,15 @@ pub enum Fault {
     TooFew(String, usize, u32),
     #[error("refused: block {0}: {1}")]
     Block(u64, shard_blocks::Error),
-    #[error("refused: a shard with too many cells")]
+    /// A block that shards under its root give has another root.
+    #[error("refused: block {0}: the root of no data")]
+    BlockRoot(u64),
+    /// No path or pair of the files leads up to the root that is asked for, or to any.
+    #[error("refused: {0}: no shard file leads up to {1}")]
+    NoRoot(String, &'static str),
+    #[error("refused: {0}: the shard files have no paths, by which a root is checked: only split --root writes them")]
+    NoPaths(String),
+    #[error("refused: a shard with too many words")]
     Cells,
     #[error("refused: the system gives no random words that can be keys")]
     Random,

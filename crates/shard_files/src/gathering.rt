@@ -14,16 +14,21 @@ use shard_format::header::{Header, Verdict};
 use shard_format::splits::{Choice, chosen_split};
 use std::alloc::{AllocError, Global};
 
-/// Adds the files that are meant, by rising numbers; those with no number come first.
-fn open_files(
+/// Adds the files that are meant, by rising numbers; those with no number come first. It leaves out
+/// those whose headers say by themselves that they are no shards with their numbers.
+pub(crate) fn open_files(
     rt: &HostRuntime,
     wanted: &WantedFiles,
     files: &mut Vec<ShardFile>,
 ) -> Result<(), Fault> {
     match wanted {
-        WantedFiles::Beside(file) => open_beside(rt, file, files),
-        WantedFiles::Named(names) => open_named(rt, names, files),
+        WantedFiles::Beside(file) => open_beside(rt, file, files)?,
+        WantedFiles::Named(names) => open_named(rt, names, files)?,
     }
+    for shard in files.iter_mut() {
+        leave_out_wrong(shard);
+    }
+    Ok(())
 }
 
 /// Adds the files that lie beside the file under names of its shards.
@@ -83,16 +88,11 @@ pub fn gather(
     ensures { IfOk result (λ split. IsPossible split.header) }
 {
     open_files(rt, wanted, files)?;
-    for shard in files.iter_mut() {
-        leave_out_wrong(shard);
-    }
     let split = split_of(rt, wanted, files)?;
     for shard in files.iter_mut() {
         leave_out_others(shard, &split.header);
-        if matches!(wanted, WantedFiles::Named(_)) && !shard.is_used() {
-            shard.number = None;
-        }
     }
+    forget_numbers(wanted, files);
     let is_long = may_end_before || files.iter().any(|shard| is_whole(shard));
     for shard in files.iter_mut() {
         note_length(shard, is_long);
@@ -103,8 +103,17 @@ pub fn gather(
     Ok(split)
 }
 
+/// Forgets the numbers of files that are not of the split, where any name is taken.
+pub(crate) fn forget_numbers(wanted: &WantedFiles, files: &mut [ShardFile]) {
+    for shard in files.iter_mut() {
+        if matches!(wanted, WantedFiles::Named(_)) && !shard.is_used() {
+            shard.number = None;
+        }
+    }
+}
+
 /// The split that the files give.
-fn split_of(rt: &HostRuntime, wanted: &WantedFiles, files: &[ShardFile]) -> Result<Split, Fault>
+pub fn split_of(rt: &HostRuntime, wanted: &WantedFiles, files: &[ShardFile]) -> Result<Split, Fault>
     ensures { IfOk result (λ split. IsPossible split.header) }
 {
     let headers = headers_of(rt.alloc(), files)?;
@@ -135,7 +144,7 @@ fn tie(
 
 /// The fault of files of which none counts. Where the name that is meant is that of a shard file,
 /// it says what is to be given in its place.
-fn no_shard(rt: &HostRuntime, wanted: &WantedFiles) -> Result<Fault, Fault> {
+pub(crate) fn no_shard(rt: &HostRuntime, wanted: &WantedFiles) -> Result<Fault, Fault> {
     let label = owned(rt.alloc(), wanted.label())?;
     let WantedFiles::Beside(name) = wanted else {
         return Ok(Fault::NoShard(label));
@@ -261,13 +270,13 @@ pub fn first_rights(files: &[ShardFile]) -> u32 {
     0
 }
 
-/// Whether it is a file of the split that is as long as its header says, or longer.
+/// Whether it is a file of the split that has all records that its header says, by its length.
 fn is_whole(file: &ShardFile) -> bool {
     let Some(source) = &file.source else {
         return false;
     };
     match Split::possible(&source.header) {
-        Some(split) => source.metadata.len() >= split.size_of_file(),
+        Some(split) => source.metadata.len() >= split.records_end(source.header.index),
         None => false,
     }
 }
@@ -275,17 +284,17 @@ fn is_whole(file: &ShardFile) -> bool {
 /// Notes a file that goes on after the shard of its last block; its shards are used. One that ends
 /// before is noted too, but where others are as long as they say: then its blocks that are not
 /// there are counted.
-fn note_length(file: &mut ShardFile, is_long: bool) {
+pub(crate) fn note_length(file: &mut ShardFile, is_long: bool) {
     let Some(source) = &file.source else {
         return;
     };
     let Some(split) = Split::possible(&source.header) else {
         return;
     };
-    let size = split.size_of_file();
+    let (end, size) = (split.records_end(source.header.index), split.size_of_file());
     if source.metadata.len() > size {
         file.fault = Some("goes on after its last block");
-    } else if source.metadata.len() < size && !is_long {
+    } else if source.metadata.len() < end && !is_long {
         file.fault = Some("ends before its last block");
     }
 }

@@ -50,6 +50,11 @@ pub struct ShardFile {
     pub first_lost: u64,
     /// What is wrong with the first of them.
     pub why: &'static str,
+    /// In how many blocks its shard is used though something is wrong with it, the first of them,
+    /// and what.
+    pub flawed: u64,
+    pub first_flawed: u64,
+    pub flaw: &'static str,
     /// Whether a file that is being written takes its place.
     pub is_replaced: bool,
 }
@@ -76,6 +81,9 @@ impl ShardFile {
             lost: 0,
             first_lost: 0,
             why: "",
+            flawed: 0,
+            first_flawed: 0,
+            flaw: "",
             is_replaced: false,
         })
     }
@@ -99,7 +107,7 @@ impl ShardFile {
 
     /// Whether nothing was found wrong with it.
     pub fn is_sound(&self) -> bool {
-        self.fault.is_none() && self.lost == 0
+        self.fault.is_none() && self.lost == 0 && self.flawed == 0
     }
 
     /// Leaves the file out of the split.
@@ -115,6 +123,22 @@ impl ShardFile {
             self.why = why;
         }
         self.lost = self.lost.saturating_add(1);
+    }
+
+    /// Notes that its shard of a block is used, though something is wrong with it.
+    pub fn add_flawed_block(&mut self, block: u64, flaw: &'static str) {
+        if self.flawed == 0 {
+            self.first_flawed = block;
+            self.flaw = flaw;
+        }
+        self.flawed = self.flawed.saturating_add(1);
+    }
+
+    /// Notes what is wrong with all of it, where nothing was noted yet. Its shards are used.
+    pub fn note(&mut self, fault: &'static str) {
+        if self.fault.is_none() {
+            self.fault = Some(fault);
+        }
     }
 
     /// Reads as many bytes as the buffer has, from there on, and says whether they are there and
@@ -197,8 +221,7 @@ fn open_source(
 fn read_header(alloc: Global, bytes: &[u8]) -> Result<Result<Header, &'static str>, AllocError> {
     let mut rest = bytes;
     match Header::read_cfg(alloc, &mut rest, &()) {
-        Ok(header) if header.format.has_cells() => Ok(Ok(header)),
-        Ok(_) => Ok(Err(ANOTHER_VERSION)),
+        Ok(header) => Ok(Ok(header)),
         Err(codec::Error::Memory(error)) => Err(error),
         Err(error) => Ok(Err(what_is_wrong(error))),
     }
@@ -209,7 +232,7 @@ fn what_is_wrong(error: codec::Error) -> &'static str {
     match error {
         codec::Error::EndOfBuffer => "has no whole header",
         codec::Error::Invalid(_, "mark") => "has no header of a shard file",
-        codec::Error::Invalid(_, "version" | "paths") => ANOTHER_VERSION,
+        codec::Error::Invalid(_, "version") => ANOTHER_VERSION,
         codec::Error::Invalid(_, "number") => IMPOSSIBLE_HEADER,
         codec::Error::Invalid(_, "fingerprint") => ANOTHER_FINGERPRINT,
         _ => DAMAGED_HEADER,

@@ -15,8 +15,9 @@ use shard_blocks::cells_for;
 use shard_fingerprints::Keys;
 use shard_format::formats::Format;
 use shard_format::header::Header;
-use shard_format::records::{block_count, block_size, file_size};
+use shard_format::records::{block_count, block_size, file_size, record_size, records_end};
 use std::random::RandomSource;
+use systematic_shards::Split as RowSplit;
 
 /// How many bytes a block has at least, where it may have so many: then all that is done with it
 /// stays in the processor's cache.
@@ -63,14 +64,25 @@ impl Split {
         None
     }
 
-    /// A new split of so many bytes, with keys that the system draws.
-    pub fn draw(rt: &HostRuntime, min: u32, total: u32, length: u64) -> Result<Split, Fault>
+    /// A new split of so many bytes in rows, with keys that the system draws.
+    pub fn draw(
+        rt: &HostRuntime,
+        min: u32,
+        total: u32,
+        length: u64,
+        has_paths: bool,
+    ) -> Result<Split, Fault>
         requires some { 1 ≤ min }
         requires within { min ≤ total }
         ensures { IfOk result (λ split. split.header.length ≡ length) }
     {
+        let format = if has_paths {
+            Format::RowsWithPaths
+        } else {
+            Format::Rows
+        };
         let header = Header {
-            format: Format::Cells,
+            format,
             index: 0,
             min,
             total,
@@ -82,7 +94,9 @@ impl Split {
     }
 
     /// The header of its shard file with this index.
-    pub fn header_of(&self, index: u32) -> Header {
+    pub fn header_of(&self, index: u32) -> Header
+        ensures { result.block ≡ self.now.header.block }
+    {
         Header {
             index,
             ..self.header
@@ -114,15 +128,64 @@ impl Split {
         }
     }
 
+    /// The first block.
+    pub fn first_block(&self) -> Block {
+        Block {
+            number: 0,
+            bytes: block_size(&self.header, 0),
+        }
+    }
+
+    /// How a block of so many bytes is cut into rows. It refuses where it has too many words.
+    pub fn rows_of(&self, bytes: u32) -> Result<RowSplit, Fault>
+        ensures { IfOk result (λ rows. (rows.size ≡ bytes)
+            × (rows.min ≡ self.now.header.min) × (rows.total ≡ self.now.header.total)) }
+    {
+        match RowSplit::new(self.header.min, self.header.total, bytes as usize) {
+            Ok(rows) => Ok(rows),
+            Err(_) => Err(Fault::Cells),
+        }
+    }
+
+    /// How many words each shard of a block of so many bytes has: its cells, or those of a row.
+    fn count_words(&self, bytes: u32) -> usize {
+        if self.header.format.has_cells() {
+            return cells_for(bytes as usize, self.header.min);
+        }
+        u64::from(bytes).div_ceil(8 * u64::from(self.header.min)) as usize
+    }
+
+    /// How many words each shard of a block of so many bytes has. It refuses where these are 2^32
+    /// or more.
+    pub fn words_of(&self, bytes: u32) -> Result<u32, Fault> {
+        match u32::try_from(self.count_words(bytes)) {
+            Ok(words) => Ok(words),
+            Err(_) => Err(Fault::Cells),
+        }
+    }
+
+    /// How many bytes the record of a block of so many bytes has, without its path.
+    pub fn record_bytes(&self, bytes: u32) -> u64 {
+        record_size(&self.header, self.count_words(bytes))
+    }
+
+    /// How many words each shard of a whole block has, and each of the last one.
+    fn word_counts(&self) -> (usize, usize) {
+        let count = block_count(&self.header);
+        let last = block_size(&self.header, count.saturating_sub(1));
+        (self.count_words(self.header.block), self.count_words(last))
+    }
+
+    /// Where the records of the shard file with this index end.
+    pub fn records_end(&self, index: u32) -> u64 {
+        let (words, last) = self.word_counts();
+        records_end(&self.header_of(index), words, last)
+    }
+
     /// The number of bytes of the shard file with this header.
     pub fn size_of_file(&self) -> u64 {
-        let header = &self.header;
-        let last = block_size(header, block_count(header).saturating_sub(1));
-        file_size(
-            header,
-            cells_for(header.block as usize, header.min),
-            cells_for(last as usize, header.min),
-        )
+        let (words, last) = self.word_counts();
+        file_size(&self.header, words, last)
     }
 }
 

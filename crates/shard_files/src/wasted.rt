@@ -5,8 +5,6 @@
 
 use crate::sources::ShardFile;
 use crate::split::{Block, Split};
-use shard_blocks::cells_for;
-use shard_format::records::record_size;
 
 /// How many bytes of records are read for nothing before no more blocks are looked at.
 const MOST: u64 = 1 << 30;
@@ -46,9 +44,7 @@ impl WastedReads {
         let used = files.iter().filter(|file| file.is_used()).count() as u64;
         let lost = count_lost(files);
         if is_refused && lost.saturating_sub(self.lost) == used {
-            let cells = cells_for(block.bytes as usize, split.header.min);
-            let size = record_size(&split.header, cells);
-            let read = used.saturating_mul(size.max(LEAST_RECORD));
+            let read = used.saturating_mul(split.record_bytes(block.bytes).max(LEAST_RECORD));
             self.blocks = self.blocks.saturating_add(1);
             self.bytes = self.bytes.saturating_add(read);
         }

@@ -2,16 +2,21 @@
 
 ghost use Rattle.std.specs.Prelude.{◌≡◌, ◌+◌, ◌*◌, ◌<◌, ◌≤◌, ◌^◌, All, length, IfOk, OnOk};
 
+use crate::cell_writer::CellWriter;
 use crate::fault::Fault;
+use crate::pairs::{compare_pairs, write_pairs};
+pub use crate::row_writer::Known;
+use crate::row_writer::{RowWriter, Target};
+use crate::sources::ShardFile;
 use crate::split::Split;
-use math_fields::goldilocks::F;
+use crate::tree::numbers_of;
+use hash_trees::{Digest, file_root_above};
 use partial_files::finishing::{folders_of, name_all, remove_all};
 use partial_files::names::MOST_FILES;
 use partial_files::partial::{Manner, Partial};
-use shard_blocks::split_block_rows_at;
-use shard_format::header::{LARGEST_HEADER, header_bytes};
-use shard_format::records::write_record;
-use std::alloc::Global;
+use shard_fingerprints::Keys;
+use shard_format::header::{Header, LARGEST_HEADER, header_bytes};
+use std::alloc::{AllocError, Global};
 
 /// How many shard files are kept open at once, at most. Others are opened again for each block.
 pub const MOST_KEPT_OPEN: usize = 24;
@@ -21,49 +26,53 @@ pub const MOST_KEPT_OPEN: usize = 24;
 pub struct ShardWriter {
     how: Manner,
     partials: Vec<Partial>,
-    /// The index of the shards of each of them.
+    /// The index of the shards of each of them, and its keys.
     pub indices: Vec<u32>,
+    keys: Vec<Keys>,
     /// The number of bytes that are known and whose shards are still to be written.
     pub left: u64,
     pub split: Split,
     /// The number of the next block.
     block: u64,
-    /// Room for the shards of a block, and for one record.
-    rows: Vec<F>,
-    record: Vec<u8>,
+    cells: CellWriter,
+    rows: RowWriter,
     pub ghost below: { All (λ i. i < split.header.total) indices.items },
 }
 
-/// Which block of which split is written, and how many cells each of its shards has.
-#[derive(Clone, Copy)]
-struct BlockShards {
-    split: Split,
-    number: u64,
-    width: usize,
-    ghost few: { width < 2 ^ 32 },
-}
-
 impl ShardWriter {
-    /// No file yet, for a file that is split so.
-    pub fn new(alloc: Global, split: &Split, how: Manner) -> ShardWriter
-        ensures left { result.left ≡ split.now.header.length }
-        ensures split { result.split ≡ split.now }
+    /// No file yet, for a file that is split so. What the run keeps for itself goes to the folder
+    /// of this name.
+    pub fn new(
+        alloc: Global,
+        split: &Split,
+        how: Manner,
+        beside: &str,
+    ) -> Result<ShardWriter, AllocError>
+        ensures left { IfOk result (λ writer. writer.left ≡ split.now.header.length) }
+        ensures split { IfOk result (λ writer. writer.split ≡ split.now) }
     {
-        ShardWriter {
+        Ok(ShardWriter {
             how,
             partials: Vec::new(alloc),
             indices: Vec::new(alloc),
+            keys: Vec::new(alloc),
             left: split.header.length,
             split: *split,
             block: 0,
-            rows: Vec::new(alloc),
-            record: Vec::new(alloc),
-        }
+            cells: CellWriter::new(alloc),
+            rows: RowWriter::new(alloc, beside, how)?,
+        })
     }
 
-    /// Adds a file for the shards with this index. Its header is zeros. It refuses where there are
-    /// as many as a run writes.
-    pub fn add(&mut self, rt: &HostRuntime, path: String, index: u32) -> Result<(), Fault>
+    /// Adds a file for the shards with this index, under these keys. Its header is zeros. It
+    /// refuses where there are as many as a run writes.
+    pub fn add(
+        &mut self,
+        rt: &HostRuntime,
+        path: String,
+        index: u32,
+        keys: Keys,
+    ) -> Result<(), Fault>
         requires { index < self.old.split.header.total }
         ensures few { OnOk result (length self.new.indices.items ≤ 65536) }
         ensures left { self.new.left ≡ self.old.left }
@@ -74,6 +83,7 @@ impl ShardWriter {
             return Err(Fault::TooManyFiles);
         }
         self.partials.reserve(1)?;
+        self.keys.push(keys)?;
         self.indices.push(index)?;
         let mut partial = Partial::create(rt, path, &self.how, number)?;
         let size = self.split.header.format.header_size();
@@ -110,118 +120,141 @@ impl ShardWriter {
         Ok(())
     }
 
-    /// Writes the shards of the next block, one to each of the files.
-    pub fn write(&mut self, rt: &HostRuntime, bytes: &[u8]) -> Result<(), Fault>
+    /// The root of the next block, where records have paths. It refuses a block whose mask or root
+    /// is not the one that is known.
+    pub fn root_of(
+        &mut self,
+        alloc: Global,
+        bytes: &[u8],
+        known: Known,
+    ) -> Result<Option<Digest>, Fault>
+        ensures left { self.new.left ≡ self.old.left }
+        ensures split { self.new.split ≡ self.old.split }
+    {
+        if !self.split.header.format.has_paths() {
+            return Ok(None);
+        }
+        let target = Target {
+            split: &self.split,
+            number: self.block,
+            indices: &self.indices,
+            keys: &self.keys,
+        };
+        let root = self.rows.commit(alloc, target, bytes, known)?;
+        Ok(Some(root))
+    }
+
+    /// Writes the shards of the next block, one to each of the files. It refuses a block whose mask
+    /// or root is not the one that is known.
+    pub fn write(&mut self, rt: &HostRuntime, bytes: &[u8], known: Known) -> Result<(), Fault>
         requires { length bytes.now ≤ self.old.left }
         ensures { OnOk result (self.new.left + length bytes.now ≡ self.old.left) }
     {
-        if !self.indices.is_empty() {
-            let width = fill_rows(
-                rt.alloc(),
-                &self.split,
-                &self.indices,
-                bytes,
-                &mut self.rows,
-            )?;
-            let block = BlockShards {
-                split: self.split,
-                number: self.block,
-                width,
+        let number = self.block;
+        if self.split.header.format.has_cells() {
+            if !self.indices.is_empty() {
+                self.cells.write(
+                    rt,
+                    &self.split,
+                    number,
+                    bytes,
+                    &self.indices,
+                    &mut self.partials,
+                )?;
+            }
+        } else {
+            let target = Target {
+                split: &self.split,
+                number,
+                indices: &self.indices,
+                keys: &self.keys,
             };
-            append_rows(
-                rt,
-                &block,
-                &self.indices,
-                &self.rows,
-                &mut self.partials,
-                &mut self.record,
-            )?;
+            self.rows
+                .write(rt, target, bytes, known, &mut self.partials)?;
         }
         self.block = self.block.saturating_add(1);
         self.left -= bytes.len() as u64;
         Ok(())
     }
 
-    /// Writes the headers, and gives the files their names, once the shards of all bytes are
-    /// written.
+    /// The root of the block with this number that was written, where records have paths.
+    pub fn root_before(&self, rt: &HostRuntime, number: usize) -> Result<Option<Digest>, Fault> {
+        if !self.split.header.format.has_paths() {
+            return Ok(None);
+        }
+        self.rows.roots.root(rt, number)
+    }
+
+    /// Compares the pairs of each file with those of the tree over all blocks, which were written,
+    /// and notes at the file where one is another.
+    pub fn note_pairs(&mut self, rt: &HostRuntime, files: &mut [ShardFile]) -> Result<(), Fault>
+        ensures left { self.new.left ≡ self.old.left }
+    {
+        let split = self.split;
+        compare_pairs(rt, &split, &mut self.rows.roots, files)
+    }
+
+    /// Writes the pairs and the headers, and gives the files their names, once the shards of all
+    /// bytes are written. It answers the root of the file, where records have paths.
     ///
     /// Where it refuses before a file has its name, what was written is removed. Later all of it
     /// stays, under final names or not: files that were replaced are gone, and these may be all
     /// there is. Where all have their names, and some a second one too, it refuses at the end.
-    pub fn finish(self, rt: &HostRuntime) -> Result<(), Fault>
+    pub fn finish(self, rt: &HostRuntime) -> Result<Option<Digest>, Fault>
         requires { self.left ≡ 0 }
     {
-        match settle_all(rt, &self.partials, &self.indices, &self.split) {
-            Ok(folders) => Ok(name_all(rt, &self.partials, folders)?),
+        let mut writer = self;
+        match writer.settle(rt) {
+            Ok((root, folders)) => {
+                writer.rows.roots.remove(rt);
+                name_all(rt, &writer.partials, folders)?;
+                Ok(root)
+            }
             Err(fault) => {
-                self.discard(rt);
+                writer.discard(rt);
                 Err(fault)
             }
         }
     }
 
+    /// Writes the pairs and the headers, and has the system write all files to the device. It
+    /// answers the root of the file, where records have paths, and the folders of the files, so
+    /// that no memory is taken once a file has its final name.
+    fn settle(&mut self, rt: &HostRuntime) -> Result<(Option<Digest>, Vec<String>), Fault> {
+        let root = self.write_tree(rt)?;
+        for (place, partial) in self.partials.iter().enumerate() {
+            let header = self.header(place);
+            partial.write_first(rt, &header_bytes(rt.alloc(), &header)?)?;
+            partial.settle(rt)?;
+        }
+        Ok((root, folders_of(rt.alloc(), &self.partials)?))
+    }
+
+    /// Writes the pairs of the tree over all blocks, where records have paths, and gives the root of
+    /// the file.
+    fn write_tree(&mut self, rt: &HostRuntime) -> Result<Option<Digest>, Fault> {
+        if !self.split.header.format.has_paths() {
+            return Ok(None);
+        }
+        let numbers = numbers_of(&self.split.header);
+        let top = write_pairs(rt, &mut self.rows.roots, &mut self.partials)?;
+        Ok(Some(file_root_above(numbers, top.as_ref())))
+    }
+
+    /// The header of the file at this place.
+    fn header(&self, place: usize) -> Header {
+        let target = Target {
+            split: &self.split,
+            number: 0,
+            indices: &self.indices,
+            keys: &self.keys,
+        };
+        target.header(place)
+    }
+
     /// Removes what was written.
     pub fn discard(self, rt: &HostRuntime) {
+        self.rows.roots.remove(rt);
         remove_all(rt, &self.partials);
     }
-}
-
-/// Writes the shards of a block with these indices over the rows, and gives how many cells each
-/// has.
-fn fill_rows(
-    alloc: Global,
-    split: &Split,
-    indices: &[u32],
-    bytes: &[u8],
-    rows: &mut Vec<F>,
-) -> Result<usize, Fault>
-    requires { All (λ i. i < split.now.header.total) indices.now }
-    ensures few { IfOk result (λ width. width < 2 ^ 32) }
-    ensures size { IfOk result (λ width. length rows.new.items ≡ length indices.now * width) }
-{
-    let width = split.cells_of(bytes.len())? as usize;
-    let Some(size) = indices.len().checked_mul(width) else {
-        return Err(Fault::Cells);
-    };
-    rows.resize(size, F::from(0))?;
-    let (min, total) = (split.header.min, split.header.total);
-    split_block_rows_at(alloc, bytes, min, total, indices, rows)?;
-    Ok(width)
-}
-
-/// Writes a record at the end of each file: the row of its index, and its fingerprints.
-fn append_rows(
-    rt: &HostRuntime,
-    block: &BlockShards,
-    indices: &[u32],
-    rows: &[F],
-    partials: &mut [Partial],
-    record: &mut Vec<u8>,
-) -> Result<(), Fault>
-    requires { length rows.now ≡ length indices.now * block.now.width }
-{
-    let width = block.width;
-    for t in 0..indices.len().min(partials.len()) {
-        let header = block.split.header_of(indices[t]);
-        let row = &rows[t * width..(t + 1) * width];
-        write_record(rt.alloc(), &header, block.number, row, record)?;
-        partials[t].append(rt, record)?;
-    }
-    Ok(())
-}
-
-/// Writes the headers, and has the system write all files to the device. It answers their folders,
-/// so that no memory is taken once a file has its final name.
-fn settle_all(
-    rt: &HostRuntime,
-    partials: &[Partial],
-    indices: &[u32],
-    split: &Split,
-) -> Result<Vec<String>, Fault> {
-    for (partial, index) in partials.iter().zip(indices) {
-        let header = split.header_of(*index);
-        partial.write_first(rt, &header_bytes(rt.alloc(), &header)?)?;
-        partial.settle(rt)?;
-    }
-    Ok(folders_of(rt.alloc(), partials)?)
 }

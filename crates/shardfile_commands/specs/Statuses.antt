@@ -22,6 +22,9 @@ judged_files (faults.IsShard _ _) = Lost
 judged_files (faults.Length _) = Lost
 judged_files (faults.TooFew _ _ _) = Lost
 judged_files (faults.Block _ _) = Lost
+judged_files (faults.BlockRoot _) = Lost
+judged_files (faults.NoRoot _ _) = Lost
+judged_files (faults.NoPaths _) = Lost
 judged_files _ = Unknown
 
 -- the status of a run of `check` or `repair` that this refusal ends: one for lost shards or blocks, one for files that do not fit, one for

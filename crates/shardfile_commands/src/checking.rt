@@ -7,10 +7,12 @@ ghost use Rattle.shardfile_commands.specs.declared.status.Status.TheVariants.{Lo
 use crate::listing::{list, list_unsound};
 use crate::progress::Progress;
 use crate::refusal::Refusal;
+use hash_trees::Digest;
 use partial_files::fault::owned;
 use shard_files::blocks::{BlockReader, Look};
 use shard_files::fault::Fault;
-use shard_files::gathering::{check_count, count_there, gather};
+use shard_files::gathering::{check_count, count_there};
+use shard_files::roots::{BlockTree, Reading, gather_split};
 use shard_files::sources::{ShardFile, is_want_of_room};
 use shard_files::split::{Block, Split};
 use shard_files::wanted::WantedFiles;
@@ -31,7 +33,7 @@ impl Findings {
     /// Notes that a block is refused. Where memory or room for an open file ran out nothing is
     /// found.
     fn add_refused_block(&mut self, fault: Fault) -> Result<(), Fault> {
-        if !matches!(fault, Fault::Block(..)) {
+        if !matches!(fault, Fault::Block(..) | Fault::BlockRoot(_)) {
             return Err(fault);
         }
         self.refused = self.refused.saturating_add(1);
@@ -57,6 +59,7 @@ pub struct Checked {
 fn try_blocks(
     rt: &HostRuntime,
     split: &Split,
+    tree: Option<BlockTree>,
     files: &mut [ShardFile],
     compares_all: bool,
 ) -> Result<Findings, Fault> {
@@ -67,7 +70,7 @@ fn try_blocks(
         wasted: WastedReads::new(files),
     };
     let mut progress = Progress::new(rt, split.header.length);
-    let mut reader = BlockReader::new(rt.alloc(), split);
+    let mut reader = BlockReader::new(rt.alloc(), split, tree, true);
     let mut left = split.header.length;
     while left > 0 {
         let block = split.block_of(findings.blocks, left);
@@ -78,6 +81,7 @@ fn try_blocks(
         if let Err(fault) = tried {
             findings.add_refused_block(fault)?;
         }
+        reader.note_paths(files, block, None);
         findings.blocks = findings.blocks.saturating_add(1);
         if findings.wasted.is_too_much() {
             break;
@@ -113,10 +117,21 @@ fn reason_of(alloc: Global, fault: &Fault) -> Result<String, AllocError> {
 
 /// A line for each shard of the split and each other file that is meant, and one for what they
 /// give; and why it is refused, where not all shards are there and fit.
-pub fn check(rt: &HostRuntime, wanted: &WantedFiles, compares_all: bool) -> Result<Checked, Fault> {
+pub fn check(
+    rt: &HostRuntime,
+    wanted: &WantedFiles,
+    root: Option<Digest>,
+    compares_all: bool,
+) -> Result<Checked, Fault> {
     let mut files = Vec::new(rt.alloc());
-    match gather(rt, wanted, &mut files, false) {
-        Ok(split) => check_split(rt, wanted, &split, &mut files, compares_all),
+    let reading = Reading {
+        root,
+        may_end_before: false,
+        compares_pairs: true,
+        follows_claim: true,
+    };
+    match gather_split(rt, wanted, &reading, &mut files) {
+        Ok((split, tree)) => check_split(rt, wanted, &split, tree, &mut files, compares_all),
         Err(fault) if is_of_headers(&fault) => {
             let text = unjudged(rt.alloc(), &files, &fault)?;
             Ok(Checked {
@@ -135,7 +150,12 @@ fn is_of_headers(fault: &Fault) -> bool {
         Fault::Folder(_, error) => !is_want_of_room(error),
         fault => matches!(
             fault,
-            Fault::NoShard(_) | Fault::IsShard(..) | Fault::Tie(..) | Fault::Length(_)
+            Fault::NoShard(_)
+                | Fault::IsShard(..)
+                | Fault::Tie(..)
+                | Fault::Length(_)
+                | Fault::NoRoot(..)
+                | Fault::NoPaths(_)
         ),
     }
 }
@@ -153,10 +173,11 @@ fn check_split(
     rt: &HostRuntime,
     wanted: &WantedFiles,
     split: &Split,
+    tree: Option<BlockTree>,
     files: &mut [ShardFile],
     compares_all: bool,
 ) -> Result<Checked, Fault> {
-    let findings = try_blocks(rt, split, files, compares_all)?;
+    let findings = try_blocks(rt, split, tree, files, compares_all)?;
     let mut text = String::new(rt.alloc());
     list(rt.alloc(), wanted, split.header.total, files, &mut text)?;
     let is_restored = write_findings(rt.alloc(), wanted, split, files, &findings, &mut text)?;

@@ -7,28 +7,34 @@ pub enum Command {
     Join,
     Repair,
     Check,
+    Root,
     Clean,
 }
 
 /// How each command is used, one way a line.
 const SPLIT: &str = "\
-shardfile split [--force] [--to FOLDER] MIN TOTAL FILE
-       shardfile split [--force] [--to FOLDER] --name NAME MIN TOTAL -
+shardfile split [--force] [--root] [--to FOLDER] MIN TOTAL FILE
+       shardfile split [--force] [--root] [--to FOLDER] --name NAME MIN TOTAL -
 ";
 
 const JOIN: &str = "\
-shardfile join [--force] [--all] [--partial] FILE OUT
-       shardfile join [--force] [--all] [--partial] --shards OUT SHARD ..
+shardfile join [--force] [--all] [--partial] [--root HEX] FILE OUT
+       shardfile join [--force] [--all] [--partial] [--root HEX] --shards OUT SHARD ..
 ";
 
 const REPAIR: &str = "\
-shardfile repair [--force] [--all] [--only N,M] FILE
-       shardfile repair [--force] [--all] [--only N,M] --shards NAME SHARD ..
+shardfile repair [--force] [--all] [--only N,M] [--root HEX] FILE
+       shardfile repair [--force] [--all] [--only N,M] [--root HEX] --shards NAME SHARD ..
 ";
 
 const CHECK: &str = "\
-shardfile check [--all] FILE
-       shardfile check [--all] --shards SHARD ..
+shardfile check [--all] [--root HEX] FILE
+       shardfile check [--all] [--root HEX] --shards SHARD ..
+";
+
+const ROOT: &str = "\
+shardfile root FILE
+       shardfile root --shards SHARD ..
 ";
 
 const CLEAN: &str = "shardfile clean FOLDER\n";
@@ -47,6 +53,7 @@ impl Command {
             b"join" => Some(Command::Join),
             b"repair" => Some(Command::Repair),
             b"check" => Some(Command::Check),
+            b"root" => Some(Command::Root),
             b"clean" => Some(Command::Clean),
             _ => None,
         }
@@ -59,6 +66,7 @@ impl Command {
             Command::Join => JOIN,
             Command::Repair => REPAIR,
             Command::Check => CHECK,
+            Command::Root => ROOT,
             Command::Clean => CLEAN,
         }
     }
@@ -74,7 +82,7 @@ pub fn print_usage(rt: &HostRuntime, command: Option<Command>) {
     let _told = match command {
         Some(command) => eprint!(rt; "usage: {}", command.usage()),
         None => eprint!(rt;
-            "usage: {SPLIT}       {JOIN}       {REPAIR}       {CHECK}       {CLEAN}       {OTHERS}"
+            "usage: {SPLIT}       {JOIN}       {REPAIR}       {CHECK}       {ROOT}       {CLEAN}       {OTHERS}"
         ),
     };
 }

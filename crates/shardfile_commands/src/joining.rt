@@ -5,14 +5,16 @@ ghost use Rattle.std.specs.Prelude.{◌≡◌, ◌+◌, ◌≤◌, length, IfOk,
 use crate::listing::print_unsound;
 use crate::progress::Progress;
 use crate::refusal::Refusal;
+use hash_trees::Digest;
 use partial_files::fault::{Fault as FileFault, owned};
 use partial_files::partial::Manner;
 use partial_files::restored::Restored;
 use shard_files::blocks::{BlockReader, Look};
 use shard_files::fault::Fault;
-use shard_files::gathering::{check_count, first_rights, gather};
+use shard_files::gathering::{check_count, first_rights};
+use shard_files::roots::{Reading, gather_split};
 use shard_files::sources::{ShardFile, check_no_source};
-use shard_files::split::{Block, Split};
+use shard_files::split::Block;
 use shard_files::wanted::{WantedFiles, is_shard_name};
 use shard_files::wasted::WastedReads;
 use std::alloc::AllocError;
@@ -34,8 +36,10 @@ pub struct Order<'a> {
     pub force: bool,
     /// Whether all shards of a block are compared.
     pub compares_all: bool,
-    /// Whether blocks that cannot be restored are left out, as zeros.
+    /// Whether bytes that cannot be restored are left out, as zeros.
     pub is_partial: bool,
+    /// The root of the file, if one is asked for.
+    pub root: Option<Digest>,
 }
 
 /// Restores the file from the shard files that are there, and names on standard error those with
@@ -82,13 +86,23 @@ fn restore_file(
     files: &mut Vec<ShardFile>,
     holes: &mut Vec<(u64, u64)>,
 ) -> Result<(), Fault> {
-    let split = gather(rt, &order.wanted, files, order.is_partial)?;
+    let reading = Reading {
+        root: order.root,
+        may_end_before: order.is_partial,
+        compares_pairs: false,
+        follows_claim: false,
+    };
+    let (split, tree) = gather_split(rt, &order.wanted, &reading, files)?;
     if order.out != STANDARD_OUTPUT {
         check_out(rt, &order.wanted, order.out, files)?;
     }
-    check_count(rt.alloc(), &order.wanted, &split, files)?;
+    // Rows of data are pieces of the file, so some of its bytes stand in fewer shards too.
+    if !order.is_partial || split.header.format.has_cells() {
+        check_count(rt.alloc(), &order.wanted, &split, files)?;
+    }
     let mut restored = new_output(rt, order, files, split.header.length)?;
-    match restore_blocks(rt, order, &split, files, &mut restored, holes) {
+    let mut reader = BlockReader::new(rt.alloc(), &split, tree, false);
+    match restore_blocks(rt, order, &mut reader, files, &mut restored, holes) {
         Ok(()) => Ok(restored.finish(rt)?),
         Err(fault) => {
             restored.discard(rt);
@@ -122,7 +136,7 @@ fn new_output(
 fn restore_blocks(
     rt: &HostRuntime,
     order: &Order,
-    split: &Split,
+    reader: &mut BlockReader,
     files: &mut [ShardFile],
     restored: &mut Restored,
     holes: &mut Vec<(u64, u64)>,
@@ -130,25 +144,22 @@ fn restore_blocks(
     ensures { OnOk result (restored.new.left ≡ 0) }
 {
     let look = Look::compared_or(order.compares_all, Look::First);
+    let split = reader.split;
     let length = split.header.length;
     let mut progress = Progress::new(rt, length);
-    let mut reader = BlockReader::new(rt.alloc(), split);
     let mut wasted = WastedReads::new(files);
     let mut number = 0u64;
     while restored.left > 0 {
         let block = split.block_of(number, restored.left);
-        let given = block_or_none(rt, order.is_partial, &mut reader, files, block, look)?;
-        wasted.add_block(split, files, block, given.is_none());
+        let given = block_or_none(rt, order.is_partial, reader, files, block, look)?;
+        wasted.add_block(&split, files, block, given.is_none());
         match given {
             Some(bytes) => restored.write(rt, &bytes)?,
-            None => {
-                let count = if wasted.is_too_much() {
-                    restored.left
-                } else {
-                    u64::from(block.bytes)
-                };
+            None if wasted.is_too_much() => {
+                let count = restored.left;
                 leave_out(rt, length, count, restored, holes)?;
             }
+            None => write_rows(rt, reader, block, restored, holes)?,
         }
         progress.print_percentage(rt, restored.left);
         number = number.saturating_add(1);
@@ -168,10 +179,38 @@ fn block_or_none(
     ensures { IfOk result (λ answer. IfSome answer (λ bytes. length bytes.items ≡ block.bytes)) }
 {
     match reader.block(rt, files, block, look) {
-        Ok(bytes) => Ok(Some(bytes)),
-        Err(Fault::Block(..)) if is_partial => Ok(None),
+        Ok(found) => Ok(Some(found.bytes)),
+        Err(Fault::Block(..) | Fault::BlockRoot(_)) if is_partial => Ok(None),
         Err(fault) => Err(fault),
     }
+}
+
+/// Writes the rows of data that are left of a block that cannot be restored, and leaves out its
+/// other bytes.
+fn write_rows(
+    rt: &HostRuntime,
+    reader: &BlockReader,
+    block: Block,
+    restored: &mut Restored,
+    holes: &mut Vec<(u64, u64)>,
+) -> Result<(), Fault>
+    requires { block.bytes ≤ restored.old.left }
+    ensures { OnOk result (restored.new.left + block.bytes ≡ restored.old.left) }
+{
+    let length = reader.split.header.length;
+    let size = reader.row_bytes(block);
+    let mut index = 0u32;
+    let mut at = 0u32;
+    while at < block.bytes {
+        let count = size.min(block.bytes - at);
+        match reader.row_left(index, count as usize) {
+            Some(bytes) => restored.write(rt, bytes)?,
+            None => leave_out(rt, length, u64::from(count), restored, holes)?,
+        }
+        at += count;
+        index = index.saturating_add(1);
+    }
+    Ok(())
 }
 
 /// Leaves out the next bytes of a file of this length, and notes where they are.

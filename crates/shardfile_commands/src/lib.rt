@@ -3,7 +3,8 @@
 //! `shardfile split MIN TOTAL FILE` writes `FILE.0` and on beside it, TOTAL in all; `shardfile join
 //! FILE OUT` restores the file from those that are there, however others are damaged; `shardfile
 //! repair FILE` writes those that are lost; `shardfile check FILE` says which are there and whether
-//! they fit; `shardfile clean FOLDER` removes what stopped and refused runs left.
+//! they fit; `shardfile root FILE` prints the roots that they claim; `shardfile clean FOLDER`
+//! removes what stopped and refused runs left.
 #![tactic(auto)]
 
 mod checking;
@@ -16,6 +17,7 @@ mod orders;
 mod progress;
 mod refusal;
 mod repairing;
+mod rooting;
 mod splitting;
 mod status;
 
@@ -34,31 +36,31 @@ const VERSION: &str = "shardfile 1.0.0";
 
 /// What `--help` prints.
 const HELP: &str = "\
-shardfile: a file in TOTAL shard files, any MIN of which give it back
-  shardfile split [--force] [--to FOLDER] MIN TOTAL FILE
+shardfile: a file in TOTAL shard files, any MIN of which give it back; it hides nothing
+  shardfile split [--force] [--root] [--to FOLDER] MIN TOTAL FILE
       writes FILE.0, FILE.1 and on, TOTAL in all, beside FILE or into FOLDER
-  shardfile join [--force] [--all] [--partial] FILE OUT
+  shardfile join [--force] [--all] [--partial] [--root HEX] FILE OUT
       restores the file as OUT from the shard files that are there
-  shardfile repair [--force] [--all] [--only N,M] FILE
+  shardfile repair [--force] [--all] [--only N,M] [--root HEX] FILE
       writes the shard files that are not there, or only those with these numbers
-  shardfile check [--all] FILE
+  shardfile check [--all] [--root HEX] FILE
       says which shard files are there, whether they fit, and what join would do
-  shardfile clean FOLDER
-      removes the files shardfile-*.partial there that stopped or refused runs left
+  shardfile root FILE | shardfile clean FOLDER
+      prints the roots that shard files claim | removes what stopped runs left there
 
   --force   replaces files that are there; of repair, those that do not fit
-  --all     compares all shards of a block with each other, also where MIN fit
-  --partial writes zeros for blocks that are lost, and prints where they are
+  --all     compares all shards of each block, and with --root the root of its data
+  --partial writes zeros for bytes that are lost, and prints where they are
+  --root    of split: prints the root of the file; of others: takes only its shards.
+            Without a root, who can write shards can forge them
   --shards  takes shard files with any names, after OUT (join) or NAME (repair)
   -         standard input, as FILE of split --name NAME; or as OUT, standard output
   --        ends the options: each word after it is a name
-
 For example, any 6 of the 16 files photos.tar.0 to photos.tar.15 may be lost:
   shardfile split 10 16 photos.tar
   shardfile join photos.tar restored.tar
 Status: 0 done, 1 refused, 2 usage error. Of check and repair: 0 all fits, 1 not all
 fits, but it can be restored, 3 it cannot be restored, 4 nothing could be judged.
-Nothing is hidden, and nothing is signed: who can write shards can forge them.
 ";
 
 /// Writes the text to standard output.
@@ -105,7 +107,7 @@ fn run_words(rt: &HostRuntime, command: Option<Command>, level: &str) -> Result<
 
 /// Does what the command asks for. Options may stand anywhere among the words.
 fn run_command(rt: &HostRuntime, command: Command, words: &[String]) -> Result<(), Refusal> {
-    let options = read_options(rt.alloc(), words)?;
+    let options = read_options(rt.alloc(), words, command)?;
     if options.help {
         return print(rt, HELP);
     }
@@ -114,6 +116,7 @@ fn run_command(rt: &HostRuntime, command: Command, words: &[String]) -> Result<(
         Command::Join => orders::join(rt, &options),
         Command::Repair => orders::repair(rt, &options),
         Command::Check => orders::check(rt, &options),
+        Command::Root => orders::root_of(rt, &options),
         Command::Clean => orders::clean(rt, &options),
     }
 }

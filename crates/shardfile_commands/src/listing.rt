@@ -13,6 +13,12 @@ pub fn line_of(alloc: Global, file: &ShardFile) -> Result<String, AllocError> {
             "{name}: left out of {lost} blocks, first of block {first}: {why}"
         );
     }
+    if file.flawed > 0 {
+        let (flawed, first, flaw) = (file.flawed, file.first_flawed, file.flaw);
+        return format!(in alloc;
+            "{name}: used in {flawed} blocks, first in block {first}, though {flaw}"
+        );
+    }
     match file.fault {
         Some(fault) => format!(in alloc; "{name}: {fault}"),
         None => format!(in alloc; "{name}: fits"),

@@ -2,7 +2,10 @@
 
 ghost use Rattle.std.specs.Prelude.{◌≡◌, ◌≤◌, IfOk, None, OnOk};
 
+use crate::command::Command;
 use crate::refusal::{Refusal, WrongWord};
+use crate::rooting::root_of_word;
+use hash_trees::Digest;
 use partial_files::fault::owned;
 use shard_files::names::number_written;
 use shard_format::header::MOST_SHARDS;
@@ -14,12 +17,14 @@ enum Wanting {
     Folder,
     Name,
     Numbers,
+    Root,
 }
 
 impl Wanting {
-    /// The one that the word is.
-    fn named(word: &str) -> Option<Wanting> {
+    /// The one that the word is. Of `split` the root is what is printed, and not what is given.
+    fn named(word: &str, command: Command) -> Option<Wanting> {
         match word {
+            "--root" if command != Command::Split => Some(Wanting::Root),
             "--to" => Some(Wanting::Folder),
             "--name" => Some(Wanting::Name),
             "--only" => Some(Wanting::Numbers),
@@ -33,6 +38,7 @@ impl Wanting {
             Wanting::Folder => WrongWord::NoWord("--to", "folder"),
             Wanting::Name => WrongWord::NoWord("--name", "name"),
             Wanting::Numbers => WrongWord::NoWord("--only", "number"),
+            Wanting::Root => WrongWord::NoWord("--root", "root"),
         }
     }
 }
@@ -50,6 +56,9 @@ pub struct Options<'a> {
     pub name: Option<&'a str>,
     /// The lists of numbers, which add up.
     pub only: Vec<&'a str>,
+    /// Whether a root is asked for, and which, where one is given.
+    pub has_root: bool,
+    pub root: Option<&'a str>,
     pub help: bool,
 }
 
@@ -65,6 +74,8 @@ impl<'a> Options<'a> {
             to: None,
             name: None,
             only: Vec::new(alloc),
+            has_root: false,
+            root: None,
             help: false,
         }
     }
@@ -75,6 +86,10 @@ impl<'a> Options<'a> {
             Wanting::Folder => self.to = Some(only_one(self.to, "--to", word)?),
             Wanting::Name => self.name = Some(only_one(self.name, "--name", word)?),
             Wanting::Numbers => self.only.push(word)?,
+            Wanting::Root => {
+                self.root = Some(only_one(self.root, "--root", word)?);
+                self.has_root = true;
+            }
         }
         Ok(())
     }
@@ -86,6 +101,7 @@ impl<'a> Options<'a> {
             "--all" => self.all = true,
             "--shards" => self.shards = true,
             "--partial" => self.partial = true,
+            "--root" => self.has_root = true,
             "--help" | "-h" => self.help = true,
             _ => return Err(Refusal::Usage(WrongWord::Option(owned(alloc, option)?))),
         }
@@ -109,7 +125,11 @@ fn only_one<'a>(
 
 /// Sorts the words. It refuses an option that is none, an empty word, and an option that wants a
 /// word and has none, or has two. After `--` no word is an option.
-pub fn read_options<'a>(alloc: Global, words: &'a [String]) -> Result<Options<'a>, Refusal> {
+pub fn read_options<'a>(
+    alloc: Global,
+    words: &'a [String],
+    command: Command,
+) -> Result<Options<'a>, Refusal> {
     let mut options = Options::new(alloc);
     let mut wanting = None;
     let mut have_ended = false;
@@ -126,7 +146,7 @@ pub fn read_options<'a>(alloc: Global, words: &'a [String]) -> Result<Options<'a
         } else if word == "--" {
             have_ended = true;
         } else {
-            wanting = Wanting::named(word);
+            wanting = Wanting::named(word, command);
             if wanting.is_none() {
                 options.set(alloc, word)?;
             }
@@ -157,6 +177,7 @@ pub fn check_options(
         (options.to.is_some(), "--to"),
         (options.name.is_some(), "--name"),
         (!options.only.is_empty(), "--only"),
+        (options.has_root, "--root"),
     ];
     for (is_given, option) in &given {
         if *is_given && !taken.contains(option) {
@@ -197,4 +218,15 @@ fn add_numbers(alloc: Global, list: &str, numbers: &mut Vec<u32>) -> Result<(), 
         }
     }
     Ok(())
+}
+
+/// The root that the word after `--root` is, where it is given.
+pub fn root_asked(alloc: Global, options: &Options) -> Result<Option<Digest>, Refusal> {
+    let Some(word) = options.root else {
+        return Ok(None);
+    };
+    match root_of_word(word) {
+        Some(root) => Ok(Some(root)),
+        None => Err(Refusal::Usage(WrongWord::Root(owned(alloc, word)?))),
+    }
 }

@@ -1,9 +1,9 @@
 //! What the words of each command order.
 
 use crate::checking::{self, Checked};
-use crate::options::{Options, check_options, number, numbers};
+use crate::options::{Options, check_options, number, numbers, root_asked};
 use crate::refusal::{Refusal, WrongWord};
-use crate::{cleaning, joining, repairing, splitting};
+use crate::{cleaning, joining, repairing, rooting, splitting};
 use partial_files::fault::owned;
 use shard_files::names::{can_be_file, name_before_number};
 use shard_files::wanted::WantedFiles;
@@ -11,7 +11,7 @@ use std::alloc::Global;
 
 /// `MIN TOTAL FILE`: the shard files of the file, or of standard input.
 pub fn split(rt: &HostRuntime, options: &Options) -> Result<(), Refusal> {
-    check_options(options, "split", &["--force", "--to", "--name"])?;
+    check_options(options, "split", &["--force", "--to", "--name", "--root"])?;
     let [min, total, file] = options.words.as_slice() else {
         return Err(wrong_count("MIN TOTAL FILE", options));
     };
@@ -32,6 +32,7 @@ pub fn split(rt: &HostRuntime, options: &Options) -> Result<(), Refusal> {
         name,
         to: options.to,
         force: options.force,
+        has_root: options.has_root,
     };
     if !is_stream {
         return splitting::split(rt, &order);
@@ -108,8 +109,9 @@ pub fn join(rt: &HostRuntime, options: &Options) -> Result<(), Refusal> {
     check_options(
         options,
         "join",
-        &["--force", "--all", "--shards", "--partial"],
+        &["--force", "--all", "--shards", "--partial", "--root"],
     )?;
+    let root = root_asked(rt.alloc(), options)?;
     let Some((out, wanted)) = output_and_shards(options.words.as_slice(), options.shards) else {
         return Err(wrong_files(rt.alloc(), "FILE OUT", "OUT SHARD ..", options)?);
     };
@@ -122,6 +124,7 @@ pub fn join(rt: &HostRuntime, options: &Options) -> Result<(), Refusal> {
         force: options.force,
         compares_all: options.all,
         is_partial: options.partial,
+        root,
     };
     joining::join(rt, &order)
 }
@@ -143,8 +146,9 @@ pub fn repair(rt: &HostRuntime, options: &Options) -> Result<(), Refusal> {
     check_options(
         options,
         "repair",
-        &["--force", "--all", "--shards", "--only"],
+        &["--force", "--all", "--shards", "--only", "--root"],
     )?;
+    let root = root_asked(rt.alloc(), options)?;
     let Some((name, wanted)) = name_and_shards(options.words.as_slice(), options.shards) else {
         return Err(wrong_files(rt.alloc(), "FILE", "NAME SHARD ..", options)?);
     };
@@ -157,6 +161,7 @@ pub fn repair(rt: &HostRuntime, options: &Options) -> Result<(), Refusal> {
         only: numbers(rt.alloc(), options)?,
         force: options.force,
         compares_all: options.all,
+        root,
     };
     repairing::repair(rt, &order)
 }
@@ -164,16 +169,26 @@ pub fn repair(rt: &HostRuntime, options: &Options) -> Result<(), Refusal> {
 /// `FILE`, or `SHARD ..`: what is to be said of the shard files. It refuses, once that is said,
 /// where not all are there and fit.
 pub fn check(rt: &HostRuntime, options: &Options) -> Result<(), Refusal> {
-    check_options(options, "check", &["--all", "--shards"])?;
+    check_options(options, "check", &["--all", "--shards", "--root"])?;
+    let root = root_asked(rt.alloc(), options)?;
     let Some(wanted) = wanted_of(options.words.as_slice(), options.shards) else {
         return Err(wrong_files(rt.alloc(), "FILE", "SHARD ..", options)?);
     };
-    let Checked { text, refusal } = checking::check(rt, &wanted, options.all)?;
+    let Checked { text, refusal } = checking::check(rt, &wanted, root, options.all)?;
     print!(rt; "{text}")?;
     match refusal {
         Some(refusal) => Err(refusal),
         None => Ok(()),
     }
+}
+
+/// `FILE`, or `SHARD ..`: the roots that the shard files claim.
+pub fn root_of(rt: &HostRuntime, options: &Options) -> Result<(), Refusal> {
+    check_options(options, "root", &["--shards"])?;
+    let Some(wanted) = wanted_of(options.words.as_slice(), options.shards) else {
+        return Err(wrong_files(rt.alloc(), "FILE", "SHARD ..", options)?);
+    };
+    rooting::print_roots(rt, &wanted)
 }
 
 /// `FOLDER`: what stopped and refused runs left there is removed.

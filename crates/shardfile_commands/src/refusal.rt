@@ -37,6 +37,8 @@ pub enum WrongWord {
     Only(String),
     #[error("-: --partial writes no stream, but a file")]
     PartialStream,
+    #[error("{0}: a root has 64 hexadecimal digits")]
+    Root(String),
     #[error("a word is empty")]
     Empty,
     #[error("{1} words are given where {0} are wanted")]
@@ -81,10 +83,12 @@ pub enum Refusal {
     Stays(String),
     #[error("refused: {0}: files that do not fit stay, and repair --force replaces none of them")]
     Strays(String),
-    #[error("refused: {0}: some blocks cannot be restored, and are zeros")]
+    #[error("refused: {0}: some bytes cannot be restored, and are zeros")]
     Holes(String),
     #[error("refused: {0} is no number of a shard: there are {1}, from 0 on")]
     NoNumber(u32, u32),
+    #[error("refused: the root is not printed: shardfile root {0} prints what its shard files claim: {1}")]
+    Unprinted(String, io::Error),
 }
 
 impl fmt::Debug for Refusal {
@@ -117,7 +121,8 @@ fn status_of(fault: &Fault) -> Status
 {
     match fault {
         Fault::NoShard(_) | Fault::IsShard(..) | Fault::Length(_) => Status::Lost,
-        Fault::TooFew(..) | Fault::Block(..) => Status::Lost,
+        Fault::TooFew(..) | Fault::Block(..) | Fault::BlockRoot(_) => Status::Lost,
+        Fault::NoRoot(..) | Fault::NoPaths(_) => Status::Lost,
         _ => Status::Unknown,
     }
 }

@@ -10,16 +10,20 @@ ghost use Rattle.std.specs.Prelude.{◌≡◌, ◌<◌, IfSome, OnOk};
 use crate::listing::print_unsound;
 use crate::progress::Progress;
 use crate::refusal::Refusal;
+use hash_trees::Digest;
 use partial_files::fault::owned;
 use partial_files::partial::Manner;
 use shard_files::blocks::{BlockReader, Look};
 use shard_files::fault::Fault;
-use shard_files::gathering::{check_count, first_rights, gather};
+use shard_files::gathering::{check_count, first_rights, split_of};
 use shard_files::names::shard_name;
+use shard_files::roots::{Reading, gather_split};
 use shard_files::sources::{ShardFile, check_no_source};
 use shard_files::split::{Block, Split};
 use shard_files::wanted::WantedFiles;
-use shard_files::writer::ShardWriter;
+use shard_files::writer::{Known, ShardWriter};
+use shard_fingerprints::Keys;
+use shard_format::records::block_size;
 use std::alloc::{AllocError, Global};
 
 /// What is to be repaired.
@@ -35,6 +39,8 @@ pub struct Order<'a> {
     pub force: bool,
     /// Whether all shards of a block are compared.
     pub compares_all: bool,
+    /// The root of the file, if one is asked for.
+    pub root: Option<Digest>,
 }
 
 impl<'a> Order<'a> {
@@ -83,12 +89,12 @@ struct NewFiles {
 
 impl NewFiles {
     /// Begins the file with this name, for the shards with this number.
-    fn add(&mut self, rt: &HostRuntime, name: &str, number: u32) -> Result<(), Fault>
+    fn add(&mut self, rt: &HostRuntime, name: &str, number: u32, keys: Keys) -> Result<(), Fault>
         requires { number < self.old.writer.split.header.total }
         ensures { self.new.writer.left ≡ self.old.writer.left }
     {
         self.names.push((number, owned(rt.alloc(), name)?))?;
-        self.writer.add(rt, owned(rt.alloc(), name)?, number)
+        self.writer.add(rt, owned(rt.alloc(), name)?, number, keys)
     }
 }
 
@@ -133,15 +139,28 @@ fn repair_files(
     order: &Order,
     files: &mut Vec<ShardFile>,
 ) -> Result<(u32, Vec<(u32, String)>), Refusal> {
-    let split = gather(rt, &order.wanted, files, false)?;
-    check_count(rt.alloc(), &order.wanted, &split, files)?;
-    check_numbers(order, split.header.total)?;
+    let reading = Reading {
+        root: order.root,
+        may_end_before: false,
+        compares_pairs: true,
+        follows_claim: false,
+    };
+    let (found, tree) = gather_split(rt, &order.wanted, &reading, files)?;
+    check_count(rt.alloc(), &order.wanted, &found, files)?;
+    check_numbers(order, found.header.total)?;
+    // Under a root files may have several pairs of keys: new ones have those of the most.
+    let split = if needs_keys(rt.alloc(), order, &found, files)? {
+        split_of(rt, &order.wanted, files)?
+    } else {
+        found
+    };
     let how = Manner::new(rt, order.force, first_rights(files))?;
     let mut new = NewFiles {
-        writer: ShardWriter::new(rt.alloc(), &split, how),
+        writer: ShardWriter::new(rt.alloc(), &split, how, order.name)?,
         names: Vec::new(rt.alloc()),
     };
-    match write_files(rt, order, &split, files, &mut new) {
+    let mut reader = BlockReader::new(rt.alloc(), &split, tree, true);
+    match write_files(rt, order, &mut reader, files, &mut new) {
         Ok(()) => {
             let NewFiles { writer, names } = new;
             writer.finish(rt)?;
@@ -152,6 +171,21 @@ fn repair_files(
             Err(refusal)
         }
     }
+}
+
+/// Whether a file may be written that is not there, or of which no header is known.
+fn needs_keys(
+    alloc: Global,
+    order: &Order,
+    split: &Split,
+    files: &[ShardFile],
+) -> Result<bool, AllocError> {
+    let total = split.header.total;
+    if !missing_numbers(alloc, order, total, files)?.is_empty() {
+        return Ok(true);
+    }
+    let is_new = |file: &ShardFile| !file.is_used() && order.is_spared(file, total);
+    Ok(order.force && files.iter().any(is_new))
 }
 
 /// Refuses where a number is given that no shard has.
@@ -215,7 +249,8 @@ fn add_missing(
         if *number < new.writer.split.header.total {
             let name = shard_name(rt.alloc(), order.name, *number)?;
             check_no_source(rt, name.as_str(), files)?;
-            new.add(rt, name.as_str(), *number)?;
+            let keys = new.writer.split.header.keys;
+            new.add(rt, name.as_str(), *number, keys)?;
         }
     }
     Ok(())
@@ -239,7 +274,9 @@ fn add_unsound(
     for file in files.iter_mut().filter(|file| !file.is_replaced) {
         if let Some(number) = order.number_to_replace(file, new.writer.split.header.total) {
             file.is_replaced = true;
-            new.add(rt, file.name.as_str(), number)?;
+            let own = file.header().map(|header| header.keys);
+            let keys = own.unwrap_or(new.writer.split.header.keys);
+            new.add(rt, file.name.as_str(), number, keys)?;
             copy_records(rt, file, before, reader, &mut new.writer)?;
         }
     }
@@ -260,9 +297,10 @@ fn copy_records(
     for number in 0..before {
         let block = Block {
             number,
-            bytes: reader.split.header.block,
+            bytes: block_size(&reader.split.header, number),
         };
-        match reader.record(rt, file, block)? {
+        let root = writer.root_before(rt, number as usize)?;
+        match reader.record(rt, file, block, root.as_ref())? {
             Some(record) => writer.append_to_last(rt, record)?,
             None => return Err(Refusal::Changed(owned(rt.alloc(), file.name.as_str())?)),
         }
@@ -275,25 +313,32 @@ fn copy_records(
 fn write_files(
     rt: &HostRuntime,
     order: &Order,
-    split: &Split,
+    reader: &mut BlockReader,
     files: &mut [ShardFile],
     new: &mut NewFiles,
 ) -> Result<(), Refusal>
     ensures { OnOk result (new.new.writer.left ≡ 0) }
 {
     let look = Look::compared_or(order.compares_all, Look::Each);
+    let split = reader.split;
     let mut progress = Progress::new(rt, new.writer.left);
-    let mut reader = BlockReader::new(rt.alloc(), split);
     let mut number = 0u64;
     add_missing(rt, order, files, new)?;
-    add_unsound(rt, order, files, 0, &mut reader, new)?;
+    add_unsound(rt, order, files, 0, reader, new)?;
     while new.writer.left > 0 {
         let block = split.block_of(number, new.writer.left);
-        let bytes = reader.block(rt, files, block, look)?;
-        add_unsound(rt, order, files, number, &mut reader, new)?;
-        new.writer.write(rt, &bytes)?;
+        let found = reader.block(rt, files, block, look)?;
+        let known = Known {
+            mask: Some(found.mask),
+            root: found.root,
+        };
+        let root = new.writer.root_of(rt.alloc(), &found.bytes, known)?;
+        reader.note_paths(files, block, root);
+        add_unsound(rt, order, files, number, reader, new)?;
+        new.writer.write(rt, &found.bytes, known)?;
         progress.print_percentage(rt, new.writer.left);
         number = number.saturating_add(1);
     }
-    Ok(())
+    new.writer.note_pairs(rt, files)?;
+    add_unsound(rt, order, files, number, reader, new)
 }

@@ -4,6 +4,7 @@ ghost use Rattle.std.specs.Prelude.{◌≡◌, ◌≤◌, IfOk, OnOk};
 
 use crate::progress::Progress;
 use crate::refusal::Refusal;
+use crate::rooting::root_line;
 use partial_files::fault::{Fault as FileFault, name_error, owned};
 use partial_files::identity::{Identity, check_no_input};
 use partial_files::names::folder_and_name;
@@ -13,13 +14,19 @@ use shard_files::fault::Fault;
 use shard_files::names::shard_name;
 use shard_files::split::Split;
 use shard_files::wanted::numbers_there;
-use shard_files::writer::ShardWriter;
+use shard_files::writer::{Known, ShardWriter};
 use std::alloc::{AllocError, Global};
 use std::fs::{self, File, Metadata, TryLockError};
-use std::io::{ErrorKind, Input, Read};
+use std::io::{self, ErrorKind, Input, Read};
 
 /// The rights that the shard files of a stream give at most: to read and write.
 const STREAM_RIGHTS: u32 = 0o666;
+
+/// Nothing is known of a block that is split.
+const UNKNOWN: Known = Known {
+    mask: None,
+    root: None,
+};
 
 /// What is to be split: any `min` of `total` shard files give it back.
 #[derive(Clone, Copy)]
@@ -32,6 +39,8 @@ pub struct Order<'a> {
     pub to: Option<&'a str>,
     /// Whether files that are there are replaced.
     pub force: bool,
+    /// Whether records have paths, and the root is printed.
+    pub has_root: bool,
     pub ghost some: { 1 ≤ min },
     pub ghost within: { min ≤ total },
 }
@@ -45,12 +54,12 @@ pub struct Order<'a> {
 pub fn split(rt: &HostRuntime, order: &Order) -> Result<(), Refusal> {
     let (mut source, metadata) = open_source(rt, order.name)?;
     let target = target_of(rt.alloc(), order.name, order.to)?;
-    let split = Split::draw(rt, order.min, order.total, metadata.len())?;
+    let split = Split::draw(rt, order.min, order.total, metadata.len(), order.has_root)?;
     let how = Manner::new(rt, order.force, rights_of(&metadata))?;
     let input = Some(Identity::new(&metadata));
     let mut files = new_files(rt, target.as_str(), input, &split, how)?;
     match write_blocks(rt, &mut source, order.name, &mut files) {
-        Ok(()) => Ok(files.finish(rt)?),
+        Ok(()) => finish(rt, files, target),
         Err(refusal) => {
             files.discard(rt);
             Err(refusal)
@@ -58,10 +67,33 @@ pub fn split(rt: &HostRuntime, order: &Order) -> Result<(), Refusal> {
     }
 }
 
+/// Gives the files their names, and prints the root of the file where there is one. Files that have
+/// their names stay, though the root is not printed.
+fn finish(rt: &HostRuntime, files: ShardWriter, target: String) -> Result<(), Refusal>
+    requires { files.left ≡ 0 }
+{
+    let Some(root) = files.finish(rt)? else {
+        return Ok(());
+    };
+    let printed = match root_line(rt.alloc(), &root) {
+        Ok(line) => print_line(rt, line.as_str()),
+        Err(_) => Err(io::Error::from(ErrorKind::OutOfMemory)),
+    };
+    match printed {
+        Ok(()) => Ok(()),
+        Err(error) => Err(Refusal::Unprinted(target, error)),
+    }
+}
+
+/// Writes the line to standard output.
+fn print_line(rt: &HostRuntime, line: &str) -> io::Result<()> {
+    println!(rt; "{line}")
+}
+
 /// Writes the shard files of what standard input gives, as `split` does of a file.
 pub fn split_stream(rt: &HostRuntime, order: &Order) -> Result<(), Refusal> {
     let target = target_of(rt.alloc(), order.name, order.to)?;
-    let split = Split::draw(rt, order.min, order.total, 0)?;
+    let split = Split::draw(rt, order.min, order.total, 0, order.has_root)?;
     let how = Manner::new(rt, order.force, STREAM_RIGHTS)?;
     // The first block is read before any file is opened, which could get the number of a standard
     // input that is closed.
@@ -71,7 +103,7 @@ pub fn split_stream(rt: &HostRuntime, order: &Order) -> Result<(), Refusal> {
     let input = Identity::at(rt, "/dev/stdin");
     let mut files = new_files(rt, target.as_str(), input, &split, how)?;
     match write_stream(rt, &mut source, &mut bytes, &mut files) {
-        Ok(()) => Ok(files.finish(rt)?),
+        Ok(()) => finish(rt, files, target),
         Err(fault) => {
             files.discard(rt);
             Err(Refusal::Files(fault))
@@ -131,7 +163,7 @@ fn write_blocks(
         let size = files.left.min(u64::from(files.split.header.block));
         bytes.resize(size as usize, 0)?;
         read_next(rt.alloc(), source, file, &mut bytes)?;
-        files.write(rt, &bytes)?;
+        files.write(rt, &bytes, UNKNOWN)?;
         progress.print_percentage(rt, files.left);
     }
     check_end(rt.alloc(), source, file)
@@ -152,7 +184,7 @@ fn write_stream<R: Read>(
             return Ok(());
         }
         files.lengthen(bytes.len() as u64)?;
-        files.write(rt, bytes)?;
+        files.write(rt, bytes, UNKNOWN)?;
         let size = files.split.header.block;
         if bytes.len() < size as usize {
             return Ok(());
@@ -205,7 +237,7 @@ fn new_files(
     ensures { IfOk result (λ files. files.left ≡ split.now.header.length) }
 {
     check_beyond(rt, target, split.header.total)?;
-    let mut files = ShardWriter::new(rt.alloc(), split, how);
+    let mut files = ShardWriter::new(rt.alloc(), split, how, target)?;
     match add_all(rt, target, input, &mut files) {
         Ok(()) => Ok(files),
         Err(fault) => {
@@ -229,7 +261,7 @@ fn add_all(
         if let Some(input) = input {
             check_no_input(rt, name.as_str(), input)?;
         }
-        files.add(rt, name, index)?;
+        files.add(rt, name, index, files.split.header.keys)?;
     }
     Ok(())
 }

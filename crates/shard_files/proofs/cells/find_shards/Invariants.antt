@@ -1,5 +1,5 @@
 use Rattle.std.proofs.Common.{All}
-use Rattle.shard_files.proofs.blocks.find_shards.Given as goal
+use Rattle.shard_files.proofs.cells.find_shards.Given as goal
 use Rattle.shard_files.specs.Shards.{IsOfSplit}
 
 abbrev pub invariant-loop-place : goal.invariant-loop-place
