@@ -5,6 +5,8 @@ write_shards.py [--version 2] [--root] [--keys HEX,HEX] [--block B] [--to FOLDER
 
 writes FILE.0, FILE.1 and so on, in place of what has these names. With --root they have paths, and it prints the root of the
 file. Unless they are given, the keys are random, and the size of a block is that of `shardfile`. Tests import the functions.
+
+It shares no code with the reader beside it, so that each of them tests the page by itself.
 """
 
 import argparse
