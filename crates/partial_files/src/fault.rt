@@ -2,27 +2,54 @@
 
 use std::alloc::{AllocError, AllocFailed, Global};
 use std::{fmt, io};
-use thiserror::Error;
 
 /// Why a file is not written, or not read. Texts name the file that is meant.
-#[derive(Drop, Error)]
+#[derive(Drop)]
 pub enum Fault {
-    #[error("refused: out of memory")]
     Memory(AllocError),
-    #[error("refused: {0}")]
     Io(io::Error),
-    #[error("refused: {0}: {1}")]
     File(String, io::Error),
-    #[error("refused: {0}: is there already, and only --force replaces it")]
     Exists(String),
-    #[error("refused: {0}: is a file that is read here, a shard file, or has the name of one")]
     Input(String),
-    #[error("refused: all files have their names, but second names of them could not be removed: {0}")]
     SecondNames(io::Error),
-    #[error("refused: {0}: not a regular file")]
     NotRegular(String),
-    #[error("refused: {0}: the file system holds no file of that length")]
     TooLong(String),
+}
+
+impl fmt::Display for Fault {
+    fn fmt<W: fmt::Write>(&self, f: &mut fmt::Formatter<W>) -> fmt::Result {
+        f.write_str("refused: ")?;
+        match self {
+            Fault::Memory(_) => f.write_str("out of memory"),
+            Fault::Io(error) => write!(f, "{error}"),
+            Fault::File(name, error) => write!(f, "{name}: {error}"),
+            Fault::Exists(name) => name_and(
+                f,
+                name,
+                "is there already, and only --force replaces it",
+            ),
+            Fault::Input(name) => name_and(
+                f,
+                name,
+                "is a file that is read here, a shard file, or has the name of one",
+            ),
+            Fault::SecondNames(error) => write!(
+                f,
+                "all files have their names, but second names of them could not be removed: {error}"
+            ),
+            Fault::NotRegular(name) => name_and(f, name, "not a regular file"),
+            Fault::TooLong(name) => name_and(
+                f,
+                name,
+                "the file system holds no file of that length",
+            ),
+        }
+    }
+}
+
+/// Writes the name, and what is said of it.
+pub fn name_and<W: fmt::Write>(f: &mut fmt::Formatter<W>, name: &str, said: &str) -> fmt::Result {
+    write!(f, "{name}: {said}")
 }
 
 /// As its text: a derived form has an arm for each kind, which is dear to prove.

@@ -3,7 +3,7 @@
 ghost use Rattle.std.specs.Prelude.{◌<◌, length};
 
 use crate::fault::Fault;
-use crate::names::folder_and_name;
+use crate::names::folder_of;
 use crate::partial::Partial;
 use std::alloc::{AllocError, Global};
 use std::fs;
@@ -13,7 +13,7 @@ use std::io::ErrorKind;
 pub fn folders_of(alloc: Global, partials: &[Partial]) -> Result<Vec<String>, AllocError> {
     let mut folders: Vec<String> = Vec::new(alloc);
     for partial in partials {
-        let (folder, _) = folder_and_name(alloc, partial.path.as_str())?;
+        let folder = folder_of(alloc, partial.path.as_str())?;
         if folders
             .last()
             .is_none_or(|last| last.as_str() != folder.as_str())

@@ -6,12 +6,26 @@ use std::alloc::{AllocError, Global};
 /// How many files a run writes at most.
 pub const MOST_FILES: u32 = 1 << 16;
 
+/// The folder that a file lies in, with a slash at its end.
+pub fn folder_of(alloc: Global, file: &str) -> Result<String, AllocError> {
+    match file.rsplit_once('/') {
+        Some((folder, _)) => format!(in alloc; "{folder}/"),
+        None => owned(alloc, "./"),
+    }
+}
+
+/// The name that a file has in its folder.
+pub fn name_of(file: &str) -> &str {
+    match file.rsplit_once('/') {
+        Some((_, name)) => name,
+        None => file,
+    }
+}
+
 /// The folder that a file lies in, with a slash at its end, and its name there.
 pub fn folder_and_name(alloc: Global, file: &str) -> Result<(String, String), AllocError> {
-    match file.rsplit_once('/') {
-        Some((folder, name)) => Ok((format!(in alloc; "{folder}/")?, owned(alloc, name)?)),
-        None => Ok((owned(alloc, "./")?, owned(alloc, file)?)),
-    }
+    let folder = folder_of(alloc, file)?;
+    Ok((folder, owned(alloc, name_of(file))?))
 }
 
 /// The name that the file with this number of a run has while it is written: in the folder of its
@@ -22,8 +36,8 @@ pub fn partial_name(
     run: u64,
     number: usize,
 ) -> Result<String, AllocError> {
-    let (folder, _) = folder_and_name(alloc, path)?;
-    Ok(format!(in alloc; "{folder}shardfile-{run:016x}-{number}.partial")?)
+    let folder = folder_of(alloc, path)?;
+    format!(in alloc; "{folder}shardfile-{run:016x}-{number}.partial")
 }
 
 /// The parts of the name of a partial file that tell its run and its number.
@@ -47,15 +61,12 @@ pub fn is_partial_name(name: &str) -> bool {
 /// Whether the digits are a number of one of the files of a run, as it is written: with no zero
 /// before it.
 fn is_partial_number(digits: &str) -> bool {
-    digits.bytes().all(|byte| byte.is_ascii_digit())
-        && (digits == "0" || !digits.starts_with('0'))
-        && digits
-            .parse::<u32>()
-            .is_ok_and(|number| number < MOST_FILES)
+    matches!(digits.as_bytes(), [b'0'] | [b'1'..=b'9', ..])
+        && matches!(digits.parse::<u32>(), Ok(number) if number < MOST_FILES)
 }
 
 /// The name, in the folder, of the first partial file of the run that the one with this name is of.
 pub fn first_of_run(alloc: Global, folder: &str, name: &str) -> Result<String, AllocError> {
     let (run, _) = parts_of_name(name).unwrap_or(("", ""));
-    Ok(format!(in alloc; "{folder}/shardfile-{run}-0.partial")?)
+    format!(in alloc; "{folder}/shardfile-{run}-0.partial")
 }
