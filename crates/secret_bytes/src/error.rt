@@ -7,18 +7,28 @@ ghost use Rattle.secret_bytes.specs.Deals.{refusal_of};
 
 use math_base::algebra::RandomError;
 use std::alloc::{AllocError, AllocFailed};
-use thiserror::Error;
+use std::error::Error;
+use std::fmt;
 
 /// Why no shares were dealt.
-#[derive(Debug, Drop, Error)]
+#[derive(Debug, Drop)]
 pub enum DealError {
     /// Memory ran out.
-    #[error("out of memory")]
     Memory(AllocError),
     /// The source gave only words that are no element, as many as a sample looks at.
-    #[error("the source of random words gave none that could be used")]
     TooManyWords,
 }
+
+impl fmt::Display for DealError {
+    fn fmt<W: fmt::Write>(&self, f: &mut fmt::Formatter<W>) -> fmt::Result {
+        f.write_str(match self {
+            DealError::Memory(_) => "out of memory",
+            DealError::TooManyWords => "the source of random words gave none that could be used",
+        })
+    }
+}
+
+impl Error for DealError {}
 
 impl From<AllocError> for DealError {
     ghost from_gives = { λ x e. e ≡ deal.Memory x };
@@ -48,40 +58,51 @@ impl From<RandomError> for DealError {
 }
 
 /// Why shares were not combined. A place counts the shares that were given from zero on.
-#[derive(Debug, Drop, Error)]
+#[derive(Debug, Drop)]
 pub enum CombineError {
     /// Memory ran out.
-    #[error("out of memory")]
     Memory(AllocError),
     /// There is no share.
-    #[error("there is no share")]
     NoShare,
     /// The threshold of this share or its index is zero.
-    #[error("no share of a deal")]
     Unsound(usize),
     /// This share is of another deal than the first.
-    #[error("of another deal")]
     AnotherDeal(usize),
     /// This share has another threshold than the first.
-    #[error("of another threshold")]
     AnotherThreshold(usize),
     /// This share has another number of values than the first.
-    #[error("of another length")]
     AnotherLength(usize),
     /// This share has the index of one before it, and other values.
-    #[error("its index stands before with other values")]
     Repeated(usize),
     /// Fewer shares are there than are needed: how many there are, and how many are needed.
-    #[error("{0} shares are there, and {1} are needed")]
     TooFew(usize, u32),
     /// There are more shares than the threshold, and more of them are wrong than half of the
     /// surplus.
-    #[error("the shares do not fit each other")]
     TooManyWrong,
     /// What the shares give does not fit its check.
-    #[error("what the shares give does not fit its check")]
     Changed,
 }
+
+impl fmt::Display for CombineError {
+    fn fmt<W: fmt::Write>(&self, f: &mut fmt::Formatter<W>) -> fmt::Result {
+        f.write_str(match self {
+            CombineError::Memory(_) => "out of memory",
+            CombineError::NoShare => "there is no share",
+            CombineError::Unsound(_) => "no share of a deal",
+            CombineError::AnotherDeal(_) => "of another deal",
+            CombineError::AnotherThreshold(_) => "of another threshold",
+            CombineError::AnotherLength(_) => "of another length",
+            CombineError::Repeated(_) => "its index stands before with other values",
+            CombineError::TooFew(count, t) => {
+                return write!(f, "{count} shares are there, and {t} are needed");
+            }
+            CombineError::TooManyWrong => "the shares do not fit each other",
+            CombineError::Changed => "what the shares give does not fit its check",
+        })
+    }
+}
+
+impl Error for CombineError {}
 
 impl From<AllocError> for CombineError {
     ghost from_gives = { λ x e. e ≡ combine.Memory x };

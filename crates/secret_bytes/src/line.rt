@@ -19,24 +19,35 @@ use crate::share::{MOST_VALUES, SecretShare};
 use math_codec::codec::{Error, Mem, Read, Write, decode};
 use math_fields::goldilocks::F;
 use std::alloc::{AllocError, AllocFailed, Global};
-use thiserror::Error;
+use std::fmt;
 
 /// Why a text is no line of a share.
-#[derive(Debug, Drop, Error)]
+#[derive(Debug, Drop)]
 pub enum LineError {
     /// Memory ran out.
-    #[error("out of memory")]
     Memory(AllocError),
     /// It is too short, lacks the mark, or has letters that are not those of a share.
-    #[error("not a share of this format")]
     NoShare,
     /// The check does not fit the text before it.
-    #[error("mistyped or cut off, its check does not fit")]
     Mistyped,
     /// Something stands behind a whole share.
-    #[error("something stands behind a whole share: each begins a line, with S1")]
     Behind,
 }
+
+impl fmt::Display for LineError {
+    fn fmt<W: fmt::Write>(&self, f: &mut fmt::Formatter<W>) -> fmt::Result {
+        f.write_str(match self {
+            LineError::Memory(_) => "out of memory",
+            LineError::NoShare => "not a share of this format",
+            LineError::Mistyped => "mistyped or cut off, its check does not fit",
+            LineError::Behind => {
+                "something stands behind a whole share: each begins a line, with S1"
+            }
+        })
+    }
+}
+
+impl std::error::Error for LineError {}
 
 impl From<AllocError> for LineError {
     ghost from_gives = { λ x e. e ≡ Memory x };
