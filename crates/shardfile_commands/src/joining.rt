@@ -14,7 +14,7 @@ use shard_files::fault::Fault;
 use shard_files::gathering::{check_count, first_rights};
 use shard_files::roots::{Reading, gather_split};
 use shard_files::sources::{ShardFile, check_no_source};
-use shard_files::split::Block;
+use shard_files::split::{Block, Split};
 use shard_files::wanted::{WantedFiles, is_shard_name};
 use shard_files::wasted::WastedReads;
 use std::alloc::AllocError;
@@ -93,13 +93,7 @@ fn restore_file(
         follows_claim: false,
     };
     let (split, tree) = gather_split(rt, &order.wanted, &reading, files)?;
-    if order.out != STANDARD_OUTPUT {
-        check_out(rt, &order.wanted, order.out, files)?;
-    }
-    // Rows of data are pieces of the file, so some of its bytes stand in fewer shards too.
-    if !order.is_partial || split.header.format.has_cells() {
-        check_count(rt.alloc(), &order.wanted, &split, files)?;
-    }
+    check_split(rt, order, &split, files)?;
     let mut restored = new_output(rt, order, files, split.header.length)?;
     let mut reader = BlockReader::new(rt.alloc(), &split, tree, false);
     match restore_blocks(rt, order, &mut reader, files, &mut restored, holes) {
@@ -109,6 +103,23 @@ fn restore_file(
             Err(fault)
         }
     }
+}
+
+/// Refuses where the file cannot be restored, or cannot have its name.
+fn check_split(
+    rt: &HostRuntime,
+    order: &Order,
+    split: &Split,
+    files: &[ShardFile],
+) -> Result<(), Fault> {
+    if order.out != STANDARD_OUTPUT {
+        check_out(rt, &order.wanted, order.out, files)?;
+    }
+    // Rows of data are pieces of the file, so some of its bytes stand in fewer shards too.
+    if !order.is_partial || split.header.format.has_cells() {
+        check_count(rt.alloc(), &order.wanted, split, files)?;
+    }
+    Ok(())
 }
 
 /// The file, none of which is written, or standard output.

@@ -9,10 +9,8 @@
 
 mod checking;
 mod cleaning;
-mod command;
 mod joining;
 mod listing;
-mod options;
 mod orders;
 mod progress;
 mod refusal;
@@ -21,10 +19,11 @@ mod rooting;
 mod splitting;
 mod status;
 
-use command::{Command, print_usage};
-use options::read_options;
 use partial_files::fault::owned;
-use refusal::{Refusal, WrongWord};
+use refusal::Refusal;
+use shardfile_words::command::{Command, print_usage};
+use shardfile_words::fault::WrongWord;
+use shardfile_words::options::read_options;
 use status::Status;
 use std::alloc::Global;
 use std::env::{self, Env};

@@ -6,91 +6,86 @@ ghost use Rattle.shardfile_commands.specs.Statuses.{judged, judged_files, refuse
 use crate::status::Status;
 use partial_files::fault::Fault as FileFault;
 use shard_files::fault::Fault;
+use shardfile_words::fault::{Fault as WordsFault, WrongWord};
 use std::alloc::{AllocError, AllocFailed};
 use std::{fmt, io};
-use thiserror::Error;
-
-/// What is wrong with which word.
-#[derive(Drop, Error)]
-pub enum WrongWord {
-    #[error("no command is given")]
-    NoCommand,
-    #[error("{0}: no such command")]
-    Command(String),
-    #[error("{0}: no such option")]
-    Option(String),
-    #[error("{0}: no option of {1}")]
-    OptionOf(&'static str, &'static str),
-    #[error("{0}: no {1} is given after it")]
-    NoWord(&'static str, &'static str),
-    #[error("{0}: is given twice")]
-    Twice(&'static str),
-    #[error("{0}: more words stand after it than it takes")]
-    NoMore(String),
-    #[error("{0}: no file can have this name: its last part is empty, or . or ..")]
-    Name(String),
-    #[error("-: --name NAME says what its shard files are called")]
-    NoName,
-    #[error("--name: goes with - alone, which is standard input")]
-    NameOfFile,
-    #[error("{0}: --only takes numbers below 65536, with commas between them")]
-    Only(String),
-    #[error("-: --partial writes no stream, but a file")]
-    PartialStream,
-    #[error("{0}: a root has 64 hexadecimal digits")]
-    Root(String),
-    #[error("a word is empty")]
-    Empty,
-    #[error("{1} words are given where {0} are wanted")]
-    Count(&'static str, usize),
-    #[error("{1} words are given where {0} are wanted: give {2}, without a number, or --shards {3}")]
-    Shards(&'static str, usize, String, &'static str),
-    #[error("{1}: {0} is a number from 1 to 65536")]
-    Number(&'static str, String),
-    #[error("MIN is {0}, and TOTAL is {1}: MIN is TOTAL at most")]
-    MinAboveTotal(u32, u32),
-}
-
-/// As its text: a derived form has an arm for each kind, which is dear to prove.
-impl fmt::Debug for WrongWord {
-    fn fmt<W: fmt::Write>(&self, f: &mut fmt::Formatter<W>) -> fmt::Result {
-        write!(f, "{self}")
-    }
-}
 
 /// Why a run is refused. Texts name the file that is meant.
-#[derive(Drop, Error)]
+#[derive(Drop)]
 pub enum Refusal {
-    #[error("{0}")]
     Usage(WrongWord),
-    #[error("refused: a word is no UTF-8 text: give the file such a name, or a link to it (ln -s), and call it by this")]
     Words,
-    #[error("{0}")]
     Files(Fault),
-    #[error("refused: {0}: another run is splitting it")]
     Busy(String),
-    #[error("refused: {0}: the file system has no locks, by which files of runs that go on are told: {1}")]
     NoLock(String, io::Error),
-    #[error("refused: {0}: changed while it was read")]
     Changed(String),
-    #[error("refused: {0}: has the name of a shard beyond these: move it away first")]
     Beyond(String),
-    #[error("refused: {0}: not all shards are there and fit")]
     Unsound(String),
-    #[error("refused: {0}: the file cannot be restored")]
     Lost(String),
-    #[error("refused: {0}: shard files that do not fit stay: repair --force replaces them")]
     Stays(String),
-    #[error("refused: {0}: files that do not fit stay, and repair --force replaces none of them")]
     Strays(String),
-    #[error("refused: {0}: some bytes cannot be restored, and are zeros")]
     Holes(String),
-    #[error("refused: {0} is no number of a shard: there are {1}, from 0 on")]
     NoNumber(u32, u32),
-    #[error("refused: the root is not printed: shardfile root {0} prints what its shard files claim: {1}")]
     Unprinted(String, io::Error),
 }
 
+impl fmt::Display for Refusal {
+    fn fmt<W: fmt::Write>(&self, f: &mut fmt::Formatter<W>) -> fmt::Result {
+        match self {
+            Refusal::Usage(wrong) => write!(f, "{wrong}"),
+            Refusal::Words => f.write_str(
+                "refused: a word is no UTF-8 text: give the file such a name, or a link to it \
+                (ln -s), and call it by this",
+            ),
+            Refusal::Files(fault) => write!(f, "{fault}"),
+            Refusal::Busy(name) => refuse(f, name, "another run is splitting it"),
+            Refusal::NoLock(name, error) => write!(
+                f,
+                "refused: {name}: the file system has no locks, by which files of runs that go on \
+                are told: {error}"
+            ),
+            Refusal::Changed(name) => refuse(f, name, "changed while it was read"),
+            Refusal::Beyond(name) => refuse(
+                f,
+                name,
+                "has the name of a shard beyond these: move it away first",
+            ),
+            Refusal::Unsound(label) => refuse(f, label, "not all shards are there and fit"),
+            Refusal::Lost(label) => refuse(f, label, "the file cannot be restored"),
+            Refusal::Stays(label) => refuse(
+                f,
+                label,
+                "shard files that do not fit stay: repair --force replaces them",
+            ),
+            Refusal::Strays(label) => refuse(
+                f,
+                label,
+                "files that do not fit stay, and repair --force replaces none of them",
+            ),
+            Refusal::Holes(label) => refuse(
+                f,
+                label,
+                "some bytes cannot be restored, and are zeros",
+            ),
+            Refusal::NoNumber(number, total) => write!(
+                f,
+                "refused: {number} is no number of a shard: there are {total}, from 0 on"
+            ),
+            Refusal::Unprinted(name, error) => write!(
+                f,
+                "refused: the root is not printed: shardfile root {name} prints what its shard \
+                files claim: {error}"
+            ),
+        }
+    }
+}
+
+/// Writes why what has this name is refused.
+fn refuse<W: fmt::Write>(f: &mut fmt::Formatter<W>, name: &str, why: &str) -> fmt::Result {
+    write!(f, "refused: {name}: {why}")
+}
+
+/// As its text: a derived form has an arm for each kind, which is dear to prove.
 impl fmt::Debug for Refusal {
     fn fmt<W: fmt::Write>(&self, f: &mut fmt::Formatter<W>) -> fmt::Result {
         write!(f, "{self}")
@@ -124,6 +119,15 @@ fn status_of(fault: &Fault) -> Status
         Fault::TooFew(..) | Fault::Block(..) | Fault::BlockRoot(_) => Status::Lost,
         Fault::NoRoot(..) | Fault::NoPaths(_) => Status::Lost,
         _ => Status::Unknown,
+    }
+}
+
+impl From<WordsFault> for Refusal {
+    fn from(fault: WordsFault) -> Refusal {
+        match fault {
+            WordsFault::Memory(e) => Refusal::from(e),
+            WordsFault::Word(wrong) => Refusal::Usage(wrong),
+        }
     }
 }
 

@@ -88,6 +88,20 @@ struct NewFiles {
 }
 
 impl NewFiles {
+    /// None, of a split.
+    fn new(
+        rt: &HostRuntime,
+        order: &Order,
+        split: &Split,
+        files: &[ShardFile],
+    ) -> Result<NewFiles, Refusal> {
+        let how = Manner::new(rt, order.force, first_rights(files))?;
+        Ok(NewFiles {
+            writer: ShardWriter::new(rt.alloc(), split, how, order.name)?,
+            names: Vec::new(rt.alloc()),
+        })
+    }
+
     /// Begins the file with this name, for the shards with this number.
     fn add(&mut self, rt: &HostRuntime, name: &str, number: u32, keys: Keys) -> Result<(), Fault>
         requires { number < self.old.writer.split.header.total }
@@ -146,19 +160,8 @@ fn repair_files(
         follows_claim: false,
     };
     let (found, tree) = gather_split(rt, &order.wanted, &reading, files)?;
-    check_count(rt.alloc(), &order.wanted, &found, files)?;
-    check_numbers(order, found.header.total)?;
-    // Under a root files may have several pairs of keys: new ones have those of the most.
-    let split = if needs_keys(rt.alloc(), order, &found, files)? {
-        split_of(rt, &order.wanted, files)?
-    } else {
-        found
-    };
-    let how = Manner::new(rt, order.force, first_rights(files))?;
-    let mut new = NewFiles {
-        writer: ShardWriter::new(rt.alloc(), &split, how, order.name)?,
-        names: Vec::new(rt.alloc()),
-    };
+    let split = split_of_new(rt, order, &found, files)?;
+    let mut new = NewFiles::new(rt, order, &split, files)?;
     let mut reader = BlockReader::new(rt.alloc(), &split, tree, true);
     match write_files(rt, order, &mut reader, files, &mut new) {
         Ok(()) => {
@@ -171,6 +174,22 @@ fn repair_files(
             Err(refusal)
         }
     }
+}
+
+/// The split that new files are of, where the files can be repaired. Under a root files may have
+/// several pairs of keys: new ones have those of the most.
+fn split_of_new(
+    rt: &HostRuntime,
+    order: &Order,
+    found: &Split,
+    files: &[ShardFile],
+) -> Result<Split, Refusal> {
+    check_count(rt.alloc(), &order.wanted, found, files)?;
+    check_numbers(order, found.header.total)?;
+    if needs_keys(rt.alloc(), order, found, files)? {
+        return Ok(split_of(rt, &order.wanted, files)?);
+    }
+    Ok(*found)
 }
 
 /// Whether a file may be written that is not there, or of which no header is known.

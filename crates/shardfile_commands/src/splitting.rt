@@ -7,7 +7,7 @@ use crate::refusal::Refusal;
 use crate::rooting::root_line;
 use partial_files::fault::{Fault as FileFault, name_error, owned};
 use partial_files::identity::{Identity, check_no_input};
-use partial_files::names::folder_and_name;
+use partial_files::names::name_of;
 use partial_files::partial::Manner;
 use partial_files::rights::rights_of;
 use shard_files::fault::Fault;
@@ -117,8 +117,7 @@ fn target_of(alloc: Global, file: &str, to: Option<&str>) -> Result<String, Allo
     let Some(folder) = to else {
         return owned(alloc, file);
     };
-    let (_, name) = folder_and_name(alloc, file)?;
-    format!(in alloc; "{folder}/{name}")
+    format!(in alloc; "{folder}/{}", name_of(file))
 }
 
 /// The regular file with this name, which no other run is splitting, and what the system says of

@@ -1,14 +1,10 @@
 //! The words after a command: options, and the others.
 
-ghost use Rattle.std.specs.Prelude.{◌≡◌, ◌≤◌, IfOk, None, OnOk};
+ghost use Rattle.std.specs.Prelude.{◌≡◌, None, OnOk};
 
 use crate::command::Command;
-use crate::refusal::{Refusal, WrongWord};
-use crate::rooting::root_of_word;
-use hash_trees::Digest;
+use crate::fault::{Fault, WrongWord};
 use partial_files::fault::owned;
-use shard_files::names::number_written;
-use shard_format::header::MOST_SHARDS;
 use std::alloc::Global;
 
 /// An option that wants a word after it.
@@ -81,7 +77,7 @@ impl<'a> Options<'a> {
     }
 
     /// Takes the word after an option that wants one.
-    fn take(&mut self, option: Wanting, word: &'a str) -> Result<(), Refusal> {
+    fn take(&mut self, option: Wanting, word: &'a str) -> Result<(), Fault> {
         match option {
             Wanting::Folder => self.to = Some(only_one(self.to, "--to", word)?),
             Wanting::Name => self.name = Some(only_one(self.name, "--name", word)?),
@@ -95,7 +91,7 @@ impl<'a> Options<'a> {
     }
 
     /// Takes an option that wants no word. It refuses one that is none.
-    fn set(&mut self, alloc: Global, option: &str) -> Result<(), Refusal> {
+    fn set(&mut self, alloc: Global, option: &str) -> Result<(), Fault> {
         match option {
             "--force" => self.force = true,
             "--all" => self.all = true,
@@ -103,7 +99,7 @@ impl<'a> Options<'a> {
             "--partial" => self.partial = true,
             "--root" => self.has_root = true,
             "--help" | "-h" => self.help = true,
-            _ => return Err(Refusal::Usage(WrongWord::Option(owned(alloc, option)?))),
+            _ => return Err(Fault::Word(WrongWord::Option(owned(alloc, option)?))),
         }
         Ok(())
     }
@@ -114,12 +110,12 @@ fn only_one<'a>(
     before: Option<&'a str>,
     option: &'static str,
     word: &'a str,
-) -> Result<&'a str, Refusal>
+) -> Result<&'a str, Fault>
     ensures { OnOk result (before.entry ≡ None) }
 {
     match before {
         None => Ok(word),
-        Some(_) => Err(Refusal::Usage(WrongWord::Twice(option))),
+        Some(_) => Err(Fault::Word(WrongWord::Twice(option))),
     }
 }
 
@@ -129,14 +125,14 @@ pub fn read_options<'a>(
     alloc: Global,
     words: &'a [String],
     command: Command,
-) -> Result<Options<'a>, Refusal> {
+) -> Result<Options<'a>, Fault> {
     let mut options = Options::new(alloc);
     let mut wanting = None;
     let mut have_ended = false;
     for word in words {
         let word = word.as_str();
         if word.is_empty() {
-            return Err(Refusal::Usage(WrongWord::Empty));
+            return Err(Fault::Word(WrongWord::Empty));
         }
         if let Some(option) = wanting {
             options.take(option, word)?;
@@ -153,7 +149,7 @@ pub fn read_options<'a>(
         }
     }
     match wanting {
-        Some(option) => Err(Refusal::Usage(option.without_word())),
+        Some(option) => Err(Fault::Word(option.without_word())),
         None => Ok(options),
     }
 }
@@ -168,7 +164,7 @@ pub fn check_options(
     options: &Options,
     command: &'static str,
     taken: &[&'static str],
-) -> Result<(), Refusal> {
+) -> Result<(), Fault> {
     let given = [
         (options.force, "--force"),
         (options.all, "--all"),
@@ -181,52 +177,8 @@ pub fn check_options(
     ];
     for (is_given, option) in &given {
         if *is_given && !taken.contains(option) {
-            return Err(Refusal::Usage(WrongWord::OptionOf(option, command)));
+            return Err(Fault::Word(WrongWord::OptionOf(option, command)));
         }
     }
     Ok(())
-}
-
-/// The number from 1 to the most shards that a word writes in decimal.
-pub fn number(alloc: Global, name: &'static str, word: &str) -> Result<u32, Refusal>
-    ensures { IfOk result (λ number. 1 ≤ number) }
-{
-    match number_written(alloc, word)? {
-        Some(number) if number >= 1 && number <= MOST_SHARDS => Ok(number),
-        _ => Err(Refusal::Usage(WrongWord::Number(name, owned(alloc, word)?))),
-    }
-}
-
-/// The numbers that the words after `--only` list, where it is given.
-pub fn numbers(alloc: Global, options: &Options) -> Result<Option<Vec<u32>>, Refusal> {
-    if options.only.is_empty() {
-        return Ok(None);
-    }
-    let mut numbers = Vec::new(alloc);
-    for list in &options.only {
-        add_numbers(alloc, list, &mut numbers)?;
-    }
-    Ok(Some(numbers))
-}
-
-/// Adds the numbers that the word lists, with commas between them.
-fn add_numbers(alloc: Global, list: &str, numbers: &mut Vec<u32>) -> Result<(), Refusal> {
-    for part in list.split(',') {
-        match number_written(alloc, part)? {
-            Some(number) if number < MOST_SHARDS => numbers.push(number)?,
-            _ => return Err(Refusal::Usage(WrongWord::Only(owned(alloc, list)?))),
-        }
-    }
-    Ok(())
-}
-
-/// The root that the word after `--root` is, where it is given.
-pub fn root_asked(alloc: Global, options: &Options) -> Result<Option<Digest>, Refusal> {
-    let Some(word) = options.root else {
-        return Ok(None);
-    };
-    match root_of_word(word) {
-        Some(root) => Ok(Some(root)),
-        None => Err(Refusal::Usage(WrongWord::Root(owned(alloc, word)?))),
-    }
 }
