@@ -5,10 +5,9 @@ ghost use Rattle.shard_format.specs.Splits.{IsPossible};
 
 use crate::fault::Fault;
 use crate::names::{name_before_number, shard_name};
-use crate::sources::{IMPOSSIBLE_HEADER, ShardFile, is_shard_file};
+use crate::sources::{IMPOSSIBLE_HEADER, MOST_KEPT_OPEN, ShardFile, is_shard_file};
 use crate::split::Split;
 use crate::wanted::{WantedFiles, distinct, numbers_there};
-use crate::writer::MOST_KEPT_OPEN;
 use partial_files::fault::owned;
 use shard_format::header::{Header, Verdict};
 use shard_format::splits::{Choice, chosen_split};

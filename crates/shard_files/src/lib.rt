@@ -1,21 +1,14 @@
-//! Shard files: their names, which are there and what split they are of, what they have of each
-//! block, and how they are written.
+//! Shard files: their names, which are there and what split or root they are of, and what stands in
+//! each of a block.
 #![tactic(auto)]
 
-mod block_roots;
-pub mod blocks;
-mod cell_writer;
-mod cells;
 pub mod fault;
 pub mod gathering;
 pub mod names;
-mod pairs;
 pub mod roots;
-mod row_writer;
-mod rows;
+pub mod row_records;
 pub mod sources;
 pub mod split;
-mod tree;
+pub mod tree;
 pub mod wanted;
 pub mod wasted;
-pub mod writer;

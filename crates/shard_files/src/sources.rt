@@ -15,6 +15,9 @@ use std::os::unix::fs::FileExt;
 /// open, of all programs or of this one.
 const NO_ROOM: [i32; 3] = [12, 23, 24];
 
+/// How many shard files are kept open at once, at most. Others are opened again for each block.
+pub const MOST_KEPT_OPEN: usize = 24;
+
 /// What is wrong with a file that begins as a shard file does.
 const ANOTHER_VERSION: &str = "has a header of another version";
 

@@ -2,7 +2,7 @@
 //! pairs behind their records.
 
 use crate::fault::Fault;
-use crate::rows::{RecordRoom, Seen, read_row};
+use crate::row_records::{RecordRoom, Seen, read_row};
 use crate::sources::ShardFile;
 use crate::split::{Block, Split};
 use hash_trees::{Descent, Digest, FileNumbers, file_root_above, node_digest};

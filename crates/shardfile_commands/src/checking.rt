@@ -9,7 +9,6 @@ use crate::progress::Progress;
 use crate::refusal::Refusal;
 use hash_trees::Digest;
 use partial_files::fault::owned;
-use shard_files::blocks::{BlockReader, Look};
 use shard_files::fault::Fault;
 use shard_files::gathering::{check_count, count_there};
 use shard_files::roots::{BlockTree, Reading, gather_split};
@@ -18,6 +17,7 @@ use shard_files::split::{Block, Split};
 use shard_files::wanted::WantedFiles;
 use shard_files::wasted::WastedReads;
 use shard_format::records::block_count;
+use shard_reading::blocks::{BlockReader, Look};
 use std::alloc::{AllocError, Global};
 
 /// What was found of the blocks that were looked at.

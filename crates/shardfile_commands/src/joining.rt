@@ -9,7 +9,6 @@ use hash_trees::Digest;
 use partial_files::fault::{Fault as FileFault, owned};
 use partial_files::partial::Manner;
 use partial_files::restored::Restored;
-use shard_files::blocks::{BlockReader, Look};
 use shard_files::fault::Fault;
 use shard_files::gathering::{check_count, first_rights};
 use shard_files::roots::{Reading, gather_split};
@@ -17,6 +16,7 @@ use shard_files::sources::{ShardFile, check_no_source};
 use shard_files::split::{Block, Split};
 use shard_files::wanted::{WantedFiles, is_shard_name};
 use shard_files::wasted::WastedReads;
+use shard_reading::blocks::{BlockReader, Look};
 use std::alloc::AllocError;
 
 /// The name that stands for standard output.

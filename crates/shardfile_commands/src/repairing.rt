@@ -13,7 +13,6 @@ use crate::refusal::Refusal;
 use hash_trees::Digest;
 use partial_files::fault::owned;
 use partial_files::partial::Manner;
-use shard_files::blocks::{BlockReader, Look};
 use shard_files::fault::Fault;
 use shard_files::gathering::{check_count, first_rights, split_of};
 use shard_files::names::shard_name;
@@ -21,9 +20,10 @@ use shard_files::roots::{Reading, gather_split};
 use shard_files::sources::{ShardFile, check_no_source};
 use shard_files::split::{Block, Split};
 use shard_files::wanted::WantedFiles;
-use shard_files::writer::{Known, ShardWriter};
 use shard_fingerprints::Keys;
 use shard_format::records::block_size;
+use shard_reading::blocks::{BlockReader, Look};
+use shard_writing::writer::{Known, ShardWriter};
 use std::alloc::{AllocError, Global};
 
 /// What is to be repaired.

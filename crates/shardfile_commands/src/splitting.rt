@@ -14,7 +14,7 @@ use shard_files::fault::Fault;
 use shard_files::names::shard_name;
 use shard_files::split::Split;
 use shard_files::wanted::numbers_there;
-use shard_files::writer::{Known, ShardWriter};
+use shard_writing::writer::{Known, ShardWriter};
 use std::alloc::{AllocError, Global};
 use std::fs::{self, File, Metadata, TryLockError};
 use std::io::{self, ErrorKind, Input, Read};

@@ -1,15 +1,15 @@
 //! Blocks of the file from shards of cells, which version 2 has.
 
 ghost use Rattle.std.specs.Prelude.{◌≡◌, All, length, IfOk, OnOk, IfSome};
-ghost use Rattle.shard_files.specs.Shards.{IsOfSplit};
+ghost use Rattle.shard_reading.specs.Shards.{IsOfSplit};
 
 use crate::blocks::Look;
-use crate::fault::Fault;
-use crate::sources::ShardFile;
-use crate::split::{Block, Split};
 use math_codec::codec::{self, decode};
 use math_fields::goldilocks::F;
 use shard_blocks::{Error, JoinedBlock, Shard, join_block, join_block_corrected};
+use shard_files::fault::Fault;
+use shard_files::sources::ShardFile;
+use shard_files::split::{Block, Split};
 use shard_format::header::Header;
 use shard_format::indices::count_distinct;
 use shard_format::records::{

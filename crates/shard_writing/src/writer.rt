@@ -3,23 +3,20 @@
 ghost use Rattle.std.specs.Prelude.{◌≡◌, ◌+◌, ◌*◌, ◌<◌, ◌≤◌, ◌^◌, All, length, IfOk, OnOk};
 
 use crate::cell_writer::CellWriter;
-use crate::fault::Fault;
 use crate::pairs::{compare_pairs, write_pairs};
 pub use crate::row_writer::Known;
 use crate::row_writer::{RowWriter, Target};
-use crate::sources::ShardFile;
-use crate::split::Split;
-use crate::tree::numbers_of;
 use hash_trees::{Digest, file_root_above};
 use partial_files::finishing::{folders_of, name_all, remove_all};
 use partial_files::names::MOST_FILES;
 use partial_files::partial::{Manner, Partial};
+use shard_files::fault::Fault;
+use shard_files::sources::{MOST_KEPT_OPEN, ShardFile};
+use shard_files::split::Split;
+use shard_files::tree::numbers_of;
 use shard_fingerprints::Keys;
 use shard_format::header::{Header, LARGEST_HEADER, header_bytes};
 use std::alloc::{AllocError, Global};
-
-/// How many shard files are kept open at once, at most. Others are opened again for each block.
-pub const MOST_KEPT_OPEN: usize = 24;
 
 /// Shard files of one split that are being written. Their headers are written last.
 #[derive(Drop)]

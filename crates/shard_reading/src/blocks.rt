@@ -3,12 +3,12 @@
 ghost use Rattle.std.specs.Prelude.{◌≡◌, ◌<◌, length, IfOk, IfSome};
 
 use crate::cells::CellReader;
-use crate::fault::Fault;
 use crate::rows::RowReader;
-use crate::sources::ShardFile;
-use crate::split::{Block, Split};
-use crate::tree::BlockTree;
 use hash_trees::Digest;
+use shard_files::fault::Fault;
+use shard_files::sources::ShardFile;
+use shard_files::split::{Block, Split};
+use shard_files::tree::BlockTree;
 use std::alloc::Global;
 
 /// Which shards of a block are looked at.

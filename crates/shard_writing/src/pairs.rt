@@ -1,12 +1,12 @@
 //! The pairs of the tree over the blocks of a file that is written.
 
 use crate::block_roots::BlockRoots;
-use crate::fault::Fault;
-use crate::sources::ShardFile;
-use crate::split::Split;
-use crate::tree::{OTHER_PAIRS, read_pair};
 use hash_trees::{Descent, Digest};
 use partial_files::partial::Partial;
+use shard_files::fault::Fault;
+use shard_files::sources::ShardFile;
+use shard_files::split::Split;
+use shard_files::tree::{OTHER_PAIRS, read_pair};
 
 /// How many bytes of pairs are written at once.
 const PAIRS_AT_ONCE: usize = 1 << 16;

@@ -2,11 +2,11 @@
 
 ghost use Rattle.std.specs.Prelude.{◌≡◌, ◌*◌, ◌<◌, ◌^◌, All, length, IfOk};
 
-use crate::fault::Fault;
-use crate::split::Split;
 use math_fields::goldilocks::F;
 use partial_files::partial::Partial;
 use shard_blocks::split_block_rows_at;
+use shard_files::fault::Fault;
+use shard_files::split::Split;
 use shard_format::records::write_record;
 use std::alloc::Global;
 

@@ -3,12 +3,12 @@
 ghost use Rattle.std.specs.Prelude.{◌≡◌, ◌*◌, ◌-◌, length, IfOk, OnOk};
 
 use crate::block_roots::BlockRoots;
-use crate::fault::Fault;
-use crate::split::Split;
 use hash_trees::Digest;
 use math_fields::goldilocks::F;
 use partial_files::partial::{Manner, Partial};
 use shard_blocks::Error;
+use shard_files::fault::Fault;
+use shard_files::split::Split;
 use shard_fingerprints::Keys;
 use shard_format::header::Header;
 use shard_format::rows::{MaskedRow, write_row_record};

@@ -3,11 +3,11 @@
 //! They are kept in memory as long as they are few. Then they go to a file of the run, and so do
 //! the levels of the tree, one behind the other: so a file of any length takes the same memory.
 
-use crate::fault::Fault;
 use hash_trees::{Digest, Tree, above};
 use partial_files::fault::owned;
 use partial_files::partial::Manner;
 use partial_files::scratch::Scratch;
+use shard_files::fault::Fault;
 use std::alloc::{AllocError, Global};
 use std::mem;
 

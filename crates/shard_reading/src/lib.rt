@@ -1,0 +1,8 @@
+//! The blocks of a file, from what shard files have of them.
+#![tactic(auto)]
+
+pub mod blocks;
+mod cells;
+mod joining;
+mod rooted;
+mod rows;
