@@ -3,43 +3,87 @@
 use partial_files::fault::Fault as FileFault;
 use std::alloc::{AllocError, AllocFailed};
 use std::{fmt, io};
-use thiserror::Error;
 
 /// Why something is not done with shard files. Texts name the file or the block that is meant.
-#[derive(Drop, Error)]
+#[derive(Drop)]
 pub enum Fault {
-    #[error("{0}")]
     File(FileFault),
     /// The folder in which shard files are looked for.
-    #[error("refused: {0}: {1}")]
     Folder(String, io::Error),
-    #[error("refused: more than 65536 files are to be written")]
     TooManyFiles,
-    #[error("refused: {0}: no shard is there")]
     NoShard(String),
     /// The name of a shard file in place of the file's, and what is to be given in its place.
-    #[error("refused: {0}: no shard is there: give {1}")]
     IsShard(String, String),
-    #[error("refused: {0}: equally many shards of two splits are there: {1} is of the one, and {2} of the other")]
+    /// Equally many shards of two splits are there: a name of one of each.
     Tie(String, String, String),
-    #[error("refused: {0}: no shard file has the length that its header says")]
     Length(String),
-    #[error("refused: {0}: {1} shards are there, and {2} are needed")]
+    /// How many shards are there, and how many are needed.
     TooFew(String, usize, u32),
-    #[error("refused: block {0}: {1}")]
     Block(u64, shard_blocks::Error),
     /// A block that shards under its root give has another root.
-    #[error("refused: block {0}: the root of no data")]
     BlockRoot(u64),
     /// No path or pair of the files leads up to the root that is asked for, or to any.
-    #[error("refused: {0}: no shard file leads up to {1}")]
     NoRoot(String, &'static str),
-    #[error("refused: {0}: the shard files have no paths, by which a root is checked: only split --root writes them")]
     NoPaths(String),
-    #[error("refused: a shard with too many words")]
+    /// A shard with too many words.
     Cells,
-    #[error("refused: the system gives no random words that can be keys")]
     Random,
+}
+
+impl Fault {
+    /// The name of the file, or of the folder, where one is meant.
+    fn name(&self) -> Option<&str> {
+        match self {
+            Fault::Folder(name, _)
+            | Fault::NoShard(name)
+            | Fault::IsShard(name, _)
+            | Fault::Tie(name, _, _)
+            | Fault::Length(name)
+            | Fault::TooFew(name, _, _)
+            | Fault::NoRoot(name, _)
+            | Fault::NoPaths(name) => Some(name.as_str()),
+            _ => None,
+        }
+    }
+
+    /// Writes what is wrong, without the name.
+    fn write_reason<W: fmt::Write>(&self, f: &mut fmt::Formatter<W>) -> fmt::Result {
+        match self {
+            Fault::File(fault) => write!(f, "{fault}"),
+            Fault::Folder(_, error) => write!(f, "{error}"),
+            Fault::TooManyFiles => f.write_str("more than 65536 files are to be written"),
+            Fault::NoShard(_) => f.write_str("no shard is there"),
+            Fault::IsShard(_, named) => write!(f, "no shard is there: give {named}"),
+            Fault::Tie(_, one, other) => write!(
+                f,
+                "equally many shards of two splits are there: {one} is of the one, and {other} of the other"
+            ),
+            Fault::Length(_) => f.write_str("no shard file has the length that its header says"),
+            Fault::TooFew(_, there, min) => {
+                write!(f, "{there} shards are there, and {min} are needed")
+            }
+            Fault::Block(number, error) => write!(f, "block {number}: {error}"),
+            Fault::BlockRoot(number) => write!(f, "block {number}: the root of no data"),
+            Fault::NoRoot(_, root) => write!(f, "no shard file leads up to {root}"),
+            Fault::NoPaths(_) => f.write_str(
+                "the shard files have no paths, by which a root is checked: only split --root writes them",
+            ),
+            Fault::Cells => f.write_str("a shard with too many words"),
+            Fault::Random => f.write_str("the system gives no random words that can be keys"),
+        }
+    }
+}
+
+impl fmt::Display for Fault {
+    fn fmt<W: fmt::Write>(&self, f: &mut fmt::Formatter<W>) -> fmt::Result {
+        if !matches!(self, Fault::File(_)) {
+            f.write_str("refused: ")?;
+        }
+        if let Some(name) = self.name() {
+            write!(f, "{name}: ")?;
+        }
+        self.write_reason(f)
+    }
 }
 
 /// As its text: a derived form has an arm for each kind, which is dear to prove.
