@@ -2,6 +2,7 @@
 //! each of a block.
 #![tactic(auto)]
 
+pub mod committing;
 pub mod fault;
 pub mod gathering;
 pub mod names;

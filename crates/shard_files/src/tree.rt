@@ -2,7 +2,7 @@
 //! pairs behind their records.
 
 use crate::fault::Fault;
-use crate::row_records::{RecordRoom, Seen, read_row};
+use crate::row_records::{Paths, RecordReader, Seen};
 use crate::sources::ShardFile;
 use crate::split::{Block, Split};
 use hash_trees::{Descent, Digest, FileNumbers, file_root_above, node_digest};
@@ -62,9 +62,9 @@ fn top_of_record(
     file: &ShardFile,
 ) -> Result<Option<Digest>, Fault> {
     let block = split.first_block();
-    let mut room = RecordRoom::new(rt.alloc());
-    match read_row(rt, split, file, block, true, &mut room)? {
-        Seen::Row(row) => Ok(root_by_shard(split.rows_of(block.bytes)?, &row.shard())),
+    let rows = split.rows_of(block.bytes)?;
+    match RecordReader::new(rt.alloc(), split).row(rt, file, block, Paths::Deciding)? {
+        Seen::Row(row) => Ok(root_by_shard(rows, &row.shard)),
         _ => Ok(None),
     }
 }

@@ -39,6 +39,19 @@ pub struct FoundBlock {
     pub root: Option<Digest>,
 }
 
+impl FoundBlock {
+    /// The block with these bytes and this mask, whose root is not known.
+    pub(crate) fn new(bytes: Vec<u8>, mask: u32) -> FoundBlock
+        ensures { result.bytes ≡ bytes }
+    {
+        FoundBlock {
+            bytes,
+            mask,
+            root: None,
+        }
+    }
+}
+
 /// What reads blocks of a split, one after the other.
 #[derive(Drop)]
 pub struct BlockReader {
@@ -92,11 +105,10 @@ impl BlockReader {
         ensures { IfOk result (λ found. length found.bytes.items ≡ block.bytes) }
     {
         match &mut self.kind {
-            Kind::Cells(reader) => Ok(FoundBlock {
-                bytes: reader.block(rt, files, block, look)?,
-                mask: 0,
-                root: None,
-            }),
+            Kind::Cells(reader) => {
+                let bytes = reader.block(rt, files, block, look)?;
+                Ok(FoundBlock::new(bytes, 0))
+            }
             Kind::Rows(reader) => reader.block(rt, files, block, look),
         }
     }

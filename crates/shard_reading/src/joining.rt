@@ -2,9 +2,58 @@
 
 ghost use Rattle.std.specs.Prelude.{◌≡◌, length, IfOk, IfSome};
 
-use shard_files::row_records::FoundRow;
+use crate::blocks::FoundBlock;
+use hash_trees::Digest;
+use shard_roots::Shard;
 use std::alloc::{AllocError, Global};
 use systematic_shards::{Code, Row, Split as RowSplit, decode, rebuild_corrected};
+
+/// A row of a block that was found.
+#[derive(Drop)]
+pub struct FoundRow {
+    pub index: u32,
+    pub mask: u32,
+    /// The bytes of the row.
+    pub cells: Vec<u8>,
+    pub path: Vec<Digest>,
+    /// At which of the files it is.
+    pub place: usize,
+}
+
+impl FoundRow {
+    /// A copy of the row that is at this place.
+    pub fn new(alloc: Global, row: &Shard<'_>, place: usize) -> Result<FoundRow, AllocError> {
+        let mut cells = Vec::new(alloc);
+        cells.extend_from_slice(row.cells)?;
+        let mut path = Vec::new(alloc);
+        path.extend_from_slice(row.path)?;
+        Ok(FoundRow {
+            index: row.index,
+            mask: row.mask,
+            cells,
+            path,
+            place,
+        })
+    }
+
+    /// It, as a shard with its path.
+    pub fn shard(&self) -> Shard<'_> {
+        Shard {
+            index: self.index,
+            mask: self.mask,
+            cells: self.cells.as_slice(),
+            path: self.path.as_slice(),
+        }
+    }
+
+    /// It, as a row.
+    fn row(&self) -> Row<'_, u8> {
+        Row {
+            index: self.index,
+            cells: self.cells.as_slice(),
+        }
+    }
+}
 
 /// Whether masks that were seen are all one.
 #[derive(Clone, Copy)]
@@ -72,10 +121,7 @@ fn block_decoded(
 {
     let mut rows = Vec::new(alloc);
     for row in found {
-        rows.push(Row {
-            index: row.index,
-            cells: row.cells.as_slice(),
-        })?;
+        rows.push(row.row())?;
     }
     let mut bytes = vec![in alloc; 0u8; split.size]?;
     match decode(alloc, Code { split, mask }, &rows, &mut bytes) {
@@ -85,15 +131,13 @@ fn block_decoded(
     }
 }
 
-/// The bytes of a block that rows with one mask give, and the mask, where there are as many as give
-/// one.
+/// The block that rows with one mask give, where there are as many as give one.
 pub fn block_given(
     alloc: Global,
     split: RowSplit,
     found: &[FoundRow],
-) -> Result<Option<(Vec<u8>, u32)>, AllocError>
-    ensures { IfOk result (λ answer. IfSome answer
-        (λ given. length given.0.items ≡ split.size)) }
+) -> Result<Option<FoundBlock>, AllocError>
+    ensures { IfOk result (λ answer. IfSome answer (λ b. length b.bytes.items ≡ split.size)) }
 {
     let Some(mask) = one_mask(found) else {
         return Ok(None);
@@ -102,7 +146,7 @@ pub fn block_given(
         return Ok(None);
     }
     match block_decoded(alloc, split, mask, found)? {
-        Some(bytes) => Ok(Some((bytes, mask))),
+        Some(bytes) => Ok(Some(FoundBlock::new(bytes, mask))),
         None => Ok(None),
     }
 }
@@ -110,8 +154,7 @@ pub fn block_given(
 /// A block that all rows but a few give.
 #[derive(Drop)]
 pub struct CorrectedBlock {
-    pub bytes: Vec<u8>,
-    pub mask: u32,
+    pub block: FoundBlock,
     /// The positions of those few.
     pub left_out: Vec<usize>,
 }
@@ -124,25 +167,36 @@ pub fn block_corrected(
     split: RowSplit,
     found: &[FoundRow],
 ) -> Result<Option<CorrectedBlock>, AllocError>
-    ensures { IfOk result (λ answer. IfSome answer (λ c. length c.bytes.items ≡ split.size)) }
+    ensures { IfOk result (λ answer. IfSome answer
+        (λ c. length c.block.bytes.items ≡ split.size)) }
 {
-    if let Some((bytes, mask)) = block_given(alloc, split, found)? {
+    if let Some(block) = block_given(alloc, split, found)? {
         return Ok(Some(CorrectedBlock {
-            bytes,
-            mask,
+            block,
             left_out: Vec::new(alloc),
         }));
     }
-    let mask = most_common_mask(found);
+    let corrected = block_of_most(alloc, split, most_common_mask(found), found)?;
+    let allowed = found.len().saturating_sub(split.min as usize) / 2;
+    Ok(corrected.filter(|corrected| corrected.left_out.len() <= allowed))
+}
+
+/// The block that most of the rows with this mask give. Rows with another one are left out.
+fn block_of_most(
+    alloc: Global,
+    split: RowSplit,
+    mask: u32,
+    found: &[FoundRow],
+) -> Result<Option<CorrectedBlock>, AllocError>
+    ensures { IfOk result (λ answer. IfSome answer
+        (λ c. length c.block.bytes.items ≡ split.size)) }
+{
     let mut rows = Vec::new(alloc);
     let mut places = Vec::new(alloc);
     let mut left_out = Vec::new(alloc);
     for (place, row) in found.iter().enumerate() {
         if row.mask == mask {
-            rows.push(Row {
-                index: row.index,
-                cells: row.cells.as_slice(),
-            })?;
+            rows.push(row.row())?;
             places.push(place)?;
         } else {
             left_out.push(place)?;
@@ -156,13 +210,8 @@ pub fn block_corrected(
             left_out.push(*place)?;
         }
     }
-    let allowed = found.len().saturating_sub(split.min as usize) / 2;
-    if left_out.len() > allowed {
-        return Ok(None);
-    }
     Ok(Some(CorrectedBlock {
-        bytes,
-        mask,
+        block: FoundBlock::new(bytes, mask),
         left_out,
     }))
 }

@@ -6,3 +6,4 @@ mod cells;
 mod joining;
 mod rooted;
 mod rows;
+mod used_rows;

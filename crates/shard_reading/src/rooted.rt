@@ -1,9 +1,10 @@
 //! The block that rows give under its root.
 
-use crate::blocks::Look;
-use crate::joining::one_mask;
+use crate::blocks::FoundBlock;
+use crate::joining::{FoundRow, block_given, one_mask};
 use hash_trees::Digest;
-use shard_files::row_records::FoundRow;
+use shard_files::committing::Committed;
+use shard_files::fault::Fault;
 use shard_roots::{is_shard_under, join_committed, join_under};
 use std::alloc::{AllocError, Global};
 use systematic_shards::Split as RowSplit;
@@ -11,20 +12,47 @@ use systematic_shards::Split as RowSplit;
 /// What rows of a block give under its root.
 #[derive(Drop)]
 pub enum Joined {
-    /// This block, and its mask.
-    Block(Vec<u8>, u32),
+    Block(FoundBlock),
     /// A block with another root.
     OtherRoot,
     /// No block, though all are under the root.
     NoBlock,
-    /// It is not known, since one of them is not under the root.
+    /// It is not known, since one of them may not be under the root.
     Others,
 }
 
-/// Joins rows of a block under its root. Where all are compared, the block is committed to again.
+/// The block that rows give, where a commitment to it has this root, and their paths.
+///
+/// Then they are its own, and under the root, and none was hashed but those of the commitment.
+pub fn block_committed(
+    alloc: Global,
+    root: &Digest,
+    split: RowSplit,
+    found: &[FoundRow],
+) -> Result<Joined, Fault> {
+    let Some(block) = block_given(alloc, split, found)? else {
+        return Ok(Joined::Others);
+    };
+    let mut parity = Vec::new(alloc);
+    let committed = Committed::new(alloc, split, &block.bytes, &mut parity)?;
+    if committed.root() != *root || committed.mask() != block.mask {
+        return Ok(Joined::Others);
+    }
+    for row in found {
+        if committed.path(alloc, row.index)? != row.path {
+            return Ok(Joined::Others);
+        }
+    }
+    Ok(Joined::Block(FoundBlock {
+        root: Some(*root),
+        ..block
+    }))
+}
+
+/// Joins rows of a block under its root. Where that is strict, the block is committed to again.
 pub fn join_rows(
     alloc: Global,
-    look: Look,
+    is_strict: bool,
     root: &Digest,
     split: RowSplit,
     found: &[FoundRow],
@@ -33,24 +61,24 @@ pub fn join_rows(
     for row in found {
         shards.push(row.shard())?;
     }
-    let mask = one_mask(found).unwrap_or(0);
     let mut bytes = vec![in alloc; 0u8; split.size]?;
-    let joined = if look == Look::Compared {
+    let joined = if is_strict {
         join_committed(alloc, root, split, &shards, &mut bytes)
     } else {
         join_under(alloc, root, split, &shards, &mut bytes)
     };
     match joined {
-        Ok(left_out) if left_out.is_empty() => Ok(Joined::Block(bytes, mask)),
+        Ok(left_out) if left_out.is_empty() => Ok(Joined::Block(FoundBlock {
+            bytes,
+            mask: one_mask(found).unwrap_or(0),
+            root: Some(*root),
+        })),
         Err(shard_roots::Error::Memory(error)) => Err(error),
         Err(shard_roots::Error::Root) => Ok(Joined::OtherRoot),
-        _ => {
-            for shard in &shards {
-                if !is_shard_under(root, split, shard) {
-                    return Ok(Joined::Others);
-                }
-            }
-            Ok(Joined::NoBlock)
-        }
+        _
+            if shards
+                .iter()
+                .all(|shard| is_shard_under(root, split, shard)) => Ok(Joined::NoBlock),
+        _ => Ok(Joined::Others),
     }
 }

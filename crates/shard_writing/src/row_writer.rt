@@ -7,12 +7,13 @@ use hash_trees::Digest;
 use math_fields::goldilocks::F;
 use partial_files::partial::{Manner, Partial};
 use shard_blocks::Error;
+use shard_files::committing::Committed;
 use shard_files::fault::Fault;
 use shard_files::split::Split;
 use shard_fingerprints::Keys;
 use shard_format::header::Header;
 use shard_format::rows::{MaskedRow, write_row_record};
-use shard_roots::{Commitment, commit};
+use shard_roots::Shard;
 use std::alloc::{AllocError, Global};
 use systematic_shards::{Code, Row, Split as RowSplit, encode, rebuild};
 
@@ -56,22 +57,186 @@ struct RecordRoom {
     record: Vec<u8>,
 }
 
-/// A commitment to a block in so many shards.
+impl RecordRoom {
+    /// The record of a shard of the block with this number, and its path, under this header.
+    fn record(
+        &mut self,
+        alloc: Global,
+        header: &Header,
+        number: u64,
+        shard: &Shard<'_>,
+    ) -> Result<&[u8], Fault> {
+        let Some(row) = MaskedRow::new(shard.mask, shard.cells) else {
+            return Err(Fault::Cells);
+        };
+        let RecordRoom { elements, record } = self;
+        write_row_record(alloc, header, number, row, elements, record)?;
+        for digest in shard.path {
+            record.extend_from_slice(digest)?;
+        }
+        Ok(record)
+    }
+}
+
+/// The data rows of a block, of so many bytes each: those that its bytes fill, and the others.
+#[derive(Clone, Copy)]
+struct DataRows<'a> {
+    width: usize,
+    bytes: &'a [u8],
+    padded: &'a [u8],
+}
+
+impl<'a> DataRows<'a> {
+    /// The row with this number.
+    fn row(&self, number: usize) -> &'a [u8] {
+        let row = row_in(self.bytes, number, self.width);
+        if row.len() == self.width {
+            return row;
+        }
+        let filled = self.bytes.len() / self.width.max(1);
+        row_in(self.padded, number.saturating_sub(filled), self.width)
+    }
+
+    /// The first rows, so many.
+    fn first(&self, alloc: Global, count: u32) -> Result<Vec<Row<'a, u8>>, AllocError> {
+        let mut rows = Vec::new(alloc);
+        for index in 0..count {
+            let cells = self.row(index as usize);
+            rows.push(Row { index, cells })?;
+        }
+        Ok(rows)
+    }
+}
+
+/// Room for the rows of a block that its bytes do not hold.
 #[derive(Drop)]
-struct Committed {
-    commitment: Commitment,
-    total: u32,
-    ghost whole: { length commitment.tree ≡ total },
+struct RowRoom {
+    /// The data rows that they do not fill, with zeros behind the last byte.
+    padded: Vec<u8>,
+    /// The rows that are made from the data.
+    made: Vec<u8>,
+}
+
+impl RowRoom {
+    /// Takes the data rows that the bytes of the block do not fill.
+    fn pad(&mut self, split: RowSplit, bytes: &[u8]) -> Result<(), AllocError> {
+        let width = 8 * split.width;
+        let filled = bytes.len() / width.max(1);
+        let size = (split.min as usize * width).saturating_sub(filled.saturating_mul(width));
+        self.padded.clear();
+        self.padded.extend_from_slice(row_in(bytes, filled, width))?;
+        self.padded.resize(size, 0)?;
+        Ok(())
+    }
+
+    /// The data rows of the block.
+    fn data<'a>(&'a self, split: RowSplit, bytes: &'a [u8]) -> DataRows<'a> {
+        DataRows {
+            width: 8 * split.width,
+            bytes,
+            padded: self.padded.as_slice(),
+        }
+    }
+
+    /// Makes the parity rows of the block, and gives its mask.
+    fn make_parity(
+        &mut self,
+        alloc: Global,
+        split: RowSplit,
+        bytes: &[u8],
+    ) -> Result<u32, AllocError>
+        requires { length bytes.now ≡ split.size }
+    {
+        let size = (split.total - split.min) as usize * (8 * split.width);
+        self.made.resize(size, 0)?;
+        encode(alloc, split, bytes, &mut self.made)
+    }
+
+    /// Makes the rows alone that are meant, of the block with this mask.
+    fn make_meant(
+        &mut self,
+        alloc: Global,
+        target: Target<'_>,
+        code: Code,
+        bytes: &[u8],
+    ) -> Result<(), Fault> {
+        let Some(size) = target.indices.len().checked_mul(8 * code.split.width) else {
+            return Err(Fault::Cells);
+        };
+        self.made.resize(size, 0)?;
+        let data = DataRows {
+            width: 8 * code.split.width,
+            bytes,
+            padded: self.padded.as_slice(),
+        };
+        let rows = data.first(alloc, code.split.min)?;
+        match rebuild(alloc, code, &rows, target.indices, &mut self.made) {
+            Ok(()) => Ok(()),
+            Err(systematic_shards::Error::Memory(error)) => Err(Fault::from(error)),
+            Err(_) => Err(Fault::Block(target.number, Error::Inconsistent)),
+        }
+    }
+}
+
+/// The rows of a block, its mask, and the commitment to it where records have paths.
+#[derive(Clone, Copy)]
+struct BlockRows<'a> {
+    mask: u32,
+    data: DataRows<'a>,
+    /// The rows that were made: those of the files in their order, or the parity rows.
+    made: &'a [u8],
+    are_of_files: bool,
+    committed: Option<&'a Committed>,
+}
+
+impl<'a> BlockRows<'a> {
+    /// The row of the file at this place, which has this header.
+    fn row(&self, place: usize, header: &Header) -> &'a [u8] {
+        let width = self.data.width;
+        if self.are_of_files {
+            row_in(self.made, place, width)
+        } else if header.index < header.min {
+            self.data.row(header.index as usize)
+        } else {
+            row_in(self.made, (header.index - header.min) as usize, width)
+        }
+    }
+
+    /// The path of the shard of this index, where records have paths.
+    fn path(&self, alloc: Global, index: u32) -> Result<Vec<Digest>, AllocError> {
+        match self.committed {
+            Some(committed) => committed.path(alloc, index),
+            None => Ok(Vec::new(alloc)),
+        }
+    }
+
+    /// Writes the record of the row of each of the files at its end, and its path.
+    fn append(
+        &self,
+        rt: &HostRuntime,
+        target: Target<'_>,
+        room: &mut RecordRoom,
+        partials: &mut [Partial],
+    ) -> Result<(), Fault> {
+        for (place, partial) in partials.iter_mut().enumerate() {
+            let header = target.header(place);
+            let path = self.path(rt.alloc(), header.index)?;
+            let shard = Shard {
+                index: header.index,
+                mask: self.mask,
+                cells: self.row(place, &header),
+                path: &path,
+            };
+            partial.append(rt, room.record(rt.alloc(), &header, target.number, &shard)?)?;
+        }
+        Ok(())
+    }
 }
 
 /// What writes the records of blocks.
 #[derive(Drop)]
 pub struct RowWriter {
-    /// The data rows of a block, and its parity rows, or those that are written.
-    data: Vec<u8>,
-    parity: Vec<u8>,
-    /// How many bytes a row has.
-    width: usize,
+    rows: RowRoom,
     room: RecordRoom,
     /// The next block, where it is committed to.
     committed: Option<Committed>,
@@ -84,9 +249,10 @@ impl RowWriter {
     /// this name has their roots.
     pub fn new(alloc: Global, beside: &str, how: Manner) -> Result<RowWriter, AllocError> {
         Ok(RowWriter {
-            data: Vec::new(alloc),
-            parity: Vec::new(alloc),
-            width: 0,
+            rows: RowRoom {
+                padded: Vec::new(alloc),
+                made: Vec::new(alloc),
+            },
             room: RecordRoom {
                 elements: Vec::new(alloc),
                 record: Vec::new(alloc),
@@ -105,33 +271,17 @@ impl RowWriter {
         bytes: &[u8],
         known: Known,
     ) -> Result<Digest, Fault> {
-        let split = self.take_data(target, bytes)?;
-        let committed = commit_to(alloc, split, bytes, &mut self.parity)?;
-        let root = committed.commitment.root();
-        let (mask, number) = (committed.commitment.mask, target.number);
+        let split = rows_of(target, bytes)?;
+        let committed = Committed::new(alloc, split, bytes, &mut self.rows.made)?;
+        let (mask, root) = (committed.mask(), committed.root());
         if known.mask.is_some_and(|other| other != mask) {
-            return Err(Fault::Block(number, Error::Inconsistent));
+            return Err(Fault::Block(target.number, Error::Inconsistent));
         }
         if known.root.is_some_and(|other| other != root) {
-            return Err(Fault::BlockRoot(number));
+            return Err(Fault::BlockRoot(target.number));
         }
         self.committed = Some(committed);
         Ok(root)
-    }
-
-    /// Takes the data rows of a block, and gives how it is cut.
-    fn take_data(&mut self, target: Target<'_>, bytes: &[u8]) -> Result<RowSplit, Fault>
-        ensures { IfOk result (λ split. split.size ≡ length bytes.now) }
-    {
-        let Ok(size) = u32::try_from(bytes.len()) else {
-            return Err(Fault::Cells);
-        };
-        let split = target.split.rows_of(size)?;
-        self.data.clear();
-        self.data.extend_from_slice(bytes)?;
-        self.data.resize(split.min as usize * (8 * split.width), 0)?;
-        self.width = 8 * split.width;
-        Ok(split)
     }
 
     /// Writes the records of a block, one to each of the files. It refuses a block whose mask or
@@ -144,17 +294,30 @@ impl RowWriter {
         known: Known,
         partials: &mut [Partial],
     ) -> Result<(), Fault> {
+        let split = rows_of(target, bytes)?;
+        self.rows.pad(split, bytes)?;
         if target.split.header.format.has_paths() {
             return self.write_committed(rt, target, bytes, known, partials);
         }
-        let split = self.take_data(target, bytes)?;
-        match known.mask {
-            Some(mask) => self.write_rebuilt(rt, target, Code { split, mask }, partials),
-            None => self.write_encoded(rt, target, split, bytes, partials),
-        }
+        let mask = match known.mask {
+            Some(mask) => {
+                let code = Code { split, mask };
+                self.rows.make_meant(rt.alloc(), target, code, bytes)?;
+                mask
+            }
+            None => self.rows.make_parity(rt.alloc(), split, bytes)?,
+        };
+        let rows = BlockRows {
+            mask,
+            data: self.rows.data(split, bytes),
+            made: self.rows.made.as_slice(),
+            are_of_files: known.mask.is_some(),
+            committed: None,
+        };
+        rows.append(rt, target, &mut self.room, partials)
     }
 
-    /// Writes the records of the rows that are meant, and their paths.
+    /// Writes the records of a block, and their paths.
     fn write_committed(
         &mut self,
         rt: &HostRuntime,
@@ -169,137 +332,26 @@ impl RowWriter {
         let Some(committed) = self.committed.take() else {
             return Ok(());
         };
-        self.roots.push(rt, committed.commitment.root())?;
-        let mask = committed.commitment.mask;
-        let number = target.number;
-        for (place, partial) in partials.iter_mut().enumerate() {
-            let header = target.header(place);
-            let row = row_of(&self.data, &self.parity, self.width, &header);
-            let path = path_of(rt.alloc(), &committed, header.index)?;
-            append(
-                rt,
-                &header,
-                number,
-                mask,
-                row,
-                &path,
-                &mut self.room,
-                partial,
-            )?;
-        }
-        Ok(())
-    }
-
-    /// Writes the records of all rows that are meant, of a block whose rows are not known.
-    fn write_encoded(
-        &mut self,
-        rt: &HostRuntime,
-        target: Target<'_>,
-        split: RowSplit,
-        bytes: &[u8],
-        partials: &mut [Partial],
-    ) -> Result<(), Fault>
-        requires { length bytes.now ≡ split.size }
-    {
-        let size = (split.total - split.min) as usize * (8 * split.width);
-        self.parity.resize(size, 0)?;
-        let mask = encode(rt.alloc(), split, bytes, &mut self.parity)?;
-        for (place, partial) in partials.iter_mut().enumerate() {
-            let header = target.header(place);
-            let row = row_of(&self.data, &self.parity, self.width, &header);
-            append(
-                rt,
-                &header,
-                target.number,
-                mask,
-                row,
-                &[],
-                &mut self.room,
-                partial,
-            )?;
-        }
-        Ok(())
-    }
-
-    /// Writes the records of the rows that are meant alone, of a block with this mask.
-    fn write_rebuilt(
-        &mut self,
-        rt: &HostRuntime,
-        target: Target<'_>,
-        code: Code,
-        partials: &mut [Partial],
-    ) -> Result<(), Fault> {
-        let width = 8 * code.split.width;
-        let rows = data_rows(rt.alloc(), &self.data, code.split.min, self.width)?;
-        let Some(size) = target.indices.len().checked_mul(width) else {
-            return Err(Fault::Cells);
+        self.roots.push(rt, committed.root())?;
+        let rows = BlockRows {
+            mask: committed.mask(),
+            data: self.rows.data(rows_of(target, bytes)?, bytes),
+            made: self.rows.made.as_slice(),
+            are_of_files: false,
+            committed: Some(&committed),
         };
-        self.parity.resize(size, 0)?;
-        match rebuild(rt.alloc(), code, &rows, target.indices, &mut self.parity) {
-            Ok(()) => {}
-            Err(systematic_shards::Error::Memory(error)) => return Err(Fault::from(error)),
-            Err(_) => return Err(Fault::Block(target.number, Error::Inconsistent)),
-        }
-        for (place, partial) in partials.iter_mut().enumerate() {
-            let header = target.header(place);
-            let row = row_in(&self.parity, place, width);
-            append(
-                rt,
-                &header,
-                target.number,
-                code.mask,
-                row,
-                &[],
-                &mut self.room,
-                partial,
-            )?;
-        }
-        Ok(())
+        rows.append(rt, target, &mut self.room, partials)
     }
 }
 
-/// Commits to a block, and writes its parity rows over `parity`.
-fn commit_to(
-    alloc: Global,
-    split: RowSplit,
-    bytes: &[u8],
-    parity: &mut Vec<u8>,
-) -> Result<Committed, Fault>
-    requires { length bytes.now ≡ split.size }
+/// How a block with these bytes is cut into rows.
+fn rows_of(target: Target<'_>, bytes: &[u8]) -> Result<RowSplit, Fault>
+    ensures { IfOk result (λ split. split.size ≡ length bytes.now) }
 {
-    let size = (split.total - split.min) as usize * (8 * split.width);
-    parity.resize(size, 0)?;
-    match commit(alloc, split, bytes, parity) {
-        Ok(commitment) => Ok(Committed {
-            commitment,
-            total: split.total,
-        }),
-        Err(shard_roots::Error::Memory(error)) => Err(Fault::from(error)),
+    match u32::try_from(bytes.len()) {
+        Ok(size) => target.split.rows_of(size),
         Err(_) => Err(Fault::Cells),
     }
-}
-
-/// The path of the shard of this index, or none beyond the last.
-fn path_of(alloc: Global, committed: &Committed, index: u32) -> Result<Vec<Digest>, AllocError> {
-    if index < committed.total {
-        return committed.commitment.path(alloc, index);
-    }
-    Ok(Vec::new(alloc))
-}
-
-/// The data rows of a block, of so many bytes each.
-fn data_rows(
-    alloc: Global,
-    data: &[u8],
-    min: u32,
-    width: usize,
-) -> Result<Vec<Row<'_, u8>>, AllocError> {
-    let mut rows = Vec::new(alloc);
-    for index in 0..min {
-        let cells = row_in(data, index as usize, width);
-        rows.push(Row { index, cells })?;
-    }
-    Ok(rows)
 }
 
 /// Row number `place` of rows of so many bytes that lie one behind the other, as far as it is
@@ -309,35 +361,4 @@ fn row_in(rows: &[u8], place: usize, width: usize) -> &[u8] {
     let (_, rest) = rows.split_at(from);
     let (row, _) = rest.split_at(width.min(rest.len()));
     row
-}
-
-/// The row of the index of the header.
-fn row_of<'a>(data: &'a [u8], parity: &'a [u8], width: usize, header: &Header) -> &'a [u8] {
-    if header.index < header.min {
-        row_in(data, header.index as usize, width)
-    } else {
-        row_in(parity, (header.index - header.min) as usize, width)
-    }
-}
-
-/// Writes the record of a row, and its path, at the end of the file with this header.
-fn append(
-    rt: &HostRuntime,
-    header: &Header,
-    number: u64,
-    mask: u32,
-    row: &[u8],
-    path: &[Digest],
-    room: &mut RecordRoom,
-    partial: &mut Partial,
-) -> Result<(), Fault> {
-    let Some(row) = MaskedRow::new(mask, row) else {
-        return Err(Fault::Cells);
-    };
-    let RecordRoom { elements, record } = room;
-    write_row_record(rt.alloc(), header, number, row, elements, record)?;
-    for digest in path {
-        record.extend_from_slice(digest)?;
-    }
-    Ok(partial.append(rt, record)?)
 }

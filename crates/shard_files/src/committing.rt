@@ -1,0 +1,58 @@
+//! Commitments to blocks, which give their rows paths.
+
+ghost use Rattle.std.specs.Prelude.{◌≡◌, ◌*◌, ◌-◌, length, IfOk};
+
+use crate::fault::Fault;
+use hash_trees::Digest;
+use shard_roots::{Commitment, commit};
+use std::alloc::{AllocError, Global};
+use systematic_shards::Split as RowSplit;
+
+/// A commitment to a block in so many shards.
+#[derive(Drop)]
+pub struct Committed {
+    commitment: Commitment,
+    total: u32,
+    ghost whole: { length commitment.tree ≡ total },
+}
+
+impl Committed {
+    /// Commits to a block, and writes its parity rows over `parity`.
+    pub fn new(
+        alloc: Global,
+        split: RowSplit,
+        bytes: &[u8],
+        parity: &mut Vec<u8>,
+    ) -> Result<Committed, Fault>
+        requires { length bytes.now ≡ split.size }
+    {
+        let size = (split.total - split.min) as usize * (8 * split.width);
+        parity.resize(size, 0)?;
+        match commit(alloc, split, bytes, parity) {
+            Ok(commitment) => Ok(Committed {
+                commitment,
+                total: split.total,
+            }),
+            Err(shard_roots::Error::Memory(error)) => Err(Fault::from(error)),
+            Err(_) => Err(Fault::Cells),
+        }
+    }
+
+    /// The mask of the block.
+    pub fn mask(&self) -> u32 {
+        self.commitment.mask
+    }
+
+    /// The root of the block.
+    pub fn root(&self) -> Digest {
+        self.commitment.root()
+    }
+
+    /// The path of the shard of this index, or none beyond the last.
+    pub fn path(&self, alloc: Global, index: u32) -> Result<Vec<Digest>, AllocError> {
+        if index < self.total {
+            return self.commitment.path(alloc, index);
+        }
+        Ok(Vec::new(alloc))
+    }
+}
