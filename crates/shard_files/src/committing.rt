@@ -11,9 +11,9 @@ use systematic_shards::Split as RowSplit;
 /// A commitment to a block in so many shards.
 #[derive(Drop)]
 pub struct Committed {
-    commitment: Commitment,
+    pub commitment: Commitment,
     total: u32,
-    ghost whole: { length commitment.tree ≡ total },
+    pub ghost whole: { length commitment.tree ≡ total },
 }
 
 impl Committed {
@@ -36,16 +36,6 @@ impl Committed {
             Err(shard_roots::Error::Memory(error)) => Err(Fault::from(error)),
             Err(_) => Err(Fault::Cells),
         }
-    }
-
-    /// The mask of the block.
-    pub fn mask(&self) -> u32 {
-        self.commitment.mask
-    }
-
-    /// The root of the block.
-    pub fn root(&self) -> Digest {
-        self.commitment.root()
     }
 
     /// The path of the shard of this index, or none beyond the last.

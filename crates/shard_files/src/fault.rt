@@ -46,38 +46,48 @@ impl Fault {
         }
     }
 
-    /// Writes what is wrong, without the name.
+    /// What is wrong with the file of that name, or with no file, where that is one text.
+    fn reason(&self) -> &'static str {
+        match self {
+            Fault::TooManyFiles => "more than 65536 files are to be written",
+            Fault::NoShard(_) => "no shard is there",
+            Fault::Length(_) => "no shard file has the length that its header says",
+            Fault::NoPaths(_) => {
+                "the shard files have no paths, by which a root is checked: only split --root writes them"
+            }
+            Fault::Cells => "a shard with too many words",
+            Fault::Random => "the system gives no random words that can be keys",
+            _ => "",
+        }
+    }
+
+    /// Writes what is wrong with the file of that name, or with no file.
     fn write_reason<W: fmt::Write>(&self, f: &mut fmt::Formatter<W>) -> fmt::Result {
         match self {
-            Fault::File(fault) => write!(f, "{fault}"),
             Fault::Folder(_, error) => write!(f, "{error}"),
-            Fault::TooManyFiles => f.write_str("more than 65536 files are to be written"),
-            Fault::NoShard(_) => f.write_str("no shard is there"),
             Fault::IsShard(_, named) => write!(f, "no shard is there: give {named}"),
             Fault::Tie(_, one, other) => write!(
                 f,
                 "equally many shards of two splits are there: {one} is of the one, and {other} of the other"
             ),
-            Fault::Length(_) => f.write_str("no shard file has the length that its header says"),
             Fault::TooFew(_, there, min) => {
                 write!(f, "{there} shards are there, and {min} are needed")
             }
-            Fault::Block(number, error) => write!(f, "block {number}: {error}"),
-            Fault::BlockRoot(number) => write!(f, "block {number}: the root of no data"),
             Fault::NoRoot(_, root) => write!(f, "no shard file leads up to {root}"),
-            Fault::NoPaths(_) => f.write_str(
-                "the shard files have no paths, by which a root is checked: only split --root writes them",
-            ),
-            Fault::Cells => f.write_str("a shard with too many words"),
-            Fault::Random => f.write_str("the system gives no random words that can be keys"),
+            _ => f.write_str(self.reason()),
         }
     }
 }
 
 impl fmt::Display for Fault {
     fn fmt<W: fmt::Write>(&self, f: &mut fmt::Formatter<W>) -> fmt::Result {
-        if !matches!(self, Fault::File(_)) {
-            f.write_str("refused: ")?;
+        match self {
+            Fault::File(fault) => return write!(f, "{fault}"),
+            Fault::Block(number, error) => return write!(f, "refused: block {number}: {error}"),
+            Fault::BlockRoot(number) => {
+                return write!(f, "refused: block {number}: the root of no data");
+            }
+            _ => f.write_str("refused: ")?,
         }
         if let Some(name) = self.name() {
             write!(f, "{name}: ")?;

@@ -177,11 +177,10 @@ fn file_of_shard<'a>(rt: &HostRuntime, name: &'a str) -> Result<Option<&'a str>,
 /// The name of the first file of this split.
 fn name_of<'a>(files: &'a [ShardFile], split: &Header) -> &'a str {
     for shard in files {
-        if shard
-            .header()
-            .is_some_and(|header| header.is_of_split(split))
-        {
-            return shard.name.as_str();
+        if let Some(header) = shard.header() {
+            if header.is_of_split(split) {
+                return shard.name.as_str();
+            }
         }
     }
     ""
@@ -224,22 +223,28 @@ fn headers_of(alloc: Global, files: &[ShardFile]) -> Result<Vec<Header>, AllocEr
 
 /// Whether the last of the headers, those with the number of this one, have one of its split.
 fn has_copy(headers: &[Header], header: &Header) -> bool {
-    headers
-        .iter()
-        .rev()
-        .take_while(|other| other.index == header.index)
-        .any(|other| other.is_of_split(header))
+    for other in headers.iter().rev() {
+        if other.index != header.index {
+            return false;
+        }
+        if other.is_of_split(header) {
+            return true;
+        }
+    }
+    false
 }
 
 /// How many shards of the split are there, where copies count once.
 pub fn count_there(files: &[ShardFile]) -> usize {
     let mut count = 0usize;
     let mut last = None;
-    for shard in files.iter().filter(|shard| shard.is_used()) {
-        if shard.number != last {
-            count = count.saturating_add(1);
+    for shard in files {
+        if shard.is_used() {
+            if shard.number != last {
+                count = count.saturating_add(1);
+            }
+            last = shard.number;
         }
-        last = shard.number;
     }
     count
 }

@@ -12,4 +12,3 @@ pub mod sources;
 pub mod split;
 pub mod tree;
 pub mod wanted;
-pub mod wasted;

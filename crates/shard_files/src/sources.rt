@@ -11,10 +11,6 @@ use std::fs::{self, File, Metadata};
 use std::io;
 use std::os::unix::fs::FileExt;
 
-/// What the system answers where it has no room for one more open file: no memory, or too many
-/// open, of all programs or of this one.
-const NO_ROOM: [i32; 3] = [12, 23, 24];
-
 /// How many shard files are kept open at once, at most. Others are opened again for each block.
 pub const MOST_KEPT_OPEN: usize = 24;
 
@@ -71,11 +67,10 @@ impl ShardFile {
         number: Option<u32>,
         is_kept: bool,
     ) -> Result<ShardFile, Fault> {
-        let (source, fault) = match open_source(rt, name.as_str(), is_kept)? {
-            Ok(source) => (Some(source), None),
-            Err(fault) => (None, Some(fault)),
+        let (own, source, fault) = match open_source(rt, name.as_str(), is_kept)? {
+            Ok(source) => (Some(source.header.index), Some(source), None),
+            Err(fault) => (None, None, Some(fault)),
         };
-        let own = source.as_ref().map(|source| source.header.index);
         Ok(ShardFile {
             number: number.or(own),
             name,
@@ -180,9 +175,8 @@ pub fn is_want_of_room(error: &io::Error) -> bool {
     if error.kind() == io::ErrorKind::OutOfMemory {
         return true;
     }
-    error
-        .raw_os_error()
-        .is_some_and(|code| NO_ROOM.contains(&code))
+    // No memory, or too many open, of all programs or of this one.
+    matches!(error.raw_os_error(), Some(12 | 23 | 24))
 }
 
 /// Reads as many bytes of a file as the buffer has, from there on, and says whether it could.

@@ -120,8 +120,17 @@ pub fn majority_of(digests: &[Digest]) -> Option<Digest> {
             votes = votes.saturating_sub(1);
         }
     }
-    let count = digests.iter().filter(|digest| **digest == held).count();
-    (count > digests.len() / 2).then_some(held)
+    let mut count = 0usize;
+    for digest in digests {
+        if *digest == held {
+            count = count.saturating_add(1);
+        }
+    }
+    if count > digests.len() / 2 {
+        Some(held)
+    } else {
+        None
+    }
 }
 
 /// The way down the tree over the blocks of a file, from its top to the root of each block in turn.
@@ -198,7 +207,10 @@ impl BlockTree {
     ) -> Result<bool, Fault> {
         let place = self.descent.pair_place() as u64;
         let mut found: Option<[Digest; 2]> = None;
-        for file in files.iter_mut().filter(|file| file.is_used()) {
+        for file in files.iter_mut() {
+            if !file.is_used() {
+                continue;
+            }
             let mut pair = [[0u8; 32]; 2];
             let is_there = read_pair(rt, split, file, place, &mut pair)?;
             let fits = match &found {

@@ -7,3 +7,4 @@ mod joining;
 mod rooted;
 mod rows;
 mod used_rows;
+pub mod wasted;

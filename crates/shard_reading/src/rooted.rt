@@ -35,7 +35,8 @@ pub fn block_committed(
     };
     let mut parity = Vec::new(alloc);
     let committed = Committed::new(alloc, split, &block.bytes, &mut parity)?;
-    if committed.root() != *root || committed.mask() != block.mask {
+    let (mask, other) = (committed.commitment.mask, committed.commitment.root());
+    if other != *root || mask != block.mask {
         return Ok(Joined::Others);
     }
     for row in found {

@@ -377,8 +377,10 @@ impl RowReader {
 
 /// The fault of a block whose root is lost with the tree above it, which is noted at each file.
 fn lost_with_tree(files: &mut [ShardFile], block: Block) -> Fault {
-    for file in files.iter_mut().filter(|file| file.is_used()) {
-        file.add_lost_block(block.number, LOST_TREE);
+    for file in files.iter_mut() {
+        if file.is_used() {
+            file.add_lost_block(block.number, LOST_TREE);
+        }
     }
     Fault::Block(block.number, Error::TooFew)
 }

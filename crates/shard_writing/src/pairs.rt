@@ -109,7 +109,10 @@ fn note_others(
 ) -> Result<(), Fault> {
     let left = pair.left;
     let right = pair.right;
-    for file in files.iter_mut().filter(|file| file.is_used()) {
+    for file in files.iter_mut() {
+        if !file.is_used() {
+            continue;
+        }
         let mut read = [[0u8; 32]; 2];
         let is_there = read_pair(rt, split, file, pair.place as u64, &mut read)?;
         if !is_there || read[0] != left || read[1] != right {

@@ -273,7 +273,7 @@ impl RowWriter {
     ) -> Result<Digest, Fault> {
         let split = rows_of(target, bytes)?;
         let committed = Committed::new(alloc, split, bytes, &mut self.rows.made)?;
-        let (mask, root) = (committed.mask(), committed.root());
+        let (mask, root) = (committed.commitment.mask, committed.commitment.root());
         if known.mask.is_some_and(|other| other != mask) {
             return Err(Fault::Block(target.number, Error::Inconsistent));
         }
@@ -332,9 +332,9 @@ impl RowWriter {
         let Some(committed) = self.committed.take() else {
             return Ok(());
         };
-        self.roots.push(rt, committed.root())?;
+        self.roots.push(rt, committed.commitment.root())?;
         let rows = BlockRows {
-            mask: committed.mask(),
+            mask: committed.commitment.mask,
             data: self.rows.data(rows_of(target, bytes)?, bytes),
             made: self.rows.made.as_slice(),
             are_of_files: false,

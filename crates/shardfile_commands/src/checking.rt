@@ -15,9 +15,9 @@ use shard_files::roots::{BlockTree, Reading, gather_split};
 use shard_files::sources::{ShardFile, is_want_of_room};
 use shard_files::split::{Block, Split};
 use shard_files::wanted::WantedFiles;
-use shard_files::wasted::WastedReads;
 use shard_format::records::block_count;
 use shard_reading::blocks::{BlockReader, Look};
+use shard_reading::wasted::WastedReads;
 use std::alloc::{AllocError, Global};
 
 /// What was found of the blocks that were looked at.

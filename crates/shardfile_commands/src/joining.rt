@@ -15,8 +15,8 @@ use shard_files::roots::{Reading, gather_split};
 use shard_files::sources::{ShardFile, check_no_source};
 use shard_files::split::{Block, Split};
 use shard_files::wanted::{WantedFiles, is_shard_name};
-use shard_files::wasted::WastedReads;
 use shard_reading::blocks::{BlockReader, Look};
+use shard_reading::wasted::WastedReads;
 use std::alloc::AllocError;
 
 /// The name that stands for standard output.

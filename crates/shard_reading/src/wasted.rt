@@ -3,8 +3,8 @@
 //! Files that claim to be large, and are not, do not keep a run busy: where too much is read for
 //! nothing, no more blocks are looked at.
 
-use crate::sources::ShardFile;
-use crate::split::{Block, Split};
+use shard_files::sources::ShardFile;
+use shard_files::split::{Block, Split};
 
 /// How many bytes of records are read for nothing before no more blocks are looked at.
 const MOST: u64 = 1 << 30;
@@ -41,7 +41,7 @@ impl WastedReads {
         block: Block,
         is_refused: bool,
     ) {
-        let used = files.iter().filter(|file| file.is_used()).count() as u64;
+        let used = count_used(files);
         let lost = count_lost(files);
         if is_refused && lost.saturating_sub(self.lost) == used {
             let read = used.saturating_mul(split.record_bytes(block.bytes).max(LEAST_RECORD));
@@ -55,6 +55,17 @@ impl WastedReads {
     pub fn is_too_much(&self) -> bool {
         self.bytes >= MOST
     }
+}
+
+/// How many of the files are of the split.
+fn count_used(files: &[ShardFile]) -> u64 {
+    let mut used = 0u64;
+    for file in files {
+        if file.is_used() {
+            used = used.saturating_add(1);
+        }
+    }
+    used
 }
 
 /// In how many blocks shards are not used, those of all files added up.
