@@ -244,7 +244,7 @@ fn find_shards(
 
 /// Whether the last of the shards has this index.
 fn is_there(shards: &[Shard], index: u32) -> bool {
-    shards.last().is_some_and(|shard| shard.index == index)
+    matches!(shards.last(), Some(shard) if shard.index == index)
 }
 
 /// The bytes of a block that these shards of a split give, where they give so many.

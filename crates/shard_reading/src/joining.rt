@@ -176,9 +176,11 @@ pub fn block_corrected(
             left_out: Vec::new(alloc),
         }));
     }
-    let corrected = block_of_most(alloc, split, most_common_mask(found), found)?;
     let allowed = found.len().saturating_sub(split.min as usize) / 2;
-    Ok(corrected.filter(|corrected| corrected.left_out.len() <= allowed))
+    match block_of_most(alloc, split, most_common_mask(found), found)? {
+        Some(corrected) if corrected.left_out.len() <= allowed => Ok(Some(corrected)),
+        _ => Ok(None),
+    }
 }
 
 /// The block that most of the rows with this mask give. Rows with another one are left out.
@@ -245,8 +247,10 @@ fn corrected_rows(
         Err(systematic_shards::Error::Memory(error)) => return Err(error),
         _ => return Ok(None),
     };
-    if bytes.iter().skip(code.split.size).any(|byte| *byte != 0) {
-        return Ok(None);
+    for byte in bytes.iter().skip(code.split.size) {
+        if *byte != 0 {
+            return Ok(None);
+        }
     }
     bytes.truncate(code.split.size);
     Ok(Some((bytes, wrong)))

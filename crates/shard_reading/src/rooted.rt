@@ -5,7 +5,7 @@ use crate::joining::{FoundRow, block_given, one_mask};
 use hash_trees::Digest;
 use shard_files::committing::Committed;
 use shard_files::fault::Fault;
-use shard_roots::{is_shard_under, join_committed, join_under};
+use shard_roots::{Shard, is_shard_under, join_committed, join_under};
 use std::alloc::{AllocError, Global};
 use systematic_shards::Split as RowSplit;
 
@@ -76,10 +76,17 @@ pub fn join_rows(
         })),
         Err(shard_roots::Error::Memory(error)) => Err(error),
         Err(shard_roots::Error::Root) => Ok(Joined::OtherRoot),
-        _
-            if shards
-                .iter()
-                .all(|shard| is_shard_under(root, split, shard)) => Ok(Joined::NoBlock),
+        _ if are_under(root, split, &shards) => Ok(Joined::NoBlock),
         _ => Ok(Joined::Others),
     }
+}
+
+/// Whether all the shards are under the root.
+fn are_under(root: &Digest, split: RowSplit, shards: &[Shard<'_>]) -> bool {
+    for shard in shards {
+        if !is_shard_under(root, split, shard) {
+            return false;
+        }
+    }
+    true
 }

@@ -43,7 +43,7 @@ impl RowReader {
         tree: Option<BlockTree>,
         compares_paths: bool,
     ) -> RowReader {
-        let paths = if tree.as_ref().is_some_and(|tree| tree.is_asked) {
+        let paths = if matches!(&tree, Some(tree) if tree.is_asked) {
             Paths::Deciding
         } else if compares_paths && split.header.format.has_paths() {
             Paths::Compared
@@ -156,7 +156,11 @@ impl RowReader {
         };
         let is_sound = match self.used.records.row(rt, file, block, paths)? {
             Seen::Row(row) => {
-                row.fits && root.is_none_or(|root| is_shard_under(root, rows, &row.shard))
+                let is_under = match root {
+                    Some(root) => is_shard_under(root, rows, &row.shard),
+                    None => true,
+                };
+                row.fits && is_under
             }
             _ => false,
         };
@@ -217,7 +221,7 @@ impl RowReader {
     ) -> Result<(), Fault> {
         for (place, file) in files.iter_mut().enumerate().skip(self.looked_at) {
             if let Some(row) = self.used.row(rt, file, place, block)? {
-                if mask.is_some_and(|mask| row.mask != mask) {
+                if matches!(mask, Some(mask) if row.mask != mask) {
                     file.add_lost_block(block.number, OTHER_ROW);
                 }
             }
@@ -387,5 +391,5 @@ fn lost_with_tree(files: &mut [ShardFile], block: Block) -> Fault {
 
 /// Whether the last of the rows has this index.
 fn is_there(found: &[FoundRow], index: u32) -> bool {
-    found.last().is_some_and(|row| row.index == index)
+    matches!(found.last(), Some(row) if row.index == index)
 }

@@ -114,7 +114,10 @@ impl BlockRoots {
             }
             self.tree = Some(Tree::new(rt.alloc(), leaves)?);
         }
-        Ok(self.tree.as_ref().map(|tree| tree.root()))
+        match &self.tree {
+            Some(tree) => Ok(Some(tree.root())),
+            None => Ok(None),
+        }
     }
 
     /// Writes the levels of the tree behind its leaves in the file, and gives its top.

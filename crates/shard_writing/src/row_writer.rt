@@ -78,36 +78,6 @@ impl RecordRoom {
     }
 }
 
-/// The data rows of a block, of so many bytes each: those that its bytes fill, and the others.
-#[derive(Clone, Copy)]
-struct DataRows<'a> {
-    width: usize,
-    bytes: &'a [u8],
-    padded: &'a [u8],
-}
-
-impl<'a> DataRows<'a> {
-    /// The row with this number.
-    fn row(&self, number: usize) -> &'a [u8] {
-        let row = row_in(self.bytes, number, self.width);
-        if row.len() == self.width {
-            return row;
-        }
-        let filled = self.bytes.len() / self.width.max(1);
-        row_in(self.padded, number.saturating_sub(filled), self.width)
-    }
-
-    /// The first rows, so many.
-    fn first(&self, alloc: Global, count: u32) -> Result<Vec<Row<'a, u8>>, AllocError> {
-        let mut rows = Vec::new(alloc);
-        for index in 0..count {
-            let cells = self.row(index as usize);
-            rows.push(Row { index, cells })?;
-        }
-        Ok(rows)
-    }
-}
-
 /// Room for the rows of a block that its bytes do not hold.
 #[derive(Drop)]
 struct RowRoom {
@@ -127,15 +97,6 @@ impl RowRoom {
         self.padded.extend_from_slice(row_in(bytes, filled, width))?;
         self.padded.resize(size, 0)?;
         Ok(())
-    }
-
-    /// The data rows of the block.
-    fn data<'a>(&'a self, split: RowSplit, bytes: &'a [u8]) -> DataRows<'a> {
-        DataRows {
-            width: 8 * split.width,
-            bytes,
-            padded: self.padded.as_slice(),
-        }
     }
 
     /// Makes the parity rows of the block, and gives its mask.
@@ -164,12 +125,7 @@ impl RowRoom {
             return Err(Fault::Cells);
         };
         self.made.resize(size, 0)?;
-        let data = DataRows {
-            width: 8 * code.split.width,
-            bytes,
-            padded: self.padded.as_slice(),
-        };
-        let rows = data.first(alloc, code.split.min)?;
+        let rows = data_rows(alloc, code.split, bytes, &self.padded)?;
         match rebuild(alloc, code, &rows, target.indices, &mut self.made) {
             Ok(()) => Ok(()),
             Err(systematic_shards::Error::Memory(error)) => Err(Fault::from(error)),
@@ -178,49 +134,46 @@ impl RowRoom {
     }
 }
 
-/// The rows of a block, its mask, and the commitment to it where records have paths.
+/// The rows of a block, and its mask.
 #[derive(Clone, Copy)]
 struct BlockRows<'a> {
     mask: u32,
-    data: DataRows<'a>,
+    /// How many bytes a row has.
+    width: usize,
+    /// The data: those of the rows that they fill, and the other rows.
+    bytes: &'a [u8],
+    padded: &'a [u8],
     /// The rows that were made: those of the files in their order, or the parity rows.
     made: &'a [u8],
     are_of_files: bool,
-    committed: Option<&'a Committed>,
 }
 
 impl<'a> BlockRows<'a> {
     /// The row of the file at this place, which has this header.
     fn row(&self, place: usize, header: &Header) -> &'a [u8] {
-        let width = self.data.width;
+        let index = header.index as usize;
         if self.are_of_files {
-            row_in(self.made, place, width)
+            row_in(self.made, place, self.width)
         } else if header.index < header.min {
-            self.data.row(header.index as usize)
+            data_row(self.bytes, self.padded, index, self.width)
         } else {
-            row_in(self.made, (header.index - header.min) as usize, width)
+            row_in(self.made, index - header.min as usize, self.width)
         }
     }
 
-    /// The path of the shard of this index, where records have paths.
-    fn path(&self, alloc: Global, index: u32) -> Result<Vec<Digest>, AllocError> {
-        match self.committed {
-            Some(committed) => committed.path(alloc, index),
-            None => Ok(Vec::new(alloc)),
-        }
-    }
-
-    /// Writes the record of the row of each of the files at its end, and its path.
+    /// Writes the record of the row of each of the files at its end, and its path where the block is
+    /// committed to.
     fn append(
         &self,
         rt: &HostRuntime,
         target: Target<'_>,
+        committed: Option<&Committed>,
         room: &mut RecordRoom,
         partials: &mut [Partial],
     ) -> Result<(), Fault> {
         for (place, partial) in partials.iter_mut().enumerate() {
             let header = target.header(place);
-            let path = self.path(rt.alloc(), header.index)?;
+            let path = path_of(rt.alloc(), committed, header.index)?;
             let shard = Shard {
                 index: header.index,
                 mask: self.mask,
@@ -274,10 +227,10 @@ impl RowWriter {
         let split = rows_of(target, bytes)?;
         let committed = Committed::new(alloc, split, bytes, &mut self.rows.made)?;
         let (mask, root) = (committed.commitment.mask, committed.commitment.root());
-        if known.mask.is_some_and(|other| other != mask) {
+        if matches!(known.mask, Some(other) if other != mask) {
             return Err(Fault::Block(target.number, Error::Inconsistent));
         }
-        if known.root.is_some_and(|other| other != root) {
+        if matches!(known.root, Some(other) if other != root) {
             return Err(Fault::BlockRoot(target.number));
         }
         self.committed = Some(committed);
@@ -309,12 +262,13 @@ impl RowWriter {
         };
         let rows = BlockRows {
             mask,
-            data: self.rows.data(split, bytes),
+            width: 8 * split.width,
+            bytes,
+            padded: self.rows.padded.as_slice(),
             made: self.rows.made.as_slice(),
             are_of_files: known.mask.is_some(),
-            committed: None,
         };
-        rows.append(rt, target, &mut self.room, partials)
+        rows.append(rt, target, None, &mut self.room, partials)
     }
 
     /// Writes the records of a block, and their paths.
@@ -333,14 +287,16 @@ impl RowWriter {
             return Ok(());
         };
         self.roots.push(rt, committed.commitment.root())?;
+        let split = rows_of(target, bytes)?;
         let rows = BlockRows {
             mask: committed.commitment.mask,
-            data: self.rows.data(rows_of(target, bytes)?, bytes),
+            width: 8 * split.width,
+            bytes,
+            padded: self.rows.padded.as_slice(),
             made: self.rows.made.as_slice(),
             are_of_files: false,
-            committed: Some(&committed),
         };
-        rows.append(rt, target, &mut self.room, partials)
+        rows.append(rt, target, Some(&committed), &mut self.room, partials)
     }
 }
 
@@ -352,6 +308,43 @@ fn rows_of(target: Target<'_>, bytes: &[u8]) -> Result<RowSplit, Fault>
         Ok(size) => target.split.rows_of(size),
         Err(_) => Err(Fault::Cells),
     }
+}
+
+/// The path of the shard of this index of a block that is committed to, or none.
+fn path_of(
+    alloc: Global,
+    committed: Option<&Committed>,
+    index: u32,
+) -> Result<Vec<Digest>, AllocError> {
+    match committed {
+        Some(committed) => committed.path(alloc, index),
+        None => Ok(Vec::new(alloc)),
+    }
+}
+
+/// The data rows of a block, of which its bytes fill the first ones.
+fn data_rows<'a>(
+    alloc: Global,
+    split: RowSplit,
+    bytes: &'a [u8],
+    padded: &'a [u8],
+) -> Result<Vec<Row<'a, u8>>, AllocError> {
+    let mut rows = Vec::new(alloc);
+    for index in 0..split.min {
+        let cells = data_row(bytes, padded, index as usize, 8 * split.width);
+        rows.push(Row { index, cells })?;
+    }
+    Ok(rows)
+}
+
+/// The data row with this number of a block, of which its bytes fill the first ones.
+fn data_row<'a>(bytes: &'a [u8], padded: &'a [u8], number: usize, width: usize) -> &'a [u8] {
+    let row = row_in(bytes, number, width);
+    if row.len() == width {
+        return row;
+    }
+    let filled = bytes.len() / width.max(1);
+    row_in(padded, number.saturating_sub(filled), width)
 }
 
 /// Row number `place` of rows of so many bytes that lie one behind the other, as far as it is
