@@ -25,7 +25,6 @@ use math_codec::codec::Write;
 use math_fields::goldilocks::{F, MODULUS};
 use shard_fingerprints::{Fingerprints, fingerprint};
 use std::alloc::Global;
-use systematic_shards::WordMemory;
 
 /// A row of a block, and the mask of the block.
 #[derive(Clone, Copy)]
@@ -88,18 +87,17 @@ fn bound_of_row(header: &Header) -> u64
     }
 }
 
-/// Writes word k of the row under the mask, as an element, over element k, and says whether it is
-/// below the bound.
-fn put_element(row: &[u8], k: usize, mask: u32, bound: u64, elements: &mut [F]) -> bool
+/// Writes the word under the mask, as an element, over element k, and says whether it is below the
+/// bound.
+fn put_element(word: u64, k: usize, mask: u32, bound: u64, elements: &mut [F]) -> bool
     requires { k < length elements.old }
-    ensures word { elements.new ≡ slice_set elements.old k
-        (residue (masked_number mask (word_of_bytes row.now k))) }
-    ensures below { IsTrue result ↔ (masked_number mask (word_of_bytes row.now k) < bound) }
-    ensures fit { word_of_bytes row.now k < 2 ^ 64 }
+    ensures word { elements.new ≡ slice_set elements.old k (residue (masked_number mask word)) }
+    ensures below { IsTrue result ↔ (masked_number mask word < bound) }
+    ensures fit { word < 2 ^ 64 }
 {
-    let word = masked_word(u8::read(row, k), mask);
-    elements[k] = F::from(word);
-    word < bound
+    let masked = masked_word(word, mask);
+    elements[k] = F::from(masked);
+    masked < bound
 }
 
 /// Writes the words of the row under the mask, as elements, over `elements`, and says whether all
@@ -107,15 +105,17 @@ fn put_element(row: &[u8], k: usize, mask: u32, bound: u64, elements: &mut [F]) 
 ///
 /// All words are looked at before it answers, so that none waits for the one before it.
 fn write_elements(row: &[u8], mask: u32, bound: u64, elements: &mut [F]) -> bool
+    requires { length row.now ≡ 8 * length elements.old }
     ensures words { elements.new ≡ map (λ k. residue (masked_number mask (word_of_bytes row.now k)))
         (range_with_len 0 (length elements.old)) }
     ensures below { IsTrue result ↔ ((k : ℕ) → k < length elements.old
         → masked_number mask (word_of_bytes row.now k) < bound) }
     ensures fit { (k : ℕ) → k < length elements.old → word_of_bytes row.now k < 2 ^ 64 }
 {
+    let (words, _) = row.as_chunks::<8>();
     let mut are = true;
     for k in 0..elements.len() {
-        if !put_element(row, k, mask, bound, elements) {
+        if !put_element(u64::from_le_bytes(words[k]), k, mask, bound, elements) {
             are = false;
         }
     }
