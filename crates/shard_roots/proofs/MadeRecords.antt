@@ -3,7 +3,7 @@ use Rattle.std.proofs.Common.{◌≡◌, ◌∙◌, inl, inr, ℕ, zero, suc, �
 use Rattle.std.specs.Int.{to_be_bytes, w64}
 use Rattle.std.specs.List.{range_with_len}
 use Rattle.std.proofs.lemmas.Bool.{cases_lt}
-use Rattle.std.proofs.lemmas.List.{ext_get_or, get_or-drop, get_or-take, get_or_past, length-append, length-drop, length-take-le, map-append, take_all}
+use Rattle.std.proofs.lemmas.List.{ext_get_or, get_or-drop, get_or-take, get_or_past, length-append, length-drop, length-take-le, map-append, take-append-le, take_all}
 use Rattle.hash_trees.specs.Binding.{leaves}
 use Rattle.hash_trees.specs.Trees.{leaf_message}
 use Rattle.systematic_shards.specs.declared.split.Split.{Split}
@@ -34,6 +34,14 @@ mapped_more f n =
 pub leaves_mapped : (h : List ℕ → List ℕ) (f : ℕ → List ℕ) (xs : List ℕ) → map (λ i. h (leaf_message (f i))) xs ≡ leaves h (map f xs)
 leaves_mapped h f [] = refl
 leaves_mapped h f (x ∷ xs) = ap (λ ds. h (leaf_message (f x)) ∷ ds) (leaves_mapped h f xs)
+
+-- a part of bytes that reaches over a whole row is the row
+pub whole_row : (n : ℕ) (bytes : List ℕ) (i end : ℕ) → end ≡ (i + 1) * n → end ≤ length bytes → take (end - i * n) (drop (i * n) bytes) ≡ row_at n bytes i
+whole_row n bytes i end is within =
+    let next : (i + 1) * n ≡ i * n + n = grind arith in
+    let count : end - i * n ≡ n = omega (arith, is, next) in
+    let long = length-drop (i * n) bytes in
+    ap (λ k. take k (drop (i * n) bytes)) count ∙ sym (take-append-le n (drop (i * n) bytes) (zeros n) (omega (arith, long, within, is, next)))
 
 -- a part of bytes, and zeros behind it, is a row
 module _ (n : ℕ) (bytes part : List ℕ) (i a b : ℕ) (first : a ≡ min (i * n) (length bytes)) (last : b ≡ min ((i + 1) * n) (length bytes)) (is : part ≡ take (b - a) (drop a bytes)) where

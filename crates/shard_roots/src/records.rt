@@ -26,7 +26,7 @@ pub(crate) fn record_digest(split: Split, mask: u32, index: u32, row: &[u8]) -> 
     hasher.finalize()
 }
 
-/// Row number `i` of these bytes, of `n` bytes, with zeros for bytes past the end.
+/// A copy of row number `i` of these bytes, of `n` bytes, with zeros for bytes past the end.
 fn row(alloc: Global, bytes: &[u8], i: usize, n: usize) -> Result<Vec<u8>, AllocError>
     requires few { i + 1 < 2 ^ 64 }
     requires fits { (i + 1) * n < 2 ^ 64 }
@@ -40,28 +40,56 @@ fn row(alloc: Global, bytes: &[u8], i: usize, n: usize) -> Result<Vec<u8>, Alloc
     Ok(row)
 }
 
-/// The bytes of the row of this index, of the block or of the parity rows.
-fn row_of_index(
+/// The digest of the leaf of the shard of this index, whose row is number `i` of these bytes.
+///
+/// A row that the bytes do not fill is copied.
+fn leaf_at(
     alloc: Global,
     split: Split,
+    mask: u32,
+    index: u32,
+    bytes: &[u8],
+    i: usize,
+) -> Result<Digest, AllocError>
+    requires few { i + 1 < 2 ^ 64 }
+    requires fits { (i + 1) * (8 * split.width) < 2 ^ 64 }
+    ensures { IfOk result (λ digest. digest ≡ sha512_256 (leaf_message
+        (record_of split mask index (row_at (8 * split.width) bytes.now i)))) }
+{
+    let n = 8 * split.width;
+    let end = (i + 1) * n;
+    if end <= bytes.len() {
+        return Ok(record_digest(split, mask, index, &bytes[i * n..end]));
+    }
+    let row = row(alloc, bytes, i, n)?;
+    Ok(record_digest(split, mask, index, &row))
+}
+
+/// The digest of the leaf of the shard of this index, whose row is one of the block or of the parity
+/// rows.
+fn leaf_of_index(
+    alloc: Global,
+    split: Split,
+    mask: u32,
     block: &[u8],
     parity: &[u8],
     index: u32,
-) -> Result<Vec<u8>, AllocError>
+) -> Result<Digest, AllocError>
     requires { index < split.total }
-    ensures { IfOk result (λ row. row.items ≡ row_of split block.now parity.now index) }
+    ensures { IfOk result (λ digest. digest ≡ sha512_256 (leaf_message
+        (record_of split mask index (row_of split block.now parity.now index)))) }
 {
-    let n = 8 * split.width;
     if index < split.min {
-        row(alloc, block, index as usize, n)
+        leaf_at(alloc, split, mask, index, block, index as usize)
     } else {
-        row(alloc, parity, (index - split.min) as usize, n)
+        let i = (index - split.min) as usize;
+        leaf_at(alloc, split, mask, index, parity, i)
     }
 }
 
 /// The digests of the leaves of all shards of a block.
 ///
-/// It takes memory for these, and for one row.
+/// It takes memory for these, and for a row that the block does not fill.
 pub(crate) fn shard_leaves(
     alloc: Global,
     split: Split,
@@ -73,10 +101,10 @@ pub(crate) fn shard_leaves(
         ≡ leaves sha512_256 (shard_records split mask block.now parity.now)) }
     ensures bytes { All (λ b. b < 256) parity.now }
 {
-    let mut digests = Vec::new(alloc);
+    let mut digests = Vec::with_capacity(alloc, split.total as usize)?;
     for index in 0..split.total {
-        let row = row_of_index(alloc, split, block, parity, index)?;
-        digests.push(record_digest(split, mask, index, &row))?;
+        let leaf = leaf_of_index(alloc, split, mask, block, parity, index)?;
+        digests.push(leaf)?;
     }
     Ok(digests)
 }

@@ -10,9 +10,7 @@ use Rattle.shard_roots.proofs.records.shard_leaves.Goals as goal
 pub loop-index-preserved : goal.loop-index-preserved
 loop-index-preserved c =
     let content_of : ℕ → List ℕ = λ i. record_of c.args.split c.args.mask i (row_of c.args.split c.args.block.now c.args.parity.now i) in
-    let digest : c.record_digest.result ≡ sha512_256 (leaf_message (content_of c.loop-index.index)) =
-    c.record_digest.ensures ∙ ap (λ row. sha512_256 (leaf_message (record_of c.args.split c.args.mask c.loop-index.index row))) (c.deref.ensures.value ∙ c.in_ok-row.ensures) in
-    c.in_ok-push.ensures.items ∙ ap₂ (λ xs x. xs ++ x ∷ []) c.loop-index.invariant digest ∙ sym (mapped_more (λ i. sha512_256 (leaf_message (content_of i))) c.loop-index.index)
+    c.in_ok-push.ensures.items ∙ ap₂ (λ xs x. xs ++ x ∷ []) c.loop-index.invariant c.in_ok-leaf.ensures ∙ sym (mapped_more (λ i. sha512_256 (leaf_message (content_of i))) c.loop-index.index)
 
 pub returns-clause-bytes : goal.returns-clause-bytes
 returns-clause-bytes c = λ k d l. omega (arith, c.type_inv.parity k, get_or_default c.args.parity.now k d 0 l)
