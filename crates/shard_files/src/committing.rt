@@ -1,6 +1,9 @@
-//! Commitments to blocks, which give their rows paths.
+//! Commitments to blocks, which give their rows paths, and rows that lie one behind the other.
 
 ghost use Rattle.std.specs.Prelude.{◌≡◌, ◌*◌, ◌-◌, length, IfOk};
+ghost use Rattle.hash_trees.specs.Trees.{root};
+ghost use Rattle.sha2.specs.Sha512.{sha512_256};
+ghost use Rattle.shard_roots.specs.Commitments.{IsRootOfBlock};
 
 use crate::fault::Fault;
 use hash_trees::Digest;
@@ -25,6 +28,8 @@ impl Committed {
         parity: &mut Vec<u8>,
     ) -> Result<Committed, Fault>
         requires { length bytes.now ≡ split.size }
+        ensures { IfOk result (λ c. IsRootOfBlock sha512_256 split bytes.now
+            (root sha512_256 c.commitment.tree)) }
     {
         let size = (split.total - split.min) as usize * (8 * split.width);
         parity.resize(size, 0)?;
@@ -45,4 +50,13 @@ impl Committed {
         }
         Ok(Vec::new(alloc))
     }
+}
+
+/// Row number `place` of rows of so many bytes that lie one behind the other, as far as it is
+/// there.
+pub fn row_in(rows: &[u8], place: usize, width: usize) -> &[u8] {
+    let from = place.saturating_mul(width).min(rows.len());
+    let (_, rest) = rows.split_at(from);
+    let (row, _) = rest.split_at(width.min(rest.len()));
+    row
 }

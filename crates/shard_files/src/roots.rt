@@ -1,5 +1,8 @@
 //! Which file a root means, and which roots shard files claim.
 
+ghost use Rattle.std.specs.Prelude.{◌≡◌, Option, List, ℕ, IfOk, IfSome};
+ghost use Rattle.shard_files.specs.Roots.{root_of};
+
 use crate::fault::Fault;
 use crate::gathering::{forget_numbers, gather, no_shard, note_length, open_files};
 use crate::sources::ShardFile;
@@ -35,10 +38,14 @@ pub fn gather_split(
     wanted: &WantedFiles,
     reading: &Reading,
     files: &mut Vec<ShardFile>,
-) -> Result<(Split, Option<BlockTree>), Fault> {
+) -> Result<(Split, Option<BlockTree>), Fault>
+    ensures { IfOk result (λ found. IfSome reading.now.root
+        (λ root. (top : Option (List ℕ)) × (root ≡ root_of found.0.header top))) }
+{
     if let Some(root) = &reading.root {
-        let (split, top) = gather_under(rt, wanted, root, files)?;
-        let tree = BlockTree::new(rt.alloc(), &split, top, true, reading.compares_pairs)?;
+        let claim = gather_under(rt, wanted, root, files)?;
+        let split = claim.split;
+        let tree = BlockTree::new(rt.alloc(), &split, claim.top, true, reading.compares_pairs)?;
         return Ok((split, tree));
     }
     let split = gather(rt, wanted, files, reading.may_end_before)?;
@@ -51,43 +58,37 @@ pub fn gather_split(
 }
 
 /// Adds the shard files that are meant, leaves out those that are not of the file with this root,
-/// and gives its numbers, and the top of the tree over its blocks if it has some.
+/// and gives what the others claim.
 fn gather_under(
     rt: &HostRuntime,
     wanted: &WantedFiles,
     root: &Digest,
     files: &mut Vec<ShardFile>,
-) -> Result<(Split, Option<Digest>), Fault> {
+) -> Result<Claim, Fault>
+    ensures { IfOk result (λ claim. claim.root ≡ root.now) }
+{
     open_files(rt, wanted, files)?;
-    let Some((split, top)) = claimant(rt, root, files)? else {
+    let Some(claim) = first_claim(rt, root, files)? else {
         return Err(no_claimant(rt, wanted, files, "this root")?);
     };
     for shard in files.iter_mut() {
-        leave_out_others(shard, &split.header);
+        leave_out_others(shard, &claim.split.header);
     }
     forget_numbers(wanted, files);
     for shard in files.iter_mut() {
         note_length(shard, true);
     }
-    Ok((split, top))
+    Ok(claim)
 }
 
-/// What the first of the files says that claims this root.
-fn claimant(
-    rt: &HostRuntime,
-    root: &Digest,
-    files: &[ShardFile],
-) -> Result<Option<(Split, Option<Digest>)>, Fault> {
+/// What the first of the files claims that claims this root.
+fn first_claim(rt: &HostRuntime, root: &Digest, files: &[ShardFile]) -> Result<Option<Claim>, Fault>
+    ensures { IfOk result (λ found. IfSome found (λ claim. claim.root ≡ root.now)) }
+{
     for file in files {
-        let Some(claim) = claim_of(rt, file)? else {
-            continue;
-        };
-        if claim.root != *root {
-            continue;
-        }
-        if let Some(header) = file.header() {
-            if let Some(split) = Split::possible(&header) {
-                return Ok(Some((split, claim.top)));
+        if let Some(claim) = claim_of(rt, file)? {
+            if claim.root == *root {
+                return Ok(Some(claim));
             }
         }
     }

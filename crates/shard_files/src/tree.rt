@@ -1,6 +1,9 @@
 //! The tree over the blocks of files with paths: what they claim of it, and the way down by the
 //! pairs behind their records.
 
+ghost use Rattle.std.specs.Prelude.{◌≡◌};
+ghost use Rattle.shard_files.specs.Roots.{numbers_of, root_of};
+
 use crate::fault::Fault;
 use crate::row_records::{Paths, RecordReader, Seen};
 use crate::sources::ShardFile;
@@ -15,7 +18,9 @@ use std::alloc::Global;
 pub const OTHER_PAIRS: &str = "its tree of blocks is damaged";
 
 /// The numbers of the file that a header says.
-pub fn numbers_of(header: &Header) -> FileNumbers {
+pub fn numbers_of(header: &Header) -> FileNumbers
+    ensures { result ≡ numbers_of header.now }
+{
     FileNumbers {
         min: u64::from(header.min),
         total: u64::from(header.total),
@@ -24,12 +29,14 @@ pub fn numbers_of(header: &Header) -> FileNumbers {
     }
 }
 
-/// What a shard file with paths claims: the root of the file, and where there are blocks the top of
-/// the tree over them.
+/// What a shard file with paths claims: the split, the root of the file, and where there are blocks
+/// the top of the tree over them.
 #[derive(Clone, Copy)]
 pub struct Claim {
+    pub split: Split,
     pub root: Digest,
     pub top: Option<Digest>,
+    pub ghost made: { root ≡ root_of split.header top },
 }
 
 /// What the shard file claims; nothing where it has no paths, or is cut off or damaged there.
@@ -51,8 +58,8 @@ pub fn claim_of(rt: &HostRuntime, file: &ShardFile) -> Result<Option<Claim>, Fau
     if top.is_none() && header.length > 0 {
         return Ok(None);
     }
-    let root = file_root_above(numbers_of(&header), top.as_ref());
-    Ok(Some(Claim { root, top }))
+    let root = file_root_above(numbers_of(&split.header), top.as_ref());
+    Ok(Some(Claim { split, root, top }))
 }
 
 /// The root of the only block that the record of the file leads up to by its path.

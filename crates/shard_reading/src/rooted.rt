@@ -1,9 +1,16 @@
 //! The block that rows give under its root.
 
+ghost use Rattle.std.specs.Prelude.{◌≡◌, length, IsTrue, IfOk, IfSome};
+ghost use Rattle.hash_trees.specs.Trees.{root};
+ghost use Rattle.sha2.specs.Sha512.{sha512_256};
+ghost use Rattle.shard_reading.specs.declared.blocks.FoundBlock.{FoundBlock};
+ghost use Rattle.shard_reading.specs.declared.rooted.Joined.TheVariants.{Block};
+ghost use Rattle.shard_roots.specs.Commitments.{IsRootOfBlock};
+
 use crate::blocks::FoundBlock;
 use crate::joining::{FoundRow, block_given, one_mask};
 use hash_trees::Digest;
-use shard_files::committing::Committed;
+use shard_files::committing::{Committed, row_in};
 use shard_files::fault::Fault;
 use shard_roots::{Shard, is_shard_under, join_committed, join_under};
 use std::alloc::{AllocError, Global};
@@ -21,6 +28,52 @@ pub enum Joined {
     Others,
 }
 
+/// The parity rows of a block that was committed to, and the commitment.
+#[derive(Drop)]
+pub struct CommittedRows {
+    split: RowSplit,
+    committed: Committed,
+    parity: Vec<u8>,
+}
+
+impl CommittedRows {
+    /// Commits to a block.
+    fn new(alloc: Global, split: RowSplit, bytes: &[u8]) -> Result<CommittedRows, Fault>
+        requires { length bytes.now ≡ split.size }
+        ensures { IfOk result (λ rows. IsRootOfBlock sha512_256 split bytes.now
+            (root sha512_256 rows.committed.commitment.tree)) }
+    {
+        let mut parity = Vec::new(alloc);
+        let committed = Committed::new(alloc, split, bytes, &mut parity)?;
+        Ok(CommittedRows {
+            split,
+            committed,
+            parity,
+        })
+    }
+
+    /// Whether the shard is one of the parity rows, with its mask and its path. Then it is under the
+    /// root, and need not be hashed.
+    pub fn contains(&self, alloc: Global, shard: &Shard<'_>) -> Result<bool, AllocError> {
+        let Some(place) = shard.index.checked_sub(self.split.min) else {
+            return Ok(false);
+        };
+        let row = row_in(&self.parity, place as usize, 8 * self.split.width);
+        if shard.mask != self.committed.commitment.mask || shard.cells != row {
+            return Ok(false);
+        }
+        let path = self.committed.path(alloc, shard.index)?;
+        Ok(path.as_slice() == shard.path)
+    }
+}
+
+/// A block that is under its root, and its parity rows.
+#[derive(Drop)]
+pub struct CommittedBlock {
+    pub block: FoundBlock,
+    pub rows: CommittedRows,
+}
+
 /// The block that rows give, where a commitment to it has this root, and their paths.
 ///
 /// Then they are its own, and under the root, and none was hashed but those of the commitment.
@@ -29,25 +82,26 @@ pub fn block_committed(
     root: &Digest,
     split: RowSplit,
     found: &[FoundRow],
-) -> Result<Joined, Fault> {
+) -> Result<Option<CommittedBlock>, Fault>
+    ensures { IfOk result (λ answer. IfSome answer
+        (λ it. IsRootOfBlock sha512_256 split it.block.bytes.items root.now)) }
+{
     let Some(block) = block_given(alloc, split, found)? else {
-        return Ok(Joined::Others);
+        return Ok(None);
     };
-    let mut parity = Vec::new(alloc);
-    let committed = Committed::new(alloc, split, &block.bytes, &mut parity)?;
-    let (mask, other) = (committed.commitment.mask, committed.commitment.root());
-    if other != *root || mask != block.mask {
-        return Ok(Joined::Others);
+    let rows = CommittedRows::new(alloc, split, &block.bytes)?;
+    let commitment = &rows.committed.commitment;
+    if commitment.root() != *root || commitment.mask != block.mask {
+        return Ok(None);
     }
     for row in found {
-        if committed.path(alloc, row.index)? != row.path {
-            return Ok(Joined::Others);
+        if rows.committed.path(alloc, row.index)? != row.path {
+            return Ok(None);
         }
     }
-    Ok(Joined::Block(FoundBlock {
-        root: Some(*root),
-        ..block
-    }))
+    let root = Some(*root);
+    let block = FoundBlock { root, ..block };
+    Ok(Some(CommittedBlock { block, rows }))
 }
 
 /// Joins rows of a block under its root. Where that is strict, the block is committed to again.
@@ -57,7 +111,10 @@ pub fn join_rows(
     root: &Digest,
     split: RowSplit,
     found: &[FoundRow],
-) -> Result<Joined, AllocError> {
+) -> Result<Joined, AllocError>
+    ensures { IfOk result (λ joined. IsTrue is_strict → (block : FoundBlock)
+        → joined ≡ Block block → IsRootOfBlock sha512_256 split block.bytes.items root.now) }
+{
     let mut shards = Vec::new(alloc);
     for row in found {
         shards.push(row.shard())?;

@@ -326,10 +326,14 @@ impl RowReader {
         if self.found.len() != rows.min as usize {
             return Ok(Joined::Others);
         }
-        if look == Look::Compared {
-            return block_committed(rt.alloc(), root, rows, &self.found);
+        if look != Look::Compared {
+            return Ok(join_rows(rt.alloc(), false, root, rows, &self.found)?);
         }
-        Ok(join_rows(rt.alloc(), false, root, rows, &self.found)?)
+        let Some(committed) = block_committed(rt.alloc(), root, rows, &self.found)? else {
+            return Ok(Joined::Others);
+        };
+        self.used.committed = Some(committed.rows);
+        Ok(Joined::Block(committed.block))
     }
 
     /// Takes the rows of the first files, as many as give a block, as long as nothing is wrong with

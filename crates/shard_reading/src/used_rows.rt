@@ -3,6 +3,7 @@
 //! A row counts where it fits its fingerprints, or under a root where its path leads up to the root
 //! of its block.
 
+use crate::rooted::CommittedRows;
 use hash_trees::Digest;
 use shard_files::fault::Fault;
 use shard_files::row_records::{Paths, RecordReader, Seen};
@@ -27,6 +28,8 @@ pub struct UsedRows {
     paths: Paths,
     /// The root of the block, where paths decide.
     pub root: Option<Digest>,
+    /// The rows of the block, where it was committed to and has that root.
+    pub committed: Option<CommittedRows>,
     claims: Claims,
 }
 
@@ -37,6 +40,7 @@ impl UsedRows {
             records: RecordReader::new(alloc, split),
             paths,
             root: None,
+            committed: None,
             claims: Claims::new(alloc),
         }
     }
@@ -49,6 +53,7 @@ impl UsedRows {
     /// Begins a block with this root, where that is known.
     pub fn begin(&mut self, root: Option<Digest>) {
         self.root = if self.is_under_root() { root } else { None };
+        self.committed = None;
         self.claims.clear();
     }
 
@@ -70,8 +75,12 @@ impl UsedRows {
             }
             Seen::Nothing => return Ok(None),
         };
+        let is_known = match &self.committed {
+            Some(committed) => committed.contains(rt.alloc(), &row.shard)?,
+            None => false,
+        };
         let is_under = match &self.root {
-            Some(root) => Some(is_shard_under(root, rows, &row.shard)),
+            Some(root) => Some(is_known || is_shard_under(root, rows, &row.shard)),
             None => None,
         };
         if !is_used(file, block.number, row.fits, is_under) {

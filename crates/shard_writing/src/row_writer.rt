@@ -7,7 +7,7 @@ use hash_trees::Digest;
 use math_fields::goldilocks::F;
 use partial_files::partial::{Manner, Partial};
 use shard_blocks::Error;
-use shard_files::committing::Committed;
+use shard_files::committing::{Committed, row_in};
 use shard_files::fault::Fault;
 use shard_files::split::Split;
 use shard_fingerprints::Keys;
@@ -345,13 +345,4 @@ fn data_row<'a>(bytes: &'a [u8], padded: &'a [u8], number: usize, width: usize) 
     }
     let filled = bytes.len() / width.max(1);
     row_in(padded, number.saturating_sub(filled), width)
-}
-
-/// Row number `place` of rows of so many bytes that lie one behind the other, as far as it is
-/// there.
-fn row_in(rows: &[u8], place: usize, width: usize) -> &[u8] {
-    let from = place.saturating_mul(width).min(rows.len());
-    let (_, rest) = rows.split_at(from);
-    let (row, _) = rest.split_at(width.min(rest.len()));
-    row
 }
