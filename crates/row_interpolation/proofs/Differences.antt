@@ -1,5 +1,6 @@
 -- Products of differences, and the weights that are made of them.
 use Rattle.std.proofs.Common.{◌≡◌, ◌≢◌, ◌∙◌, inl, inr, ℕ, suc, ◌+◌, ◌<◌, ◌≤◌, ◌^◌, List, [], ◌∷◌, ◌++◌, length, take, drop, get_or, sym, ap, ap₂, subst, arith}
+use Rattle.std.specs.Int.{IsNextPowerOfTwo}
 use Rattle.std.specs.List.{All, Contains, remove}
 use Rattle.std.proofs.lemmas.List.{at_drop_all, at_drop_more, get_or_default, get_or_push, get_or_append_left, length_push}
 use Rattle.std.proofs.lemmas.Bool.{cases_lt}
@@ -14,9 +15,11 @@ use Rattle.math_base.specs.Polynomials.{AreWeightsAt}
 use Rattle.math_fields.proofs.ElementNumbers.{same_number}
 use Rattle.math_restoring.specs.Restored.{AreDistinct, item}
 use Rattle.math_transforms.specs.RootWeights.{powers_at}
+use Rattle.math_transforms.proofs.PresentIndices.{lg-only}
 use Rattle.math_values.proofs.ElementRing.{elements}
-use Rattle.row_interpolation.specs.Weights.{AreOwnProducts, differences}
+use Rattle.row_interpolation.specs.Weights.{AreOutside, AreOwnProducts, ArePointsOf, AreWanted, AreWeightsFor, differences}
 use Rattle.row_interpolation.proofs.IndexPoints.{point, point-at, points-apart, points-count, points-distinct}
+use Rattle.row_interpolation.proofs.RisingIndices.{rising-distinct}
 
 -- the product with one
 product_one : (a : F) → product a (residue 1) ≡ a
@@ -64,10 +67,12 @@ own-more points own n x is h = record {
 }
 
 -- quotients of the product of all differences by these divisors are weights
-pub weights-of_quotients : (x numerator : F) (points own ds ws : List F) → AreApart same points → All (λ p. ¬ (same p x)) points → AreOwnProducts points (length points) own
+pub weights-of_quotients : (x numerator : F) (points own ds ws : List F) → AreOutside x points → AreOwnProducts points (length points) own
     → numerator ≡ differences x points → length ds ≡ length points → ((k : ℕ) → k < length points → item ds k ≡ product (sum x (negative (item points k))) (item own k))
     → length ws ≡ length ds → (All (λ d. ¬ (same d (residue 0))) ds → (k : ℕ) → k < length ds → same (product (item ws k) (item ds k)) numerator) → AreWeightsAt goldilocks x points ws
-weights-of_quotients x numerator points own ds ws apart outside O whole count each many give =
+weights-of_quotients x numerator points own ds ws away O whole count each many give =
+    let apart : AreApart same points = away.apart in
+    let outside : All (λ p. ¬ (same p x)) points = away.outside in
     let is : (k : ℕ) → k < length points → item ds k ≡ weight_divisor (residue 0) sum negative product (residue 1) x points k =
     λ k l. each k l ∙ ap (product (sum x (negative (item points k)))) (O.each k l) in
     let nonzero : All (λ d. ¬ (same d (residue 0))) ds =
@@ -90,3 +95,18 @@ module _ (lg total : ℕ) (indices : List ℕ) (small : lg ≤ 32) (inside : tot
       let less : i < total = are.1 k 0 b in
       points-apart lg i index small (omega (arith, less, inside)) (omega (arith, below, inside)) apart
       (sym (point-at lg total indices small inside are k d b) ∙ same_number _ _ e)
+
+-- what are weights at the point of a wanted index, if the points are apart, are the weights for it
+pub weights-wanted : (total lg other j : ℕ) (indices wanted : List ℕ) (points own row : List F) (x : F) → lg ≤ 32 → ArePointsOf total lg indices points own → AreWanted total indices wanted
+    → j < length wanted → x ≡ point lg (get_or wanted j 0) → (AreOwnProducts points (length points) own → AreOutside x points → AreWeightsAt goldilocks x points row)
+    → IsNextPowerOfTwo total (2 ^ other) → AreWeightsFor other indices (get_or wanted j 0) row
+weights-wanted total lg other j indices wanted points own row x small P W l is weights next =
+    let index : ℕ = get_or wanted j 0 in
+    let are : AreDistinct indices × All (λ i. i < total) indices = (rising-distinct indices W.rising.0, W.rising.1) in
+    let away : AreOutside x points = subst (λ y. AreOutside y points) (sym is) (subst (AreOutside (point lg index)) (sym P.are) (record {
+      apart = points-are_apart lg total indices small P.domain.1 are;
+      outside = point-outside lg total indices small P.domain.1 are index (W.below j 0 l) (W.missing j 0 l);
+    })) in
+    subst (λ n. AreWeightsFor n indices index row) (lg-only total lg other W.some P.domain next)
+    (subst (λ ps. AreWeightsAt goldilocks (point lg index) ps row) P.are
+    (subst (λ y. AreWeightsAt goldilocks y points row) is (weights P.products away)))

@@ -18,7 +18,7 @@ use Rattle.math_transforms.proofs.WrittenRows.{part-read}
 use Rattle.row_interpolation.specs.RowValues.{AreMade, IsValueThrough}
 use Rattle.row_interpolation.specs.Sums.{AreGathered, AreRead, AreRowSums, AreSums}
 use Rattle.row_interpolation.specs.Weights.{AreWeightRows, AreWeightsFor, part_of}
-use Rattle.row_interpolation.proofs.IndexPoints.{domain_of, point}
+use Rattle.row_interpolation.proofs.IndexPoints.{point}
 
 -- there are as many weights as indices
 pub weights-count : (lg index : ℕ) (indices : List ℕ) (weights : List F) → AreWeightsFor lg indices index weights → length weights ≡ length indices
@@ -46,12 +46,11 @@ pub weights-none : (total : ℕ) (indices wanted : List ℕ) (weights : List F) 
 weights-none total indices wanted weights none = record { size = omega (arith, none); each = λ lg j next b. absurd (omega (arith, b)) }
 
 -- one row of weights more
-pub weights-more : (total n : ℕ) (indices wanted : List ℕ) (weights row : List F) → 1 ≤ total → total < 2 ^ 32
+pub weights-more : (total least n : ℕ) (indices wanted : List ℕ) (weights row : List F) → IsNextPowerOfTwo total (2 ^ least)
     → ((lg : ℕ) → IsNextPowerOfTwo total (2 ^ lg) → AreWeightsFor lg indices (get_or wanted n 0) row)
     → AreWeightRows total indices wanted n weights → AreWeightRows total indices wanted (n + 1) (weights ++ row)
-weights-more total n indices wanted weights row some short W h =
+weights-more total least n indices wanted weights row domain W h =
     let m : ℕ = length indices in
-    let (least, domain, _) = domain_of total some short in
     let count : length row ≡ m = weights-count least (get_or wanted n 0) indices row (W least domain) in
     let turn : (n + 1) * m ≡ n * m + m = grind arith in
     record {

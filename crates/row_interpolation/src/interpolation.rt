@@ -3,21 +3,18 @@
 //! By weights each element takes as many products as there are rows in hand. By transforms a column
 //! takes some products for each point and level of the domain, however many targets there are.
 
-ghost use Rattle.std.specs.Prelude.{◌≡◌, ◌+◌, ◌*◌, ◌%◌, ◌<◌, ◌≤◌, ◌^◌, ℕ, All, Contains, IfOk, length};
+ghost use Rattle.std.specs.Prelude.{◌≡◌, ◌+◌, ◌<◌, ◌≤◌, ◌^◌, ℕ, All, Contains, IfOk, length};
 ghost use Rattle.math_transforms.specs.RootWeights.{AreRising};
-ghost use Rattle.row_interpolation.specs.Interpolations.{IsWayFor};
+ghost use Rattle.row_interpolation.specs.Interpolations.{IsWayFor, height_of};
 ghost use Rattle.row_interpolation.specs.RowValues.{AreMade};
-ghost use Rattle.row_interpolation.specs.Sums.{AreRowSums, AreSums};
 
 use crate::by_transforms::{Transforms, take_rows};
-use crate::by_weights::{MOST_COLS, cols_at_a_time, gather_columns, read_rows, write_sums_of};
+use crate::by_weights::{MOST_COLS, WeightRows, cols_at_a_time};
 use crate::points::lg_above;
 use crate::rows::ElementRows;
-use crate::weights::weight_rows;
 use math_base::algebra::Mem;
 use math_fields::goldilocks::F;
 use math_transforms::transform::size_of;
-use math_values::columns::{sum_columns, sums_columns_at_once};
 use math_values::strips::{most_cols, strip_room};
 use std::alloc::{AllocError, Global};
 
@@ -30,10 +27,53 @@ const STRIP_CELLS: usize = 16384;
 /// How rows of the targets are made.
 #[derive(Drop)]
 enum Way {
-    /// By these weights, target after target: as many for each as there are rows in hand.
-    ByWeights(Vec<F>),
+    /// By these weights.
+    ByWeights(WeightRows),
     /// By transforms.
     ByTransforms(Transforms),
+}
+
+impl Way {
+    ghost use Rattle.row_interpolation.specs.Interpolations.{IsWayFor, height_of};
+    ghost use Rattle.row_interpolation.specs.Weights.{AreWanted};
+
+    /// Chooses the way that takes less time, and takes its memory.
+    fn new(alloc: Global, total: u32, indices: &[u32], targets: &[u32]) -> Mem<Way>
+        requires some { 1 ≤ length indices.now }
+        requires wanted { AreWanted total indices.now targets.now }
+        ensures { IfOk result (IsWayFor total indices.now targets.now) }
+    {
+        let count = indices.len();
+        if count < 2 || are_weights_cheaper(total, count as u32, targets.len()) {
+            let weights = WeightRows::new(alloc, total, indices, targets)?;
+            return Ok(Way::ByWeights(weights));
+        }
+        let transforms = Transforms::new(alloc, indices, total)?;
+        Ok(Way::ByTransforms(transforms))
+    }
+
+    /// How many elements a column takes in the room, besides those that are made.
+    fn height(&self) -> usize
+        ensures { result ≡ height_of self.now }
+    {
+        match self {
+            Way::ByWeights(weights) => weights.count,
+            Way::ByTransforms(transforms) => size_of(transforms.lg),
+        }
+    }
+
+    /// How many columns of rows of this width are made at a time for so many targets.
+    fn cols(&self, targets: usize, width: usize) -> usize
+        ensures few { result ≤ 64 }
+        ensures some { 1 ≤ result }
+    {
+        match self {
+            Way::ByWeights(weights) => cols_at_a_time(weights.count.saturating_add(targets)),
+            Way::ByTransforms(transforms) => {
+                most_cols(STRIP_CELLS, transforms.lg, width).min(MOST_COLS)
+            }
+        }
+    }
 }
 
 /// What makes rows of the targets from rows of the indices.
@@ -56,7 +96,8 @@ pub struct Interpolation {
     ghost below: { All (λ i. i < total) targets.items },
     ghost few: { cols ≤ 64 },
     ghost some: { 1 ≤ cols },
-    ghost of_way: { ∥ IsWayFor total indices.items targets.items height way ∥₁ },
+    ghost high: { height ≡ height_of way },
+    ghost of_way: { ∥ IsWayFor total indices.items targets.items way ∥₁ },
 }
 
 /// Whether weights take less time, where so many rows are in hand and so many are made: a pair of
@@ -99,27 +140,14 @@ impl Interpolation {
     {
         let kept = Vec::from_slice(alloc, indices)?;
         let wanted = Vec::from_slice(alloc, targets)?;
-        let count = indices.len();
-        if count < 2 || are_weights_cheaper(total, count as u32, targets.len()) {
-            let weights = weight_rows(alloc, total, indices, targets)?;
-            return Ok(Interpolation {
-                total,
-                indices: kept,
-                targets: wanted,
-                cols: cols_at_a_time(count + targets.len()),
-                height: count,
-                way: Way::ByWeights(weights),
-            });
-        }
-        let transforms = Transforms::new(alloc, indices, total)?;
-        let lg = transforms.lg;
+        let way = Way::new(alloc, total, indices, targets)?;
         Ok(Interpolation {
             total,
             indices: kept,
             targets: wanted,
-            cols: most_cols(STRIP_CELLS, lg, width).min(MOST_COLS),
-            height: size_of(lg),
-            way: Way::ByTransforms(transforms),
+            cols: way.cols(targets.len(), width),
+            height: way.height(),
+            way,
         })
     }
 
@@ -148,57 +176,12 @@ impl Interpolation {
         }
         let (out, rest) = room.split_at_mut(self.targets.len() * cols);
         match &self.way {
-            Way::ByWeights(weights) => {
-                let count = self.indices.len();
-                if sums_columns_at_once(count, cols) {
-                    read_rows(rows, count, from, cols, rest);
-                    self.write_row_sums(weights, rest, cols, out);
-                    return;
-                }
-                gather_columns(rows, count, from, cols, rest);
-                self.write_sums(weights, rest, cols, out);
-            }
+            Way::ByWeights(weights) => weights.make(rows, from, cols, rest, out),
             Way::ByTransforms(transforms) => {
                 let strip = &mut rest[..self.height * cols];
                 transforms.evaluate(rows, from, cols, strip);
                 take_rows(strip, transforms.lg, &self.targets, cols, out);
             }
-        }
-    }
-
-    /// Writes the sums of the items of each of `cols` columns, each times its weight, target after
-    /// target.
-    fn write_sums(&self, weights: &[F], columns: &[F], cols: usize, out: &mut [F])
-        requires weights { length weights.now
-            ≡ length self.now.targets.items * length self.now.indices.items }
-        requires columns { cols * length self.now.indices.items ≤ length columns.now }
-        requires room { length out.old ≡ length self.now.targets.items * cols }
-        ensures { AreSums (length self.now.indices.items) cols columns.now weights.now
-            (length self.now.targets.items) out.new }
-    {
-        let n = self.indices.len();
-        for j in 0..self.targets.len() {
-            let row = &weights[j * n..(j + 1) * n];
-            write_sums_of(columns, row, &mut out[j * cols..(j + 1) * cols]);
-        }
-    }
-
-    /// Writes the sums of the items in each of `cols` columns of the rows, each times the weight of
-    /// its row, target after target.
-    fn write_row_sums(&self, weights: &[F], rows: &[F], cols: usize, out: &mut [F])
-        requires weights { length weights.now
-            ≡ length self.now.targets.items * length self.now.indices.items }
-        requires few { length self.now.indices.items ≤ 2 ^ 24 }
-        requires eights { cols % 8 ≡ 0 }
-        requires rows { length self.now.indices.items * cols ≤ length rows.now }
-        requires room { length out.old ≡ length self.now.targets.items * cols }
-        ensures { AreRowSums (length self.now.indices.items) cols rows.now weights.now
-            (length self.now.targets.items) out.new }
-    {
-        let n = self.indices.len();
-        for j in 0..self.targets.len() {
-            let row = &weights[j * n..(j + 1) * n];
-            sum_columns(rows, row, &mut out[j * cols..(j + 1) * cols]);
         }
     }
 }

@@ -5,15 +5,15 @@
 //! points. The products D_t serve all rows that are wanted, and one inversion serves all weights of
 //! a row. Of many points a transform gives the weights of a row in less time.
 
-ghost use Rattle.std.specs.Prelude.{◌≡◌, ◌<◌, ◌≤◌, ◌^◌, ℕ, All, Contains, IfOk, length};
+ghost use Rattle.std.specs.Prelude.{◌≡◌, ◌<◌, ◌≤◌, ◌^◌, ℕ, IfOk, List, length};
 ghost use Rattle.std.specs.Int.{IsNextPowerOfTwo};
 ghost use Rattle.std.specs.Map.{values_of};
-ghost use Rattle.math_theory.specs.Interpolation.{AreApart};
 ghost use Rattle.math_fields.specs.Elements.{goldilocks, negative, product, same, sum};
 ghost use Rattle.math_base.specs.Polynomials.{AreWeightsAt};
 ghost use Rattle.math_restoring.specs.Restored.{item};
 ghost use Rattle.math_transforms.specs.RootWeights.{AreRising};
-ghost use Rattle.row_interpolation.specs.Weights.{AreOwnProducts, AreWeightRows, AreWeightsFor};
+ghost use Rattle.row_interpolation.specs.Weights.{AreOutside, AreOwnProducts, ArePointsOf};
+ghost use Rattle.row_interpolation.specs.Weights.{AreWanted, AreWeightRows, AreWeightsFor};
 ghost use Rattle.row_interpolation.specs.Weights.{differences};
 
 use crate::points::{lg_above, point_of, points_of};
@@ -71,10 +71,9 @@ fn divisors(alloc: Global, x: F, points: &[F], own: &[F]) -> Mem<Vec<F>>
 
 /// The weights for the value at x over points with their products.
 fn weights_at(alloc: Global, x: F, points: &[F], own: &[F]) -> Mem<Vec<F>>
-    requires own { AreOwnProducts points.now (length points.now) own.now }
-    requires apart { AreApart same points.now }
-    requires outside { All (λ p. ¬ (same p x)) points.now }
-    ensures { IfOk result (λ weights. AreWeightsAt goldilocks x points.now weights.items) }
+    requires { length own.now ≡ length points.now }
+    ensures { IfOk result (λ weights. AreOwnProducts points.now (length points.now) own.now
+        → AreOutside x points.now → AreWeightsAt goldilocks x points.now weights.items) }
 {
     let numerator = product_of_differences(x, points);
     let divisors = divisors(alloc, x, points, own)?;
@@ -94,29 +93,34 @@ fn are_few(points: usize, rows: usize, lg: u8) -> bool
     points.saturating_mul(points) <= rows.saturating_mul(transform)
 }
 
-/// The weights by which rows of these rising indices give the rows that are wanted, row after row,
-/// from the points of the indices alone.
-fn weights_by_points(
-    alloc: Global,
-    total: NonZeroU32,
-    indices: &[u32],
-    wanted: &[u32],
-) -> Mem<Vec<F>>
-    requires rising { AreRising total.value indices.now }
-    requires below { All (λ i. i < total.value) wanted.now }
-    requires missing { All (λ i. ¬ (Contains indices.now i)) wanted.now }
-    ensures { IfOk result (λ weights. AreWeightRows total.value indices.now wanted.now
-        (length wanted.now) weights.items) }
+/// The weights for the values at the points of the wanted indices, row after row.
+fn weights_at_all(alloc: Global, lg: u8, points: &[F], own: &[F], wanted: &[u32]) -> Mem<Vec<F>>
+    requires small { lg ≤ 32 }
+    requires count { length own.now ≡ length points.now }
+    ensures { IfOk result (λ weights. (total : ℕ) (indices : List ℕ)
+        → ArePointsOf total lg indices points.now own.now → AreWanted total indices wanted.now
+        → AreWeightRows total indices wanted.now (length wanted.now) weights.items) }
 {
-    let lg = lg_above(total.get());
-    let points = points_of(alloc, lg, indices)?;
-    let own = own_products(alloc, &points)?;
     let mut out = Vec::new(alloc);
     for j in 0..wanted.len() {
-        let row = weights_at(alloc, point_of(alloc, lg, wanted[j]), &points, &own)?;
+        let row = weights_at(alloc, point_of(alloc, lg, wanted[j]), points, own)?;
         out.extend_from_slice(&row)?;
     }
     Ok(out)
+}
+
+/// The weights by which rows of these rising indices give the rows that are wanted, row after row,
+/// from the points of the indices alone.
+fn weights_by_points(alloc: Global, total: u32, indices: &[u32], wanted: &[u32]) -> Mem<Vec<F>>
+    requires { AreWanted total indices.now wanted.now }
+    ensures { IfOk result (λ weights. AreWeightRows total indices.now wanted.now
+        (length wanted.now) weights.items) }
+{
+    let lg = lg_above(total);
+    let points = points_of(alloc, lg, indices)?;
+    let own = own_products(alloc, &points)?;
+    let rows = weights_at_all(alloc, lg, &points, &own, wanted)?;
+    Ok(rows)
 }
 
 /// The weights of pairs of an index and a weight.
@@ -131,12 +135,16 @@ fn weights_of_pairs(alloc: Global, pairs: Vec<(u32, F)>) -> Mem<Vec<F>>
 }
 
 /// The weights by which rows of these rising indices give the row of another index, by a transform.
-fn weights_for(alloc: Global, total: NonZeroU32, indices: &[u32], index: u32) -> Mem<Vec<F>>
-    requires rising { AreRising total.value indices.now }
-    ensures { IfOk result (λ weights. (lg : ℕ) → IsNextPowerOfTwo total.value (2 ^ lg)
+fn weights_for(alloc: Global, total: u32, indices: &[u32], index: u32) -> Mem<Vec<F>>
+    requires some { 1 ≤ total }
+    requires rising { AreRising total indices.now }
+    ensures { IfOk result (λ weights. (lg : ℕ) → IsNextPowerOfTwo total (2 ^ lg)
         → AreWeightsFor lg indices.now index weights.items) }
 {
-    let x = point_of(alloc, lg_above(total.get()), index);
+    let x = point_of(alloc, lg_above(total), index);
+    let Some(total) = NonZeroU32::new(total) else {
+        unreachable!()
+    };
     let given = Vec::from_slice(alloc, indices)?;
     let found = lagrange_coefficients_at(alloc, total, given, &x)?;
     let found = weights_of_pairs(alloc, found)?;
@@ -145,14 +153,10 @@ fn weights_for(alloc: Global, total: NonZeroU32, indices: &[u32], index: u32) ->
 
 /// The weights by which rows of these rising indices give the rows that are wanted, row after row,
 /// by a transform for each.
-fn weights_by_transforms(
-    alloc: Global,
-    total: NonZeroU32,
-    indices: &[u32],
-    wanted: &[u32],
-) -> Mem<Vec<F>>
-    requires rising { AreRising total.value indices.now }
-    ensures { IfOk result (λ weights. AreWeightRows total.value indices.now wanted.now
+fn weights_by_transforms(alloc: Global, total: u32, indices: &[u32], wanted: &[u32]) -> Mem<Vec<F>>
+    requires some { 1 ≤ total }
+    requires rising { AreRising total indices.now }
+    ensures { IfOk result (λ weights. AreWeightRows total indices.now wanted.now
         (length wanted.now) weights.items) }
 {
     let mut out = Vec::new(alloc);
@@ -164,19 +168,12 @@ fn weights_by_transforms(
 }
 
 /// The weights by which rows of these rising indices give the rows that are wanted, row after row.
-/// None of these is among the indices.
 pub(crate) fn weight_rows(alloc: Global, total: u32, indices: &[u32], wanted: &[u32]) -> Mem<Vec<F>>
-    requires some { 1 ≤ total }
-    requires rising { AreRising total indices.now }
-    requires below { All (λ i. i < total) wanted.now }
-    requires missing { All (λ i. ¬ (Contains indices.now i)) wanted.now }
+    requires { AreWanted total indices.now wanted.now }
     ensures { IfOk result (λ weights. AreWeightRows total indices.now wanted.now
         (length wanted.now) weights.items) }
 {
-    let Some(total) = NonZeroU32::new(total) else {
-        unreachable!()
-    };
-    if are_few(indices.len(), wanted.len(), lg_above(total.get())) {
+    if are_few(indices.len(), wanted.len(), lg_above(total)) {
         return weights_by_points(alloc, total, indices, wanted);
     }
     weights_by_transforms(alloc, total, indices, wanted)
