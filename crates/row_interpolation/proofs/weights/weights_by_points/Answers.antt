@@ -1,5 +1,4 @@
-use Rattle.std.proofs.Common.{◌≡◌, ◌∙◌, List, length, ap, sym, subst}
-use Rattle.math_fields.specs.declared.goldilocks.F.{F}
+use Rattle.std.proofs.Common.{length, subst}
 use Rattle.row_interpolation.specs.Weights.{AreOwnProducts, ArePointsOf}
 use Rattle.row_interpolation.proofs.weights.weights_by_points.Goals as goal
 

@@ -1,5 +1,5 @@
 use Rattle.row_interpolation.proofs.weights.weights_for.Goals as goal
-use Rattle.std.proofs.Common.{◌≡◌, ◌∙◌, ◌-◌, ◌^◌, ap, sym, subst, arith}
+use Rattle.std.proofs.Common.{◌≡◌, ◌∙◌, ◌-◌, ap, sym, subst, arith}
 use Rattle.std.specs.Int.Count.{count_leading_zeros}
 use Rattle.std.specs.Map.{keys_of}
 use Rattle.math_theory.specs.Powers.{power}

@@ -1,7 +1,4 @@
-use Rattle.std.proofs.Common.{◌<◌, ◌≡◌, List, sym, subst, arith}
-use Rattle.std.specs.List.{All}
-use Rattle.math_transforms.specs.RootWeights.{AreRising}
-use Rattle.row_interpolation.specs.Interpolations.{IsWayFor}
+use Rattle.std.proofs.Common.{arith}
 use Rattle.row_interpolation.proofs.RisingIndices.{rising-count}
 use Rattle.row_interpolation.proofs.interpolation.Interpolation.new.Goals as goal
 
