@@ -1,4 +1,4 @@
-use Rattle.std.proofs.Common.{◌≡◌, ◌∙◌, ◌%◌, ap}
+use Rattle.std.proofs.Common.{◌∙◌, ◌%◌, ap}
 use Rattle.std.proofs.Math.ListN.{set}
 use Rattle.math_numbers.specs.Goldilocks.{P}
 use Rattle.math_fields.specs.Elements.{residue}
