@@ -287,8 +287,8 @@ CWM_MUST_USE uint32_t cwm_systematic_sizes(size_t size, uint32_t min, uint32_t t
 /* Writes the parity rows of the `size` bytes of data, by rising index, over the m bytes of `parity`, and the mask into *mask.
  * If min is total, there are none, and m is 0.
  * 1 <= min <= total, else CWM_MISMATCH. cwm_systematic_sizes takes the sizes, and m is total - min times the size of a row,
- * else CWM_WRONG_SIZE. Takes memory for 3 times min words for each parity row, for 16 times N words and 2^14, and, if the mask
- * is not 0, for a byte for each word of the data rows. */
+ * else CWM_WRONG_SIZE. Takes memory for 3 * min * (total - min) + 16 * N + 2^14 words, and, if the mask is not 0, for a byte for
+ * each word of the data rows. */
 CWM_MUST_USE uint32_t cwm_systematic_encode(const uint8_t *data, size_t size, uint32_t min, uint32_t total, uint8_t *parity,
                                             size_t m, uint32_t *mask);
 
@@ -302,10 +302,10 @@ CWM_MUST_USE uint32_t cwm_systematic_encode(const uint8_t *data, size_t size, ui
  * distinct indices: CWM_TOO_FEW; rows that are not those of any data: CWM_INCONSISTENT. So the call finds damage to one row
  * if there are more than `min` distinct indices; if there are just `min`, it may not. Nothing is signed: keep a hash of the
  * data to compare.
- * Takes memory for 17 words for each of the k rows and for 4352, and for each index in hand past the first `min` and each row
- * that is wanted and not in hand for 3 times min words; if there is such an index or row, also for 16 times N words and 2^14. If
- * there are fewer than `min` distinct indices, it takes memory for the k rows alone, however large `total` is. Else memory grows
- * with `total`: limit it before you rebuild rows from someone you do not trust. */
+ * Takes memory for 17 * k + 4352 words. Let e be how many indices are in hand past the first `min`, and how many rows are
+ * wanted and not in hand: if e is not 0, also for 3 * min * e + 16 * N + 2^14 words. If there are fewer than `min` distinct
+ * indices, it takes memory for the k rows alone, however large `total` is. Else memory grows with `total`: limit it before you
+ * rebuild rows from someone you do not trust. */
 CWM_MUST_USE uint32_t cwm_systematic_rebuild(const uint32_t *indices, size_t k, const uint8_t *rows, size_t n, size_t size,
                                              uint32_t min, uint32_t total, uint32_t mask, const uint32_t *wanted, size_t w,
                                              uint8_t *out, size_t m);
@@ -387,7 +387,7 @@ CWM_MUST_USE uint32_t cwm_shard_is_under(const uint8_t *root, const uint8_t *sha
  * If `strict` is not 0, the call commits to the data again, and gives them only if this is their root. So it gives no two
  * different data under one root, whoever made it, unless two different messages that were hashed have the same digest.
  * 1 <= min <= total, else CWM_MISMATCH. cwm_systematic_sizes takes the sizes, n is k times the size of a row, l is k, p is k
- * times the `room` of cwm_path_sizes, and room is k or more, else CWM_WRONG_SIZE. Then, in this order: total is more than
+ * times the longest path, which cwm_path_sizes writes, and `left_out` has room for k or more, else CWM_WRONG_SIZE. Then, in this order: total is more than
  * 65,536: CWM_TOO_MANY; shards under the root have different masks: CWM_INCONSISTENT; what cwm_systematic_decode refuses of the
  * rows of the shards under the root: fewer than `min` distinct indices are CWM_TOO_FEW; and if strict is not 0 and the data
  * have another root: CWM_WRONG_ROOT. Takes memory as cwm_systematic_decode does and for 20 words for each of the k shards. If
