@@ -8,12 +8,13 @@ use Rattle.shard_roots.specs.declared.Error.{Error}
 use Rattle.shard_roots.specs.declared.Error.TheVariants.{Memory, TooMany, Masks, Rows, Root}
 use Rattle.shard_roots.specs.declared.shards.Shard.{Shard}
 use Rattle.shard_roots.specs.Commitments.{IsCommitment}
-use Rattle.shard_roots.specs.Joining.{AreJoined, IsShardUnder, IsStrictDue}
+use Rattle.shard_roots.specs.Joining.{AreJoined, IsCommitDue, IsShardUnder, IsStrictDue}
 use Rattle.shard_roots.specs.Records.{shard_records}
 use Rattle.c_calls.specs.declared.roots.in_hand.ShardsWithPaths.{ShardsWithPaths}
 pub use Rattle.c_calls.specs.PathSizes.{path_size}
 use Rattle.c_calls.specs.Statuses.{done, mismatch, out_of_memory, status_of_roots, wrong_size}
 use Rattle.c_calls.specs.SystematicRows.{HaveRowsFor, IsSplitOf}
+use Rattle.c_calls.specs.WordEncodings.{StandInFront}
 
 -- a digest of zeros, which stands for none
 abbrev pub no_digest : List ℕ
@@ -93,6 +94,20 @@ IsMemory Root = ⊥
 -- the error says that memory ran out, or is due to the shards in hand that are joined and committed to again
 abbrev pub IsMemoryOrStrictDue : List ℕ → ShardsWithPaths → Error → Type 0
 IsMemoryOrStrictDue top held e = IsMemory e ⊎ ((shards : List Shard) × AreShardsOf held shards × IsStrictDue sha512_256 held.split top shards e)
+
+-- the error is that of a block which can't be committed to, of so many bytes, with this `min` and `total`
+abbrev pub IsCommitDueTo : ℕ → ℕ → ℕ → Error → Type 0
+IsCommitDueTo size least total e = (split : Split) × IsSplitOf size least total split × IsCommitDue split e
+
+-- the error tells neither of numbers nor of sizes
+abbrev pub TellsNoSizes : Error → Type 0
+TellsNoSizes e = (status_of_roots e ≢ mismatch) × (status_of_roots e ≢ wrong_size)
+
+-- the block is that of the shards in hand under the root, and the positions of the others, so many, stand in front
+abbrev pub WritesBlock : List ℕ → ShardsWithPaths → List ℕ → List ℕ → List ℕ → ℕ → Type 0
+WritesBlock top held block old new many =
+    (shards : List Shard) × AreShardsOf held shards
+    × ((positions : List ℕ) × AreJoinedUnder held.split top shards block positions × (many ≡ length positions) × StandInFront positions old new)
 
 -- the status is a refusal, and tells neither of memory nor of numbers and sizes
 pub record TellsOfShards (status : ℕ) : Type 0 where

@@ -15,6 +15,7 @@ pub use Rattle.systematic_shards.specs.Splits.{HaveRoom, bytes_in_row, width_of}
 pub use Rattle.systematic_shards.specs.Words.{word_of_bytes}
 use Rattle.c_calls.specs.declared.systematic.in_hand.RowsInHand.{RowsInHand}
 use Rattle.c_calls.specs.Statuses.{conflict, inconsistent, out_of_range, status_of_rows, too_few, wrong_index}
+use Rattle.c_calls.specs.WordEncodings.{StandInFront}
 
 -- the split has this size, this `min` and `total`, and the width for these
 pub record IsSplitOf (size least total : ℕ) (split : Split) : Type 0 where
@@ -122,6 +123,16 @@ IsCorrectingDueTo code wanted rows e =
 -- the error says that memory ran out, or P holds of the rows in hand and it
 abbrev pub IsMemoryOrDue : (List (Row ℕ) → Error → Type 0) → RowsInHand → Error → Type 0
 IsMemoryOrDue P held e = IsMemory e ⊎ ((rows : List (Row ℕ)) × AreRowsOf held rows × P rows e)
+
+-- the error says that memory ran out, or is due to the rows in hand, of which some may be wrong
+abbrev pub IsMemoryOrCorrectingDue : List ℕ → RowsInHand → Error → Type 0
+IsMemoryOrCorrectingDue wanted held e = IsMemoryOrDue (IsCorrectingDueTo held.code wanted) held e
+
+-- the bytes are the wanted rows of a codeword near the rows in hand, and the positions of those that are not its rows, so many, stand in front
+abbrev pub WritesRows : RowsInHand → List ℕ → List ℕ → List ℕ → List ℕ → ℕ → Type 0
+WritesRows held wanted bytes old new many =
+    (rows : List (Row ℕ)) × AreRowsOf held rows
+    × ((positions : List ℕ) × AreCorrected held.code rows wanted positions bytes × (many ≡ length positions) × StandInFront positions old new)
 
 -- the status tells of rows, and not of memory or of sizes
 abbrev pub TellsOfRows : ℕ → Type 0

@@ -10,11 +10,11 @@ ghost use Rattle.systematic_shards.specs.declared.Error.TheVariants.{Conflict, I
 ghost use Rattle.systematic_shards.specs.declared.Error.TheVariants.{Mismatch, Sizes, Word};
 ghost use Rattle.systematic_shards.specs.declared.rows.Row.{Row};
 ghost use Rattle.systematic_shards.specs.declared.split.Split.{Split};
-ghost use Rattle.c_calls.specs.SystematicRows.{AreCorrected, AreDecoded, AreEncoded, AreInHand};
+ghost use Rattle.c_calls.specs.SystematicRows.{AreDecoded, AreEncoded, AreInHand};
 ghost use Rattle.c_calls.specs.SystematicRows.{AreRebuilt, AreRowsOf, HaveRoom, HaveRowsFor};
-ghost use Rattle.c_calls.specs.SystematicRows.{IsCorrectingDueTo, IsDecodeDueTo, IsDueTo};
-ghost use Rattle.c_calls.specs.SystematicRows.{IsMemoryOrDue, IsSplitOf, IsVerified, width_of};
-ghost use Rattle.c_calls.specs.WordEncodings.{StandInFront};
+ghost use Rattle.c_calls.specs.SystematicRows.{IsDecodeDueTo, IsDueTo};
+ghost use Rattle.c_calls.specs.SystematicRows.{IsMemoryOrCorrectingDue, IsMemoryOrDue, IsSplitOf};
+ghost use Rattle.c_calls.specs.SystematicRows.{IsVerified, WritesRows, width_of};
 ghost use Rattle.c_calls.specs.WordShards.{IsSplit};
 
 mod in_hand;
@@ -156,12 +156,8 @@ pub fn write_corrected_rows(
 ) -> Result<usize, Error>
     requires rows { length out.old ≡ length wanted.now * (8 * held.now.code.split.width) }
     requires room { length held.now.indices.now ≤ length left_out.old }
-    ensures ok { IfOk result (λ many. (rows : List (Row ℕ)) × AreRowsOf held.now rows
-        × ((positions : List ℕ)
-        × AreCorrected held.now.code rows wanted.now positions out.new
-        × (many ≡ length positions) × StandInFront positions left_out.old left_out.new)) }
-    ensures due { IfErr result
-        (IsMemoryOrDue (IsCorrectingDueTo held.now.code wanted.now) held.now) }
+    ensures ok { IfOk result (WritesRows held.now wanted.now out.new left_out.old left_out.new) }
+    ensures due { IfErr result (IsMemoryOrCorrectingDue wanted.now held.now) }
     ensures others { IfErr result (λ e. (e ≢ Mismatch) × (e ≢ Sizes)) }
     ensures of_sound { IfErr result (λ e. (e ≢ Word) × (e ≢ Conflict)) }
     ensures err { OnErr result ((out.new ≡ out.old) × (left_out.new ≡ left_out.old)) }

@@ -44,8 +44,7 @@ impl Quotient {
         requires numerator_below { numerator < MODULUS }
         requires denominator_below { denominator < MODULUS }
         requires denominator_above { 0 < denominator }
-        ensures numerator { numerator_of result ≡ numerator }
-        ensures denominator { denominator_of result ≡ denominator }
+        ensures { (numerator_of result ≡ numerator) × (denominator_of result ≡ denominator) }
     {
         Quotient {
             numerator,

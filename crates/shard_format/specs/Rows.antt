@@ -40,6 +40,10 @@ pub record IsRowOfHeader (h : Header) (mask width : ℕ) (row : List ℕ) : Type
 abbrev pub row_spelling : Header → ℕ → ℕ → List ℕ → List ℕ
 row_spelling h mask width row = numbers_spelling h width ++ (to_be_bytes w64 mask ++ row)
 
+-- the bytes begin with the bytes of a record before its fingerprints
+abbrev pub BeginsWith : Header → ℕ → ℕ → List ℕ → List ℕ → Type 0
+BeginsWith h mask width row bytes = (rest : List ℕ) × (bytes ≡ row_spelling h mask width row ++ rest)
+
 -- the bytes of the record of this block in the file with this header that has this row: what stands before the fingerprints, and the two
 -- fingerprints of the words of the row
 abbrev pub row_record_spelling : Header → ℕ → ℕ → ℕ → List ℕ → List ℕ

@@ -4,7 +4,7 @@
 //! The words of a row are eight bytes each, the lowest first, as `systematic_shards` has them. All
 //! else in a record is as in version 2.
 
-ghost use Rattle.std.specs.Prelude.{◌≡◌, ◌≢◌, ◌↔◌, ◌*◌, ◌<◌, ◌^◌, ◌++◌, ◌∷◌, ℕ, List, length, map, slice_set};
+ghost use Rattle.std.specs.Prelude.{◌≡◌, ◌≢◌, ◌↔◌, ◌*◌, ◌<◌, ◌^◌, ◌++◌, ℕ, List, length, map, slice_set};
 ghost use Rattle.std.specs.Prelude.{IsTrue, IfOk, IfSome, IsNone, OnOk};
 ghost use Rattle.std.specs.Int.{w64, to_be_bytes};
 ghost use Rattle.std.specs.List.{range_with_len};
@@ -14,9 +14,9 @@ ghost use Rattle.shard_fingerprints.specs.Fingerprints.{fingerprint};
 ghost use Rattle.systematic_shards.specs.Masks.{masked_number};
 ghost use Rattle.systematic_shards.specs.Shards.{mask_of_row};
 ghost use Rattle.systematic_shards.specs.Words.{word_of_bytes};
-ghost use Rattle.shard_format.specs.Records.{numbers_spelling};
-ghost use Rattle.shard_format.specs.Rows.{HaveWords, IsRowOfHeader, IsRowRecordOf, bound_of_row};
-ghost use Rattle.shard_format.specs.Rows.{row_elements, row_record_spelling, row_spelling, row_words};
+ghost use Rattle.shard_format.specs.Rows.{BeginsWith, HaveWords, IsRowOfHeader, IsRowRecordOf};
+ghost use Rattle.shard_format.specs.Rows.{bound_of_row, row_elements, row_record_spelling};
+ghost use Rattle.shard_format.specs.Rows.{row_spelling, row_words};
 
 use crate::header::{Header, number_of, read_number, write_pair};
 use crate::records::record_numbers;
@@ -195,8 +195,7 @@ pub fn row_at<'a>(
     bytes: &'a [u8],
 ) -> Mem<Option<MaskedRow<'a>>>
     ensures some { IfOk result (λ answer. IfSome answer (λ row. (row.width ≡ width)
-        × ((rest : List ℕ) × (bytes.now
-        ≡ row_spelling header.now row.mask width row.bytes.now ++ rest)))) }
+        × BeginsWith header.now row.mask width row.bytes.now bytes.now)) }
     ensures none { IfOk result (λ answer. IsNone answer → (mask : ℕ) (row rest : List ℕ)
         → mask < 2 ^ 32 → length row ≡ 8 * width
         → bytes.now ≢ row_spelling header.now mask width row ++ rest) }
@@ -286,10 +285,6 @@ pub fn write_row_record(
     ensures exact { OnOk result (out.new.items
         ≡ row_record_spelling header.now block row.entry.mask row.entry.width
         row.entry.bytes.now) }
-    ensures read { OnOk result
-        (IsRowOfHeader header.now row.entry.mask row.entry.width row.entry.bytes.now
-        → IsRowRecordOf header.now block row.entry.mask row.entry.width row.entry.bytes.now
-        out.new.items) }
 {
     write_row(alloc, header, row, out)?;
     put_elements(header, row, room)?;

@@ -4,6 +4,7 @@ use Rattle.math_fields.specs.declared.goldilocks.F.{F}
 use Rattle.hash_trees.specs.Binding.{CollidesAt, HasDigests, IsUnder, record_path}
 use Rattle.systematic_shards.specs.declared.Error.{Error as RowsError}
 use Rattle.systematic_shards.specs.declared.rows.Row.{Row}
+use Rattle.systematic_shards.specs.declared.split.Code.{Code}
 use Rattle.systematic_shards.specs.declared.split.Split.{Split}
 use Rattle.systematic_shards.specs.Errors.{IsMemory as IsRowsMemory}
 use Rattle.systematic_shards.specs.Refusals.{HaveEnough, IsDecodeDue}
@@ -56,6 +57,12 @@ IsRefusedDecode split mask rows TooMany = ⊥
 IsRefusedDecode split mask rows Masks = ⊥
 IsRefusedDecode split mask rows (Rows e) = (¬ (IsRowsMemory e)) × IsDecodeDue 1 word_of_bytes split mask rows e
 IsRefusedDecode split mask rows Root = ⊥
+
+-- the rows are enough and rows of a codeword, and the block is its data
+abbrev pub AreDecoded : Code → List (Row ℕ) → List ℕ → Type 0
+AreDecoded code rows block =
+    ((a : ℕ → ℕ → F) × IsCodewordOf code.split a × BelongTo word_of_bytes code.split code.mask rows a × AreDataOf code.split code.mask a (word_of_bytes block))
+    × HaveEnough code.split.min rows × (code.mask < 2 ^ 32)
 
 -- the shards that are under the root have one mask, belong to one codeword, and give this block
 pub record AreJoined (h : List ℕ → List ℕ) (split : Split) (top : List ℕ) (shards : List Shard) (block : List ℕ) : Type 0 where

@@ -1,17 +1,13 @@
 //! The block of the shards that are under a root.
 
-ghost use Rattle.std.specs.Prelude.{◌≡◌, ◌≢◌, ◌↔◌, ◌≤◌, ◌<◌, ◌^◌, ℕ, length, slice_index_or};
+ghost use Rattle.std.specs.Prelude.{◌≡◌, ◌≢◌, ◌↔◌, ◌≤◌, ◌<◌, ◌^◌, length, slice_index_or};
 ghost use Rattle.std.specs.Prelude.{IfOk, IfErr, IfSome, IfNone, IsTrue, OnErr, OnOk};
 ghost use Rattle.sha2.specs.Sha512.{sha512_256};
-ghost use Rattle.math_fields.specs.declared.goldilocks.F.{F};
 ghost use Rattle.systematic_shards.specs.Correcting.{ArePositionsWithout};
-ghost use Rattle.systematic_shards.specs.Refusals.{HaveEnough};
-ghost use Rattle.systematic_shards.specs.Shards.{AreDataOf, BelongTo, IsCodewordOf};
-ghost use Rattle.systematic_shards.specs.Words.{word_of_bytes};
 ghost use Rattle.shard_roots.specs.Commitments.{IsRootOfBlock};
-ghost use Rattle.shard_roots.specs.Joining.{AreJoined, AreThoseUnder, HaveMask, IsJoinDue};
-ghost use Rattle.shard_roots.specs.Joining.{HaveOtherMasks, IsRefusedDecode, IsShardUnder};
-ghost use Rattle.shard_roots.specs.Joining.{IsStrictDue, rows_of};
+ghost use Rattle.shard_roots.specs.Joining.{AreDecoded, AreJoined, AreThoseUnder, HaveMask};
+ghost use Rattle.shard_roots.specs.Joining.{HaveOtherMasks, IsJoinDue, IsRefusedDecode};
+ghost use Rattle.shard_roots.specs.Joining.{IsShardUnder, IsStrictDue, rows_of};
 ghost use Rattle.shard_roots.specs.declared.Error.TheVariants.{Masks};
 
 use crate::Error;
@@ -103,11 +99,7 @@ fn decode_rows(
     block: &mut [u8],
 ) -> Result<(), Error>
     requires { length block.old ≡ code.split.size }
-    ensures ok { OnOk result ((a : ℕ → ℕ → F) × IsCodewordOf code.split a
-        × BelongTo word_of_bytes code.split code.mask rows.now a
-        × AreDataOf code.split code.mask a (word_of_bytes block.new)) }
-    ensures enough { OnOk result (HaveEnough code.split.min rows.now) }
-    ensures short { OnOk result (code.mask < 2 ^ 32) }
+    ensures ok { OnOk result (AreDecoded code rows.now block.new) }
     ensures due { IfErr result (IsRefusedDecode code.split code.mask rows.now) }
     ensures err { OnErr result (block.new ≡ block.old) }
 {

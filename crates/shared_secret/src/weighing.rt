@@ -1,11 +1,12 @@
 //! Weights that are made once for shares of some indices, and serve every list of their values.
 
-ghost use Rattle.std.specs.Prelude.{◌≡◌, ◌↔◌, ◌<◌, ◌≤◌, ℕ, List, [], length, IfOk, IfErr, IfSome, IfNone};
+ghost use Rattle.std.specs.Prelude.{◌≡◌, ◌↔◌, ◌<◌, ◌≤◌, [], length, IfOk, IfErr, IfSome, IfNone};
 ghost use Rattle.math_theory.specs.Interpolation.{AreApart};
 ghost use Rattle.math_theory.specs.Sums.{weighted_sum};
 ghost use Rattle.shared_secret.specs.CorrectedShares.{IsCorrectedSecret};
-ghost use Rattle.shared_secret.specs.Shares.{IsRepeatedFirst, IsZeroFirst, values};
+ghost use Rattle.shared_secret.specs.Shares.{IsRepeatedFirst, IsZeroFirst};
 ghost use Rattle.shared_secret.specs.Weights.{AreWeightsAtPoints, AreWeightsOfShares};
+ghost use Rattle.shared_secret.specs.Weights.{HoldsOfWeighed};
 ghost use Rattle.shared_secret.specs.declared.error.CombineError.TheVariants.{TooFewShares, ZeroIndex, RepeatedIndex};
 ghost use Rattle.shared_secret.specs.declared.shares.Share.{Share};
 
@@ -102,14 +103,11 @@ pub fn secret_of<F: Field, S: Fn(&[F], &[F]) -> Mem<F>>(
     requires callable { S.IsAlwaysCallable sum_of_products }
     requires sums { (xs : _) (ys : _) (sum : _) → S.post sum_of_products xs ys sum
         → IfOk sum (λ x. F.same x (weighted_sum F.zero F.sum F.product xs.now ys.now)) }
-    ensures found { (t : ℕ) (shares : List (Share F)) → AreWeightsOfShares F.Ring t shares weights.now
-        → given.now ≡ values shares
-        → IfOk result (λ answer. IfSome answer
-        (λ secret. IsCorrectedSecret F.Ring t shares secret [])) }
-    ensures none { (t : ℕ) (shares : List (Share F)) → AreWeightsOfShares F.Ring t shares weights.now
-        → given.now ≡ values shares
-        → IfOk result (λ answer. IfNone answer
-        ((secret : F) → ¬ (IsCorrectedSecret F.Ring t shares secret []))) }
+    ensures found { HoldsOfWeighed F.Ring weights.now given.now (λ t shares. IfOk result
+        (λ answer. IfSome answer (λ secret. IsCorrectedSecret F.Ring t shares secret []))) }
+    ensures none { HoldsOfWeighed F.Ring weights.now given.now (λ t shares. IfOk result
+        (λ answer. IfNone answer
+        ((secret : F) → ¬ (IsCorrectedSecret F.Ring t shares secret [])))) }
 {
     let t = weights.secret.len();
     if given.len() < t || given.len() - t != weights.further.len() {

@@ -8,13 +8,3 @@ returns-clause-exact c =
     record_spelled c.args.header.now c.args.block row.mask row.width row.bytes.now c.write_pair.new.out.items c.write_row.new.out.items _ c.deref.result.now
     c.row_fingerprints-fingerprints.result c.in_ok-write_row.ensures (c.deref.ensures.value ∙ c.in_ok-put_elements.ensures.words) c.row_fingerprints-fingerprints.ensures refl
     c.in_ok-write_pair.ensures.ok
-
-pub returns-clause-read : goal.returns-clause-read
-returns-clause-read c = λ fits.
-    let row = c.args.row in
-    record {
-      fits = fits;
-      spelled = record_spelled c.args.header.now c.args.block row.mask row.width row.bytes.now c.write_pair.new.out.items c.write_row.new.out.items _ c.deref.result.now
-          c.row_fingerprints-fingerprints.result c.in_ok-write_row.ensures (c.deref.ensures.value ∙ c.in_ok-put_elements.ensures.words) c.row_fingerprints-fingerprints.ensures refl
-          c.in_ok-write_pair.ensures.ok;
-    }

@@ -26,5 +26,5 @@ returns-clause-ok c =
     let one = subst (HaveMask c.in_ok-mask.mask) c.deref.ensures.value c.in_ok-mask.ensures.ok in
     let are = c.deref-3.ensures.value ∙ c.in_ok-rows.ensures ∙ ap rows_of c.deref-2.ensures.value in
     joined sha512_256 c.args.split c.args.top.now c.args.shards.now c.in_ok-selection.selection.kept.items c.in_ok-selection.ensures.kept
-    c.in_ok-mask.mask c.deref-3.result.now c.decode_rows.new.block c.in_ok-decode_rows.ensures.short one are (c.decode_rows.auto.block ∙ c.requires)
-    c.in_ok-decode_rows.ensures.ok c.in_ok-decode_rows.ensures.enough
+    c.in_ok-mask.mask c.deref-3.result.now c.decode_rows.new.block c.in_ok-decode_rows.ensures.ok.2 one are (c.decode_rows.auto.block ∙ c.requires)
+    c.in_ok-decode_rows.ensures.ok.0 c.in_ok-decode_rows.ensures.ok.1
