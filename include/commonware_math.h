@@ -387,11 +387,11 @@ CWM_MUST_USE uint32_t cwm_shard_is_under(const uint8_t *root, const uint8_t *sha
  * If `strict` is not 0, the call commits to the data again, and gives them only if this is their root. So it gives no two
  * different data under one root, whoever made it, unless two different messages that were hashed have the same digest.
  * 1 <= min <= total, else CWM_MISMATCH. cwm_systematic_sizes takes the sizes, n is k times the size of a row, l is k, p is k
- * times the longest path, which cwm_path_sizes writes, and `left_out` has room for k or more, else CWM_WRONG_SIZE. Then, in this order: total is more than
- * 65,536: CWM_TOO_MANY; shards under the root have different masks: CWM_INCONSISTENT; what cwm_systematic_decode refuses of the
- * rows of the shards under the root: fewer than `min` distinct indices are CWM_TOO_FEW; and if strict is not 0 and the data
- * have another root: CWM_WRONG_ROOT. Takes memory as cwm_systematic_decode does and for 20 words for each of the k shards. If
- * strict is not 0, also for the data, and as cwm_commit does but for the paths. */
+ * times the longest path, which cwm_path_sizes writes, and `left_out` has room for k or more, else CWM_WRONG_SIZE. Then, in
+ * this order: total is more than 65,536: CWM_TOO_MANY; shards under the root have different masks: CWM_INCONSISTENT; what
+ * cwm_systematic_decode refuses of the rows of the shards under the root: fewer than `min` distinct indices are CWM_TOO_FEW;
+ * and if strict is not 0 and the data have another root: CWM_WRONG_ROOT. Takes memory as cwm_systematic_decode does and for
+ * 20 words for each of the k shards. If strict is not 0, also for the data, and as cwm_commit does but for the paths. */
 CWM_MUST_USE uint32_t cwm_join_under(const uint8_t *root, const uint32_t *indices, size_t k, const uint32_t *masks, size_t l,
                                      const uint8_t *shards, size_t n, const uint8_t *paths, size_t p, uint32_t min,
                                      uint32_t total, uint32_t strict, uint8_t *data, size_t size, size_t *left_out,
