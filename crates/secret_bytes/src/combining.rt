@@ -4,7 +4,7 @@
 //! repeated for each element; if no share is wrong, only sums of products are left, each reduced
 //! once.
 
-ghost use Rattle.std.specs.Prelude.{◌≡◌, ◌<◌, ◌≤◌, ◌++◌, ℕ, List, [], length, map, All};
+ghost use Rattle.std.specs.Prelude.{◌≡◌, ◌<◌, ◌≤◌, ◌++◌, [], length, map, All};
 ghost use Rattle.std.specs.Prelude.{IfOk, IfErr, IfSome, IfNone};
 ghost use Rattle.math_fields.specs.declared.goldilocks.F.{F};
 ghost use Rattle.shared_secret.specs.CorrectedShares.{IsCorrectedSecret};

@@ -1,6 +1,6 @@
 //! Verifying of shares.
 
-ghost use Rattle.std.specs.Prelude.{◌↔◌, IfOk, IsOk, IsTrue};
+ghost use Rattle.std.specs.Prelude.{◌↔◌, IfOk, IsTrue};
 ghost use Rattle.shared_secret.specs.Shares.{IsVerified};
 
 use crate::shares::{Share, point};
