@@ -1,6 +1,6 @@
 //! Data from rows.
 
-ghost use Rattle.std.specs.Prelude.{◌≡◌, ◌*◌, [], ℕ, length};
+ghost use Rattle.std.specs.Prelude.{◌≡◌, ◌*◌, [], length};
 ghost use Rattle.std.specs.Prelude.{IfErr, OnErr, OnOk};
 ghost use Rattle.systematic_shards.specs.Refusals.{AreAsked, AreElements, HaveEnough};
 ghost use Rattle.systematic_shards.specs.Refusals.{IsDecodeDue};

@@ -1,6 +1,6 @@
 //! The rows of wanted indices: those in hand are copied, and the others are made from these.
 
-ghost use Rattle.std.specs.Prelude.{◌≡◌, ◌↔◌, ◌+◌, ◌*◌, ◌<◌, ◌≤◌, ◌^◌, ℕ, All, Contains, List, length, map, slice_index};
+ghost use Rattle.std.specs.Prelude.{◌≡◌, ◌↔◌, ◌+◌, ◌*◌, ◌<◌, ◌≤◌, ◌^◌, ℕ, All, Contains, List, length, slice_index};
 ghost use Rattle.std.specs.Prelude.{IsTrue, IsFalse, IfOk, IfSome, IfNone, OnErr, OnOk};
 ghost use Rattle.std.specs.List.Sorted.{IsStrictlyIncreasing};
 ghost use Rattle.math_fields.specs.declared.goldilocks.F.{F};

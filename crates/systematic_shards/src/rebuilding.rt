@@ -5,7 +5,7 @@
 //! mask the words of row 1. If all three rows are there, the third is compared with what the first
 //! two give, and refused if it differs.
 
-ghost use Rattle.std.specs.Prelude.{◌≡◌, ◌≢◌, ◌↔◌, ◌*◌, ◌<◌, ◌^◌, ◌⊎◌, [], ℕ, length};
+ghost use Rattle.std.specs.Prelude.{◌≡◌, ◌≢◌, ◌↔◌, ◌*◌, ◌<◌, ◌^◌, ◌⊎◌, [], length};
 ghost use Rattle.std.specs.Prelude.{IsTrue, IsFalse, IfOk, IfErr, OnErr, OnOk};
 ghost use Rattle.systematic_shards.specs.Refusals.{AreAsked, AreElements, AreUnlike};
 ghost use Rattle.systematic_shards.specs.Refusals.{HaveCodewordOf, HaveEnough, IsDue};

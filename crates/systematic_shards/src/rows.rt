@@ -115,12 +115,7 @@ pub(crate) fn has_elements<M: WordMemory>(row: &Row<'_, M>, code: Code) -> bool
 pub(crate) fn are_elements<M: WordMemory>(rows: &[Row<'_, M>], code: Code) -> bool
     ensures { IsTrue result ↔ AreElements M.word code.split code.mask rows.now }
 {
-    for row in rows {
-        if !has_elements(row, code) {
-            return false;
-        }
-    }
-    true
+    rows.iter().all(|row| has_elements(row, code))
 }
 
 /// The first of so many words that differs in both.
