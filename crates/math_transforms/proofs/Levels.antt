@@ -52,3 +52,7 @@ adds-then m n u v w h k = record { no_fewer = omega (arith, h.no_fewer, k.no_few
 -- what is added exactly
 pub adds-exactly : (m n : ℕ) (u v : WorkOf) → 2 * m ≤ n → v.butterflies ≡ u.butterflies + m → v.root_products ≡ u.root_products → AddsAtMost n u v
 adds-exactly m n u v l e r = record { no_fewer = omega (arith, e); no_more = omega (arith, e, l); root_products = r }
+
+-- what is added exactly, as twice the butterflies
+pub adds-twice : (m n : ℕ) (u v : WorkOf) → m ≤ n → 2 * v.butterflies ≡ 2 * u.butterflies + m → v.root_products ≡ u.root_products → AddsAtMost n u v
+adds-twice m n u v l e r = record { no_fewer = omega (arith, e); no_more = omega (arith, e, l); root_products = r }

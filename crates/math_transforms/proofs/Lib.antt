@@ -37,4 +37,5 @@ pub mod BelowSteps
 pub mod CopiedCells
 pub mod FewCoefficients
 mod TrimmedCoefficients
-pub mod RowsBelow
+pub mod ListParts
+pub mod StepsBelow

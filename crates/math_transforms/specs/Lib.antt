@@ -10,3 +10,4 @@ pub mod RootWeights
 pub mod RootTrees
 pub mod TreeLevels
 pub mod Quarters
+pub mod StepsBelow

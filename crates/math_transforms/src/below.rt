@@ -4,19 +4,19 @@
 //! the points, where g is the entry at the place. A polynomial is p(x) = l(x) + x^n h(x), where n
 //! is half of the rows, l has the rows of the low half and h those of the high half. x^n is g at
 //! one half of the points and -g at the other: so p has the values of l + g h at the one and those
-//! of l - g h at the other, and both have half as many rows. Two such levels are taken in one pass.
-//! If their number is odd, one is taken alone: of thirty-two rows, or of two where there are fewer
-//! than thirty-two. Sixteen rows have a function without a call of itself, and a type may take
-//! their four levels at once. A weight is the same for all rows and columns of a half. The rows of
-//! coefficients are in natural order and the values in that of the tree, so no row changes its
-//! place.
+//! of l - g h at the other, and both have half as many rows. A step takes two such levels in one
+//! pass. If their number is odd, one is taken alone: of thirty-two rows, or of two where there are
+//! fewer than thirty-two. Forward a step comes before its two or four parts, and on the way back
+//! after them. Four rows at most are one step. A type may take the four levels of sixteen rows at
+//! once. A weight is the same for all rows and columns of a half. The rows of coefficients are in
+//! natural order and the values in that of the tree, so no row changes its place.
 //!
 //! Where there are at most as many coefficients as half of the rows, h is zero: p is l at both
 //! halves of the points. So each half is given the same coefficients, until there are as many rows
 //! as coefficients.
 //!
-//! The two functions of a step count before the rows are turned, and as many butterflies as the
-//! rows in hand have pairs of cells. So no loop counts, a type can turn rows in its own way, and a
+//! A step counts before the rows are combined or turned, and as many butterflies as the rows in
+//! hand have pairs of cells. So no loop counts, a type can turn rows in its own way, and a
 //! step that is refused has counted something. Where a type takes four levels of sixteen rows at
 //! once, which is never refused, these are counted behind it. The weights are compared with one,
 //! once for all columns: that saves N - 1 products of a column, and no caller has to say where the
@@ -32,6 +32,7 @@ ghost use Rattle.std.specs.Prelude.{
   ◌^◌,
   IsOk,
   IsTrue,
+  IsFalse,
   OnOk,
   OnErr,
   if◌then◌else◌,
@@ -40,6 +41,7 @@ ghost use Rattle.std.specs.Prelude.{
 ghost use Rattle.math_transforms.specs.CombinedCells.{AreCombined};
 ghost use Rattle.math_transforms.specs.CountedWork.{AddsAtMost};
 ghost use Rattle.math_transforms.specs.Quarters.{AreTurned};
+ghost use Rattle.math_transforms.specs.StepsBelow.{AreStepped, AreTransformed};
 ghost use Rattle.math_transforms.specs.RootTrees.{
   AreMultiplesAtPoints,
   ArePoints,
@@ -68,21 +70,6 @@ pub struct Points<'a, F> {
     pub place: usize,
     /// The lg of the number of points.
     pub lg: u8,
-}
-
-/// How many cells a quarter of 2^lg rows of `cols` cells has, of three levels or more.
-fn quarter_cells<F>(cells: usize, cols: usize, points: &Points<'_, F>) -> usize
-    requires level { 3 ≤ points.now.lg }
-    requires within { 2 ^ points.now.lg * (points.now.place + 1) ≤ 2 * length points.now.roots.now }
-    requires size { cells ≡ 2 ^ points.now.lg * cols }
-    ensures whole { cells ≡ 4 * result }
-    ensures rows { result ≡ 2 ^ (points.now.lg - 2) * cols }
-    ensures steps { cols * 2 ^ points.now.lg * points.now.lg
-        ≡ 4 * (cols * 2 ^ (points.now.lg - 2) * (points.now.lg - 2)) + 8 * result }
-    ensures inside { 4 * points.now.place + 4 ≤ length points.now.roots.now }
-    ensures two { 2 ≤ points.now.lg }
-{
-    cells / 4
 }
 
 /// Counts two levels of four rows of `cols` cells, and turns the rows by the entries at the place
@@ -146,6 +133,183 @@ fn combine_rows_at<F: FieldNTT, const FORWARD: bool>(
     Ok(())
 }
 
+/// How many levels are taken first, where there are so many: of thirty-two rows one, and of others
+/// two.
+fn levels_of(lg: u8) -> u8
+    requires three { 3 ≤ lg }
+    ensures some { 1 ≤ result }
+    ensures few { result ≤ 2 }
+{
+    if lg == 5 {
+        return 1;
+    }
+    2
+}
+
+/// How many of the levels are taken before the parts: all forward, and none on the way back.
+fn levels_before<const FORWARD: bool>(levels: u8) -> u8
+    ensures before { result ≡ (if FORWARD then levels else 0) }
+    ensures most { result ≤ levels }
+{
+    if FORWARD {
+        return levels;
+    }
+    0
+}
+
+/// Counts no level, one or two of 2^lg rows of `cols` cells, and takes them: two parts of the rows
+/// are combined, or four are turned.
+fn step<F: FieldNTT, const FORWARD: bool>(
+    alloc: Global,
+    rows: &mut [F],
+    cols: usize,
+    levels: u8,
+    points: &Points<'_, F>,
+    work: &mut Work,
+) -> Mem<()>
+    requires points { ArePoints F.Ring F.MAX_LG_ROOT_ORDER
+        (if FORWARD then F.root 2 else F.inverse (F.root 2)) points.now }
+    requires few { levels ≤ 2 }
+    requires deep { levels ≤ points.now.lg }
+    requires size { length rows.old ≡ 2 ^ points.now.lg * cols }
+    requires some { cols < length rows.old }
+    requires room { 2 * work.old.butterflies + levels * length rows.old < 2 ^ 129 }
+    ensures stepped { OnOk result
+        (AreStepped F.Ring FORWARD levels points.now cols rows.old rows.new) }
+    ensures counted { 2 * work.new.butterflies
+        ≡ 2 * work.old.butterflies + levels * length rows.old }
+    ensures root_products { work.new.root_products ≡ work.old.root_products }
+    ensures refused { OnErr result (work.old.butterflies < work.new.butterflies) }
+    ensures never { IsTrue F.NEVER_REFUSES → IsOk result }
+{
+    if levels == 0 {
+        return Ok(());
+    }
+    let part = size_of(points.lg - levels) * cols;
+    if levels == 1 {
+        combine_rows_at::<F, FORWARD>(alloc, rows, part, points, work)?;
+        return Ok(());
+    }
+    turn_rows_at::<F, FORWARD>(alloc, rows, part, points, work)?;
+    Ok(())
+}
+
+/// `transform_below` of four rows at most, by one step.
+fn transform_few<F: FieldNTT, const FORWARD: bool>(
+    alloc: Global,
+    cells: &mut [F],
+    cols: usize,
+    points: &Points<'_, F>,
+    work: &mut Work,
+) -> Mem<()>
+    requires points { ArePoints F.Ring F.MAX_LG_ROOT_ORDER
+        (if FORWARD then F.root 2 else F.inverse (F.root 2)) points.now }
+    requires few { points.now.lg ≤ 2 }
+    requires size { length cells.old ≡ 2 ^ points.now.lg * cols }
+    requires room { 2 * work.old.butterflies + cols * 2 ^ points.now.lg * points.now.lg < 2 ^ 129 }
+    ensures done { OnOk result (AreTransformed F.Ring FORWARD points.now cols cells.old cells.new) }
+    ensures counted { OnOk result (2 * work.new.butterflies
+        ≡ 2 * work.old.butterflies + cols * 2 ^ points.now.lg * points.now.lg) }
+    ensures bounded { AddsAtMost (cols * 2 ^ points.now.lg * points.now.lg) work.old work.new }
+    ensures refused { OnErr result (work.old.butterflies < work.new.butterflies) }
+    ensures never { IsTrue F.NEVER_REFUSES → IsOk result }
+{
+    let count = cells.len();
+    if count <= cols {
+        return Ok(());
+    }
+    step::<F, FORWARD>(alloc, cells, cols, points.lg, points, work)?;
+    Ok(())
+}
+
+/// `transform_below` of sixteen rows, if the type takes their four levels at once. Returns whether
+/// it did.
+fn transform_sixteen<F: FieldNTT, const FORWARD: bool>(
+    cells: &mut [F],
+    cols: usize,
+    points: &Points<'_, F>,
+    work: &mut Work,
+) -> bool
+    requires points { ArePoints F.Ring F.MAX_LG_ROOT_ORDER
+        (if FORWARD then F.root 2 else F.inverse (F.root 2)) points.now }
+    requires size { length cells.old ≡ 2 ^ points.now.lg * cols }
+    requires room { 2 * work.old.butterflies + cols * 2 ^ points.now.lg * points.now.lg < 2 ^ 129 }
+    ensures done { IsTrue result
+        → AreTransformed F.Ring FORWARD points.now cols cells.old cells.new }
+    ensures counted { IsTrue result → (2 * work.new.butterflies
+        ≡ 2 * work.old.butterflies + cols * 2 ^ points.now.lg * points.now.lg) }
+    ensures kept { IsFalse result → (cells.new ≡ cells.old) }
+    ensures none_counted { IsFalse result → (work.new.butterflies ≡ work.old.butterflies) }
+    ensures root_products { work.new.root_products ≡ work.old.root_products }
+{
+    if points.lg != 4 {
+        return false;
+    }
+    let done = F::turn_sixteen_rows(cells, cols, points.roots, points.place, FORWARD);
+    if done {
+        work.add_butterflies(cells.len());
+        work.add_butterflies(cells.len());
+        return true;
+    }
+    false
+}
+
+/// Writes over 2^lg rows of coefficients the values at the points, or, on the way back, over rows
+/// of values 2^lg times the coefficients.
+///
+/// The parts of four rows at most are done without a call of itself. Otherwise most calls for one
+/// column would be for four cells.
+fn transform_below<F: FieldNTT, const FORWARD: bool>(
+    alloc: Global,
+    cells: &mut [F],
+    cols: usize,
+    points: &Points<'_, F>,
+    work: &mut Work,
+) -> Mem<()>
+    requires points { ArePoints F.Ring F.MAX_LG_ROOT_ORDER
+        (if FORWARD then F.root 2 else F.inverse (F.root 2)) points.now }
+    requires size { length cells.old ≡ 2 ^ points.now.lg * cols }
+    requires room { 2 * work.old.butterflies + cols * 2 ^ points.now.lg * points.now.lg < 2 ^ 129 }
+    ensures done { OnOk result (AreTransformed F.Ring FORWARD points.now cols cells.old cells.new) }
+    ensures counted { OnOk result (2 * work.new.butterflies
+        ≡ 2 * work.old.butterflies + cols * 2 ^ points.now.lg * points.now.lg) }
+    ensures bounded { AddsAtMost (cols * 2 ^ points.now.lg * points.now.lg) work.old work.new }
+    ensures refused { OnErr result (work.old.butterflies < work.new.butterflies) }
+    ensures never { IsTrue F.NEVER_REFUSES → IsOk result }
+{
+    let count = cells.len();
+    if count <= cols {
+        return Ok(());
+    }
+    if points.lg <= 2 {
+        transform_few::<F, FORWARD>(alloc, cells, cols, points, work)?;
+        return Ok(());
+    }
+    let at_once = transform_sixteen::<F, FORWARD>(cells, cols, points, work);
+    if at_once {
+        return Ok(());
+    }
+    let levels = levels_of(points.lg);
+    let first = levels_before::<FORWARD>(levels);
+    step::<F, FORWARD>(alloc, cells, cols, first, points, work)?;
+    let roots = points.roots;
+    let lg = points.lg - levels;
+    let parts = size_of(levels);
+    let part = size_of(lg) * cols;
+    for k in 0..parts {
+        let place = parts * points.place + k;
+        let from = k * part;
+        let rows = &mut cells[from..from + part];
+        if lg <= 2 {
+            transform_few::<F, FORWARD>(alloc, rows, cols, &Points { roots, place, lg }, work)?;
+            continue;
+        }
+        transform_below::<F, FORWARD>(alloc, rows, cols, &Points { roots, place, lg }, work)?;
+    }
+    step::<F, FORWARD>(alloc, cells, cols, levels - first, points, work)?;
+    Ok(())
+}
+
 /// Writes over 2^lg rows of coefficients the values at the points, in their order.
 ///
 /// Adds cols 2^lg lg / 2 butterflies. Where it is refused, the cells have some values, and one
@@ -168,43 +332,7 @@ pub fn evaluate_below<F: FieldNTT>(
     ensures refused { OnErr result (work.old.butterflies < work.new.butterflies) }
     ensures never { IsTrue F.NEVER_REFUSES → IsOk result }
 {
-    let lg = points.lg;
-    let count = cells.len();
-    if count <= cols {
-        return Ok(());
-    }
-    if lg == 1 {
-        combine_rows_at::<F, true>(alloc, cells, cols, points, work)?;
-        return Ok(());
-    }
-    if lg == 2 {
-        turn_rows_at::<F, true>(alloc, cells, cols, points, work)?;
-        return Ok(());
-    }
-    if lg == 4 {
-        evaluate_sixteen(alloc, cells, cols, points, work)?;
-        return Ok(());
-    }
-    if lg == 5 {
-        evaluate_thirty_two(alloc, cells, cols, points, work)?;
-        return Ok(());
-    }
-    let part = quarter_cells(count, cols, points);
-    turn_rows_at::<F, true>(alloc, cells, part, points, work)?;
-    let (front, behind) = cells.split_at_mut(2 * part);
-    let (a, b) = front.split_at_mut(part);
-    let (c, d) = behind.split_at_mut(part);
-    let roots = points.roots;
-    let first = 4 * points.place;
-    let lg = points.lg - 2;
-    let place = first;
-    evaluate_below(alloc, a, cols, &Points { roots, place, lg }, work)?;
-    let place = first + 1;
-    evaluate_below(alloc, b, cols, &Points { roots, place, lg }, work)?;
-    let place = first + 2;
-    evaluate_below(alloc, c, cols, &Points { roots, place, lg }, work)?;
-    let place = first + 3;
-    evaluate_below(alloc, d, cols, &Points { roots, place, lg }, work)?;
+    transform_below::<F, true>(alloc, cells, cols, points, work)?;
     Ok(())
 }
 
@@ -280,205 +408,6 @@ pub fn interpolate_below<F: FieldNTT>(
     ensures refused { OnErr result (work.old.butterflies < work.new.butterflies) }
     ensures never { IsTrue F.NEVER_REFUSES → IsOk result }
 {
-    let lg = inverses.lg;
-    let count = cells.len();
-    if count <= cols {
-        return Ok(());
-    }
-    if lg == 1 {
-        combine_rows_at::<F, false>(alloc, cells, cols, inverses, work)?;
-        return Ok(());
-    }
-    if lg == 2 {
-        turn_rows_at::<F, false>(alloc, cells, cols, inverses, work)?;
-        return Ok(());
-    }
-    if lg == 4 {
-        interpolate_sixteen(alloc, cells, cols, inverses, work)?;
-        return Ok(());
-    }
-    if lg == 5 {
-        interpolate_thirty_two(alloc, cells, cols, inverses, work)?;
-        return Ok(());
-    }
-    let part = quarter_cells(count, cols, inverses);
-    let (front, behind) = cells.split_at_mut(2 * part);
-    let (a, b) = front.split_at_mut(part);
-    let (c, d) = behind.split_at_mut(part);
-    let roots = inverses.roots;
-    let first = 4 * inverses.place;
-    let lg = inverses.lg - 2;
-    let place = first;
-    interpolate_below(alloc, a, cols, &Points { roots, place, lg }, work)?;
-    let place = first + 1;
-    interpolate_below(alloc, b, cols, &Points { roots, place, lg }, work)?;
-    let place = first + 2;
-    interpolate_below(alloc, c, cols, &Points { roots, place, lg }, work)?;
-    let place = first + 3;
-    interpolate_below(alloc, d, cols, &Points { roots, place, lg }, work)?;
-    turn_rows_at::<F, false>(alloc, cells, part, inverses, work)?;
-    Ok(())
-}
-
-/// `interpolate_below` of sixteen rows. Without it, most calls for one column would be for four
-/// cells.
-fn interpolate_sixteen<F: FieldNTT>(
-    alloc: Global,
-    cells: &mut [F],
-    cols: usize,
-    inverses: &Points<'_, F>,
-    work: &mut Work,
-) -> Mem<()>
-    requires points { ArePoints F.Ring F.MAX_LG_ROOT_ORDER (F.inverse (F.root 2)) inverses.now }
-    requires level { inverses.now.lg ≡ 4 }
-    requires some { 0 < cols }
-    requires inside { 8 * inverses.now.place + 8 ≤ length inverses.now.roots.now }
-    requires size { length cells.old ≡ 16 * cols }
-    requires room { work.old.butterflies + 32 * cols < 2 ^ 128 }
-    ensures values { OnOk result
-        (AreMultiplesAtPoints F.Ring inverses.now cols cells.old cells.new) }
-    ensures counted { OnOk result (work.new.butterflies ≡ work.old.butterflies + 32 * cols) }
-    ensures bounded { AddsAtMost (64 * cols) work.old work.new }
-    ensures refused { OnErr result (work.old.butterflies < work.new.butterflies) }
-    ensures never { IsTrue F.NEVER_REFUSES → IsOk result }
-{
-    let done = F::turn_sixteen_rows(cells, cols, inverses.roots, inverses.place, false);
-    if done {
-        work.add_butterflies(cells.len());
-        work.add_butterflies(cells.len());
-        return Ok(());
-    }
-    let part = 4 * cols;
-    let (front, behind) = cells.split_at_mut(2 * part);
-    let (a, b) = front.split_at_mut(part);
-    let (c, d) = behind.split_at_mut(part);
-    let roots = inverses.roots;
-    let first = 4 * inverses.place;
-    let lg = inverses.lg - 2;
-    let place = first;
-    turn_rows_at::<F, false>(alloc, a, cols, &Points { roots, place, lg }, work)?;
-    let place = first + 1;
-    turn_rows_at::<F, false>(alloc, b, cols, &Points { roots, place, lg }, work)?;
-    let place = first + 2;
-    turn_rows_at::<F, false>(alloc, c, cols, &Points { roots, place, lg }, work)?;
-    let place = first + 3;
-    turn_rows_at::<F, false>(alloc, d, cols, &Points { roots, place, lg }, work)?;
-    turn_rows_at::<F, false>(alloc, cells, part, inverses, work)?;
-    Ok(())
-}
-
-/// `evaluate_below` of sixteen rows. Without it, most calls for one column would be for four
-/// cells.
-fn evaluate_sixteen<F: FieldNTT>(
-    alloc: Global,
-    cells: &mut [F],
-    cols: usize,
-    points: &Points<'_, F>,
-    work: &mut Work,
-) -> Mem<()>
-    requires points { ArePoints F.Ring F.MAX_LG_ROOT_ORDER (F.root 2) points.now }
-    requires level { points.now.lg ≡ 4 }
-    requires some { 0 < cols }
-    requires inside { 8 * points.now.place + 8 ≤ length points.now.roots.now }
-    requires size { length cells.old ≡ 16 * cols }
-    requires room { work.old.butterflies + 32 * cols < 2 ^ 128 }
-    ensures values { OnOk result (AreValuesAtPoints F.Ring points.now cols cells.old cells.new) }
-    ensures counted { OnOk result (work.new.butterflies ≡ work.old.butterflies + 32 * cols) }
-    ensures bounded { AddsAtMost (64 * cols) work.old work.new }
-    ensures refused { OnErr result (work.old.butterflies < work.new.butterflies) }
-    ensures never { IsTrue F.NEVER_REFUSES → IsOk result }
-{
-    let done = F::turn_sixteen_rows(cells, cols, points.roots, points.place, true);
-    if done {
-        work.add_butterflies(cells.len());
-        work.add_butterflies(cells.len());
-        return Ok(());
-    }
-    let part = 4 * cols;
-    turn_rows_at::<F, true>(alloc, cells, part, points, work)?;
-    let (front, behind) = cells.split_at_mut(2 * part);
-    let (a, b) = front.split_at_mut(part);
-    let (c, d) = behind.split_at_mut(part);
-    let roots = points.roots;
-    let first = 4 * points.place;
-    let lg = points.lg - 2;
-    let place = first;
-    turn_rows_at::<F, true>(alloc, a, cols, &Points { roots, place, lg }, work)?;
-    let place = first + 1;
-    turn_rows_at::<F, true>(alloc, b, cols, &Points { roots, place, lg }, work)?;
-    let place = first + 2;
-    turn_rows_at::<F, true>(alloc, c, cols, &Points { roots, place, lg }, work)?;
-    let place = first + 3;
-    turn_rows_at::<F, true>(alloc, d, cols, &Points { roots, place, lg }, work)?;
-    Ok(())
-}
-
-/// `interpolate_below` of thirty-two rows, by sixteen and sixteen. Without it, an odd number of
-/// levels would leave two rows, and one column would be combined cell by cell.
-fn interpolate_thirty_two<F: FieldNTT>(
-    alloc: Global,
-    cells: &mut [F],
-    cols: usize,
-    inverses: &Points<'_, F>,
-    work: &mut Work,
-) -> Mem<()>
-    requires points { ArePoints F.Ring F.MAX_LG_ROOT_ORDER (F.inverse (F.root 2)) inverses.now }
-    requires level { inverses.now.lg ≡ 5 }
-    requires some { 0 < cols }
-    requires inside { 16 * inverses.now.place + 16 ≤ length inverses.now.roots.now }
-    requires size { length cells.old ≡ 32 * cols }
-    requires room { work.old.butterflies + 80 * cols < 2 ^ 128 }
-    ensures values { OnOk result
-        (AreMultiplesAtPoints F.Ring inverses.now cols cells.old cells.new) }
-    ensures counted { OnOk result (work.new.butterflies ≡ work.old.butterflies + 80 * cols) }
-    ensures bounded { AddsAtMost (160 * cols) work.old work.new }
-    ensures refused { OnErr result (work.old.butterflies < work.new.butterflies) }
-    ensures never { IsTrue F.NEVER_REFUSES → IsOk result }
-{
-    let half = 16 * cols;
-    let (low, high) = cells.split_at_mut(half);
-    let roots = inverses.roots;
-    let first = 2 * inverses.place;
-    let lg = inverses.lg - 1;
-    let place = first;
-    interpolate_sixteen(alloc, low, cols, &Points { roots, place, lg }, work)?;
-    let place = first + 1;
-    interpolate_sixteen(alloc, high, cols, &Points { roots, place, lg }, work)?;
-    combine_rows_at::<F, false>(alloc, cells, half, inverses, work)?;
-    Ok(())
-}
-
-/// `evaluate_below` of thirty-two rows, by sixteen and sixteen. Without it, an odd number of
-/// levels would leave two rows, and one column would be combined cell by cell.
-fn evaluate_thirty_two<F: FieldNTT>(
-    alloc: Global,
-    cells: &mut [F],
-    cols: usize,
-    points: &Points<'_, F>,
-    work: &mut Work,
-) -> Mem<()>
-    requires points { ArePoints F.Ring F.MAX_LG_ROOT_ORDER (F.root 2) points.now }
-    requires level { points.now.lg ≡ 5 }
-    requires some { 0 < cols }
-    requires inside { 16 * points.now.place + 16 ≤ length points.now.roots.now }
-    requires size { length cells.old ≡ 32 * cols }
-    requires room { work.old.butterflies + 80 * cols < 2 ^ 128 }
-    ensures values { OnOk result
-        (AreValuesAtPoints F.Ring points.now cols cells.old cells.new) }
-    ensures counted { OnOk result (work.new.butterflies ≡ work.old.butterflies + 80 * cols) }
-    ensures bounded { AddsAtMost (160 * cols) work.old work.new }
-    ensures refused { OnErr result (work.old.butterflies < work.new.butterflies) }
-    ensures never { IsTrue F.NEVER_REFUSES → IsOk result }
-{
-    let half = 16 * cols;
-    combine_rows_at::<F, true>(alloc, cells, half, points, work)?;
-    let (low, high) = cells.split_at_mut(half);
-    let roots = points.roots;
-    let first = 2 * points.place;
-    let lg = points.lg - 1;
-    let place = first;
-    evaluate_sixteen(alloc, low, cols, &Points { roots, place, lg }, work)?;
-    let place = first + 1;
-    evaluate_sixteen(alloc, high, cols, &Points { roots, place, lg }, work)?;
+    transform_below::<F, false>(alloc, cells, cols, inverses, work)?;
     Ok(())
 }
