@@ -1,6 +1,6 @@
 //! Shards in the caller's memory, and what they give back.
 
-ghost use Rattle.std.specs.Prelude.{◌≡◌, ◌≤◌, ◌⊎◌, ℕ, [], List, IfOk, IfErr, length};
+ghost use Rattle.std.specs.Prelude.{◌≤◌, ◌⊎◌, ℕ, [], List, IfOk, IfErr, length};
 ghost use Rattle.math_shards.specs.Joining.{IsMemory};
 ghost use Rattle.math_shards.specs.declared.shards.Error.{Error};
 ghost use Rattle.c_calls.specs.WrittenData.{WritesInFront};

@@ -6,7 +6,7 @@
 //! `math_transforms` asks for one.
 
 ghost use Rattle.std.specs.Prelude.{◌≡◌, ◌↔◌, ◌<◌, ◌≤◌, ◌*◌, ◌^◌, ◌++◌, IsTrue, IsSome, IfOk, IfSome, OnOk, OnErr, length, All};
-ghost use Rattle.c_calls.specs.WordElements.{AreElements, elements};
+ghost use Rattle.c_calls.specs.WordElements.{elements};
 ghost use Rattle.c_calls.specs.WordRows.{
   AreElementRows,
   AreElementsWhereFilled,

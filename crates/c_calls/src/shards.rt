@@ -4,7 +4,7 @@
 //! a caller keeps them once. The words of the shards tell different splits apart, and `Mismatch`
 //! says that not 1 <= `min` <= `total`.
 
-ghost use Rattle.std.specs.Prelude.{◌≡◌, ◌↔◌, ◌<◌, ◌≤◌, ◌*◌, ℕ, List, IsTrue, IfSome, IfNone, OnOk, OnErr, length};
+ghost use Rattle.std.specs.Prelude.{◌≡◌, ◌↔◌, ◌<◌, ◌≤◌, ◌*◌, ℕ, IsTrue, IfSome, IfNone, OnOk, OnErr, length};
 ghost use Rattle.c_calls.specs.WordShards.{AreRefused, AreRefusedCorrecting, AreRowsOf, AreWordsOfShards, DoCorrectTo, DoJoinTo, HaveShardSizes, IsSplit};
 
 mod in_hand;

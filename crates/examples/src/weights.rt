@@ -1,6 +1,6 @@
 //! Weights at a point.
 
-ghost use Rattle.std.specs.Prelude.{◌≡◌, ◌≤◌, List, length, map, IfOk};
+ghost use Rattle.std.specs.Prelude.{◌≤◌, List, length, map, IfOk};
 ghost use Rattle.std.specs.List.{AllZip};
 ghost use Rattle.math_theory.specs.Interpolation.{AreApart};
 ghost use Rattle.math_base.specs.Polynomials.{value_in_ring};

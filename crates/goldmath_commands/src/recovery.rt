@@ -10,7 +10,6 @@ ghost use Rattle.math_codec.specs.Faults.{Agrees, IsMemory};
 ghost use Rattle.math_transforms.specs.Matrices.{MatrixOf};
 ghost use Rattle.goldmath_commands.specs.Numerals.{WritesNumber, WritesRow};
 ghost use Rattle.goldmath_commands.specs.Recoveries.{
-  most_cells,
   AreRecoverWords,
   EncodesRecovered,
   HasSize,

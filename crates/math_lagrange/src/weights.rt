@@ -23,9 +23,7 @@ ghost use Rattle.std.specs.Prelude.{
   ◌^◌,
   ℕ,
   List,
-  false,
   length,
-  slice_index_or,
   IfOk,
   All,
 };

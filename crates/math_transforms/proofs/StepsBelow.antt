@@ -1,5 +1,5 @@
 -- Rows below a place of a tree of square roots: values and multiples of all of them from a step of one or two levels and those of its parts.
-use Rattle.std.proofs.Common.{◌≡◌, ◌∙◌, inl, inr, ℕ, zero, suc, ◌+◌, ◌-◌, ◌*◌, ◌<◌, ◌≤◌, ◌^◌, Bool, true, false, not, if◌then◌else◌, List, ◌++◌, length, drop, refl, sym, ap, ap₂, subst, arith}
+use Rattle.std.proofs.Common.{◌≡◌, ◌∙◌, ℕ, zero, suc, ◌+◌, ◌-◌, ◌*◌, ◌<◌, ◌≤◌, ◌^◌, Bool, true, false, if◌then◌else◌, List, ◌++◌, length, drop, refl, sym, ap, ap₂, subst, arith}
 use Rattle.std.proofs.lemmas.List.{drop_all}
 use Rattle.std.proofs.lemmas.Nat.{mul-le, pow-add, pow_pos}
 use Rattle.math_theory.specs.Laws.{IsEquality, IsField, IsGroup, IsProduct, IsRing}
@@ -133,8 +133,14 @@ module _ {A : Type 0} (R : RingOf A) (E : IsEquality R.same) (G : IsGroup R.same
     turned-parts forward e f g old new h j l =
         let item = λ (k at : ℕ) (is : at ≡ k * s + j) (xs : List A). part-item s R.zero k j at xs is l in
         rw (
-          item 0 j (omega arith) old, item 1 (s + j) (omega arith) old, item 2 (2 * s + j) refl old, item 3 (3 * s + j) refl old,
-          item 0 j (omega arith) new, item 1 (s + j) (omega arith) new, item 2 (2 * s + j) refl new, item 3 (3 * s + j) refl new,
+          item 0 j (omega arith) old,
+          item 1 (s + j) (omega arith) old,
+          item 2 (2 * s + j) refl old,
+          item 3 (3 * s + j) refl old,
+          item 0 j (omega arith) new,
+          item 1 (s + j) (omega arith) new,
+          item 2 (2 * s + j) refl new,
+          item 3 (3 * s + j) refl new,
         ) (h.turned j l)
 
   module _ (lg place : ℕ) (square : 1 < lg → R.same (R.product turn turn) (R.negative R.one)) (one : 1 ≤ place) (within : 2 ^ lg * (place + 1) ≤ 2 * length roots) where
@@ -258,7 +264,7 @@ module _ {A : Type 0} (R : RingOf A) (E : IsEquality R.same) (G : IsGroup R.same
   turned-part forward lg place k to at level one within square old new l e h =
       let rows : 4 * cols ≡ 2 ^ lg * cols = sym (ap (λ i. 2 ^ i * cols) level) in
       let item = λ (n i : ℕ) (b : n + i < 4 * cols) (xs : List A).
-          part-item (4 * cols) R.zero k (n + i) (n + to i) xs (omega (arith, at i)) b in
+      part-item (4 * cols) R.zero k (n + i) (n + to i) xs (omega (arith, at i)) b in
       let first = λ (i : ℕ) (b : i < 4 * cols) (xs : List A). part-item (4 * cols) R.zero k i (to i) xs (at i) b in
       all-levels lg place square one within forward cols (omega (arith, level)) (omega (arith, level)) refl (part (4 * cols) k old) (part (4 * cols) k new)
       (part-length (4 * cols) k old l ∙ rows) (part-length (4 * cols) k new (omega (arith, l, e)) ∙ rows)
@@ -269,8 +275,14 @@ module _ {A : Type 0} (R : RingOf A) (E : IsEquality R.same) (G : IsGroup R.same
           turned = λ i b.
               let c = 4 * cols in
               rw (
-                first i (omega (arith, b)) old, item cols i (omega (arith, b)) old, item (2 * cols) i (omega (arith, b)) old, item (3 * cols) i (omega (arith, b)) old,
-                first i (omega (arith, b)) new, item cols i (omega (arith, b)) new, item (2 * cols) i (omega (arith, b)) new, item (3 * cols) i (omega (arith, b)) new,
+                first i (omega (arith, b)) old,
+                item cols i (omega (arith, b)) old,
+                item (2 * cols) i (omega (arith, b)) old,
+                item (3 * cols) i (omega (arith, b)) old,
+                first i (omega (arith, b)) new,
+                item cols i (omega (arith, b)) new,
+                item (2 * cols) i (omega (arith, b)) new,
+                item (3 * cols) i (omega (arith, b)) new,
               ) (h i b);
         };
       })

@@ -3,7 +3,7 @@
 //! By weights each element takes as many products as there are rows in hand. By transforms a column
 //! takes some products for each point and level of the domain, however many targets there are.
 
-ghost use Rattle.std.specs.Prelude.{◌≡◌, ◌+◌, ◌<◌, ◌≤◌, ◌^◌, ℕ, All, Contains, IfOk, length};
+ghost use Rattle.std.specs.Prelude.{◌≡◌, ◌+◌, ◌<◌, ◌≤◌, ◌^◌, All, Contains, IfOk, length};
 ghost use Rattle.math_transforms.specs.RootWeights.{AreRising};
 ghost use Rattle.row_interpolation.specs.Interpolations.{IsWayFor, height_of};
 ghost use Rattle.row_interpolation.specs.RowValues.{AreMade};

@@ -1,5 +1,5 @@
 -- Which file a root means.
-use Rattle.std.specs.Prelude.{◌≡◌, ℕ, List, [], Option, unwrap_or}
+use Rattle.std.specs.Prelude.{ℕ, List, [], Option, unwrap_or}
 use Rattle.sha2.specs.Sha512.{sha512_256}
 use Rattle.hash_trees.specs.Files.{file_root_over}
 use Rattle.hash_trees.specs.declared.files.FileNumbers.{FileNumbers}

@@ -1,6 +1,6 @@
 //! The records of blocks in rows, which version 3 has: the data as they are, and parity.
 
-ghost use Rattle.std.specs.Prelude.{◌≡◌, ◌*◌, ◌-◌, length, IfOk, OnOk};
+ghost use Rattle.std.specs.Prelude.{◌≡◌, ◌*◌, ◌-◌, length, IfOk};
 
 use crate::block_roots::BlockRoots;
 use hash_trees::Digest;

@@ -1,6 +1,6 @@
 //! Shard files that are being written.
 
-ghost use Rattle.std.specs.Prelude.{◌≡◌, ◌+◌, ◌*◌, ◌<◌, ◌≤◌, ◌^◌, All, length, IfOk, OnOk};
+ghost use Rattle.std.specs.Prelude.{◌≡◌, ◌+◌, ◌*◌, ◌<◌, ◌≤◌, All, length, IfOk, OnOk};
 
 use crate::cell_writer::CellWriter;
 use crate::pairs::{compare_pairs, write_pairs};

@@ -4,7 +4,6 @@ ghost use Rattle.std.specs.Prelude.{◌≡◌, ◌<◌, ◌≤◌, ◌^◌, ℕ,
 ghost use Rattle.std.specs.Int.{IsNextPowerOfTwo};
 ghost use Rattle.std.specs.Iterator.{IsFiniteIterable, Drains};
 ghost use Rattle.std.specs.Map.{keys_of, values_of};
-ghost use Rattle.math_theory.specs.Recovery.{filled_places};
 ghost use Rattle.math_transforms.specs.RootWeights.{AreTrueAt};
 
 use math_base::algebra::Mem;

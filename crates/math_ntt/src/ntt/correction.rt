@@ -47,7 +47,7 @@ ghost use Rattle.std.specs.Prelude.{
   slice_index_or,
 };
 ghost use Rattle.std.specs.List.{All, Contains, filter};
-ghost use Rattle.math_theory.specs.Recovery.{count_true, filled_places};
+ghost use Rattle.math_theory.specs.Recovery.{count_true};
 ghost use Rattle.math_transforms.specs.DomainValues.{HasDomain};
 ghost use Rattle.math_transforms.specs.Matrices.{cell_of};
 ghost use Rattle.math_ntt.specs.AddedWork.{AddsOneRecovery, AddsRecoveries, AddsUpTo, HasRoom};

@@ -6,7 +6,6 @@ ghost use Rattle.std.specs.Prelude.{
   ◌+◌,
   ◌*◌,
   ◌<◌,
-  ◌≤◌,
   ◌^◌,
   List,
   Some,
@@ -58,7 +57,6 @@ pub struct Matrix<F: Drop> {
 /// A matrix is its numbers of rows and of columns and the list of its cells, row by row.
 impl<F: Drop> Model for Matrix<F> {
     ghost use Rattle.std.specs.Prelude.{◌≡◌, ◌*◌, length};
-    ghost use Rattle.math_codec.specs.Iterables.{ItemsMeet};
     ghost use Rattle.math_transforms.specs.Matrices.{MatrixOf};
 
     ghost Value = { MatrixOf F };
@@ -320,7 +318,6 @@ pub struct Rows<'a, F: Drop> {
 /// The rows that are left.
 impl<'a, F: Drop> Model for Rows<'a, F> {
     ghost use Rattle.std.specs.Prelude.{◌≡◌, ◌*◌, List, length};
-    ghost use Rattle.math_codec.specs.Iterables.{ItemsMeet};
     ghost use Rattle.math_transforms.specs.Matrices.{pieces};
 
     ghost Value = { List (List F) };

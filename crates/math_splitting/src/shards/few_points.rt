@@ -3,7 +3,7 @@
 //! The value of a column at a point is the sum of its coefficients, each times a power of the
 //! point. For few points that is less work than a transform, which gives the values at all points.
 
-ghost use Rattle.std.specs.Prelude.{◌≡◌, ◌+◌, ◌*◌, ◌<◌, ◌≤◌, ◌^◌, ℕ, OnErr, OnOk, length};
+ghost use Rattle.std.specs.Prelude.{◌≡◌, ◌+◌, ◌*◌, ◌<◌, ◌≤◌, ℕ, OnErr, OnOk, length};
 ghost use Rattle.math_theory.specs.Powers.{power};
 ghost use Rattle.math_fields.specs.Elements.{residue, product, root_of};
 ghost use Rattle.math_transforms.specs.DomainValues.{matrix_of};

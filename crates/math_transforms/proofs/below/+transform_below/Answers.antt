@@ -145,8 +145,7 @@ transform_below-requires g t c κs within' =
     let size : length (take (from + s - from) (drop from c.loop-k.cells)) ≡ s = slice-size from s c.loop-k.cells within in
     let F = g.met.F in
     let R = ring_members g.F.Multiplicative.product g.F.Debug.debug_output g.F.Object.same g.F.Object.NEVER_REFUSES g.F.Additive.zero g.F.Additive.sum g.F.Additive.negative g.F.Ring.one in
-    let q = part-points R F.Object.equality F.Additive.group F.Multiplicative.commutes F.Ring.ring F.Field.field F.FieldNTT.roots (not (eqb g.row.FORWARD 0)) p c.requires.points c.args.cols c.levels_of-levels.result c.size_of-parts.result c.loop-k.k w.deep c.size_of-parts.ensures c.loop-k-test.true in
-    (
+    let q = part-points R F.Object.equality F.Additive.group F.Multiplicative.commutes F.Ring.ring F.Field.field F.FieldNTT.roots (not (eqb g.row.FORWARD 0)) p c.requires.points c.args.cols c.levels_of-levels.result c.size_of-parts.result c.loop-k.k w.deep c.size_of-parts.ensures c.loop-k-test.true in (
       omega (arith, c.levels_of-levels.ensures.some, c.if-points-le2.false, c.decreases),
       (
         search rules,

@@ -1,4 +1,4 @@
-use Rattle.std.proofs.Common.{◌≡◌, ◌+◌, ◌-◌, ◌*◌, ◌<◌, ◌≤◌, ◌^◌, length, refl, ap, pow_pos, rules, arith}
+use Rattle.std.proofs.Common.{◌≡◌, ◌-◌, ◌*◌, ◌<◌, ◌≤◌, ◌^◌, length, refl, ap, pow_pos, rules, arith}
 use Rattle.std.proofs.lemmas.Nat.{mul-le}
 use Rattle.math_transforms.proofs.StepsBelow.{step-at}
 use Rattle.math_transforms.proofs.below.step.Goals as goal

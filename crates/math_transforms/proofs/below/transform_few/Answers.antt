@@ -1,4 +1,4 @@
-use Rattle.std.proofs.Common.{◌≡◌, ◌+◌, ◌*◌, ◌<◌, ◌≤◌, ◌^◌, length, not, eqb, refl, rules, arith}
+use Rattle.std.proofs.Common.{◌*◌, length, not, eqb, refl, arith}
 use Rattle.math_base.proofs.Members.{ring_members}
 use Rattle.math_transforms.proofs.BelowSteps.{all-steps, no-steps, some-level}
 use Rattle.math_transforms.proofs.Levels.{adds-exactly, adds-twice}

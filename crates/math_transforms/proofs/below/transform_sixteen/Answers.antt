@@ -1,7 +1,7 @@
-use Rattle.std.proofs.Common.{◌≡◌, ◌∙◌, ◌+◌, ◌*◌, ◌<◌, ◌≤◌, ◌^◌, length, not, eqb, ap, rules, arith}
+use Rattle.std.proofs.Common.{◌≡◌, ◌∙◌, ◌+◌, ◌*◌, ◌^◌, length, not, eqb, ap, arith}
 use Rattle.math_base.proofs.Members.{ring_members}
 use Rattle.math_transforms.proofs.BelowSteps.{all-steps}
-use Rattle.math_transforms.proofs.StepsBelow.{sixteen-done, step-at}
+use Rattle.math_transforms.proofs.StepsBelow.{sixteen-done}
 use Rattle.math_transforms.proofs.below.transform_sixteen.Goals as goal
 
 pub turn_sixteen_rows-done-requires-clause-order : goal.turn_sixteen_rows-done-requires-clause-order

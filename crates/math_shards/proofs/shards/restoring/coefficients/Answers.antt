@@ -1,5 +1,4 @@
 use Rattle.std.proofs.Common.{◌≡◌, ◌∙◌, ◌*◌, ◌<◌, ℕ, List, length, map, sym, ap, subst, arith}
-use Rattle.std.specs.List.{All}
 use Rattle.math_fields.specs.declared.goldilocks.F.{F}
 use Rattle.math_shards.specs.Fitting.{AreCoefficientsOf}
 use Rattle.math_restoring.specs.Restored.{HaveCellsAsValues}

@@ -1,4 +1,4 @@
-use Rattle.std.proofs.Common.{◌+◌, ◌*◌, not, eqb, arith}
+use Rattle.std.proofs.Common.{not, eqb, arith}
 use Rattle.std.proofs.lemmas.List.{get_or_default}
 use Rattle.math_base.proofs.Members.{ring_members}
 use Rattle.math_transforms.proofs.TurnedCells.{turned-of}

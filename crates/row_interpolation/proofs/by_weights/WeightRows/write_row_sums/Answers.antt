@@ -1,4 +1,4 @@
-use Rattle.std.proofs.Common.{◌≡◌, ◌∙◌, ℕ, ◌+◌, ◌-◌, ◌*◌, ◌<◌, ◌≤◌, List, length, get_or, sym, ap, arith}
+use Rattle.std.proofs.Common.{◌≡◌, ◌∙◌, ℕ, ◌+◌, ◌-◌, ◌*◌, ◌≤◌, List, length, get_or, sym, ap, arith}
 use Rattle.std.proofs.lemmas.Nat.{row_fits}
 use Rattle.math_theory.specs.Sums.{weighted_sum}
 use Rattle.math_fields.specs.declared.goldilocks.F.{F}
