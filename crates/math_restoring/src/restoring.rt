@@ -34,8 +34,7 @@ fn points_of(alloc: Global, indices: &[u32], lg: u8) -> Mem<VanishingPoints>
     requires small { lg < 64 }
     requires below { All (λ i. i < 2 ^ lg) indices.now }
     requires distinct { AreDistinct indices.now }
-    ensures size { IfOk result (λ points. length points ≡ 2 ^ lg) }
-    ensures filled { IfOk result (λ points. AreFilled indices.now points) }
+    ensures filled { IfOk result (λ p. (length p ≡ 2 ^ lg) × AreFilled indices.now p) }
     ensures count { IfOk result (λ points. count_true points ≡ length indices.now) }
 {
     let mut points = VanishingPoints::new(alloc, lg as u32)?;

@@ -11,6 +11,6 @@ invariant_of-result c =
       below = rw (same_indices, D.sizes.0) c.requires.below;
       distinct = rw same_indices c.requires.distinct;
       are_places = rw (same_indices, D.sizes.0) c.in_ok-places.ensures;
-      filled = rw (same_indices, D.points) c.in_ok-points.ensures.filled;
+      filled = rw (same_indices, D.points) c.in_ok-points.ensures.filled.1;
       count = rw (same_indices, D.points) c.in_ok-points.ensures.count;
     }
