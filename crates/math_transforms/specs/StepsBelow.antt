@@ -18,11 +18,12 @@ module _ {A : Type 0} (R : RingOf A) where
   abbrev pub AreStepped : Bool → ℕ → Points A → ℕ → List A → List A → Type 0
   AreStepped forward levels points c old new = AreSteppedBelow forward levels points.roots.now points.place (2 ^ (points.lg - levels) * c) old new
 
-  -- forward the new cells are values of the old columns, and on the way back the new columns have multiples of the old cells as their values
+  -- forward the new cells are the values of the old columns at the 2^lg points below a place, and on the way back the new columns have
+  -- 2^lg times the old cells as their values at the inverses of these points
   abbrev pub AreTransformedBelow : Bool → List A → ℕ → ℕ → ℕ → List A → List A → Type 0
   AreTransformedBelow true roots lg place c old new = AreValuesBelow R roots lg place c old new
   AreTransformedBelow false roots lg place c old new = AreMultiplesBelow R roots lg place c old new
 
-  -- at the given points, or at the inverses of these
+  -- and so for the given points
   abbrev pub AreTransformed : Bool → Points A → ℕ → List A → List A → Type 0
   AreTransformed forward points c old new = AreTransformedBelow forward points.roots.now points.lg points.place c old new

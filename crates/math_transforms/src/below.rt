@@ -133,8 +133,7 @@ fn combine_rows_at<F: FieldNTT, const FORWARD: bool>(
     Ok(())
 }
 
-/// How many levels are taken first, where there are so many: of thirty-two rows one, and of others
-/// two.
+/// How many of three levels or more one step takes: of thirty-two rows one, and of others two.
 fn levels_of(lg: u8) -> u8
     requires three { 3 ≤ lg }
     ensures some { 1 ≤ result }
@@ -157,8 +156,8 @@ fn levels_before<const FORWARD: bool>(levels: u8) -> u8
     0
 }
 
-/// Counts no level, one or two of 2^lg rows of `cols` cells, and takes them: two parts of the rows
-/// are combined, or four are turned.
+/// Counts so many levels, none, one or two, of 2^lg rows of `cols` cells, and takes them: two parts
+/// of the rows are combined, or four are turned.
 fn step<F: FieldNTT, const FORWARD: bool>(
     alloc: Global,
     rows: &mut [F],
@@ -257,8 +256,8 @@ fn transform_sixteen<F: FieldNTT, const FORWARD: bool>(
 /// Writes over 2^lg rows of coefficients the values at the points, or, on the way back, over rows
 /// of values 2^lg times the coefficients.
 ///
-/// The parts of four rows at most are done without a call of itself. Otherwise most calls for one
-/// column would be for four cells.
+/// A part of four rows at most is done without a call of itself. Otherwise most calls for one column
+/// would be for four cells.
 fn transform_below<F: FieldNTT, const FORWARD: bool>(
     alloc: Global,
     cells: &mut [F],
