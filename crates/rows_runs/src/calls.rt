@@ -14,7 +14,7 @@ use rows_base::answer::Answer;
 use rows_base::fault::Fault;
 use rows_base::{algebra, goldilocks, maps};
 use rows_ntt::{bitmaps, correction, matrices, recovery, transforms, vectors};
-use rows_poly::{decoding, encodings, groups, hostile, polynomials, sampling, texts};
+use rows_poly::{decoding, encodings, groups, hostile, polynomials, sampling, shards, texts};
 use rows_secrets::{byte_shares, commitments, element_shares, lines};
 use std::alloc::Global;
 
@@ -32,7 +32,7 @@ fn of_words(alloc: Global, row: Row<'_>, text: &mut String) -> Result<bool, Faul
             || texts::run(alloc, call, arguments, text)?
             || maps::run(alloc, call, arguments, text)?
             || bitmaps::run(alloc, call, arguments, text)?
-            || rows_shards::run(alloc, call, arguments, text)?
+            || shards::run(alloc, call, arguments, text)?
             || lines::run(alloc, call, arguments, text)?
             || byte_shares::run(alloc, call, arguments, text)?
             || breaches::run(alloc, call, arguments, text)?,

@@ -1,5 +1,4 @@
-//! The calls of shards that rows name.
-#![tactic(auto)]
+//! Shards of words.
 
 use math_base::algebra::Mem;
 use math_codec::codec::{self, EncodeSize, Read, Write};
