@@ -1,15 +1,16 @@
 //! Roots of blocks in systematic shards: 32 bytes that bind a block.
 
-ghost use Rattle.std.specs.Prelude.{◌≡◌, ◌↔◌, ◌≤◌, ◌<◌, ◌+◌, ◌-◌, ◌*◌, length};
+ghost use Rattle.std.specs.Prelude.{◌≡◌, ◌↔◌, ◌≤◌, ◌<◌, ◌+◌, ◌-◌, ◌*◌, ◌^◌, length};
 ghost use Rattle.std.specs.Prelude.{take, drop};
 ghost use Rattle.std.specs.Prelude.{IsTrue, IfOk, IfErr, IfSome, IfNone, OnOk, OnErr};
 ghost use Rattle.sha2.specs.Sha512.{sha512_256};
 ghost use Rattle.hash_trees.specs.Trees.{is_alone, path};
 ghost use Rattle.systematic_shards.specs.declared.split.Split.{Split};
 ghost use Rattle.shard_roots.specs.Commitments.{IsRootOfBlock};
-ghost use Rattle.shard_roots.specs.Joining.{IsCommitDue, IsShardUnder};
+ghost use Rattle.shard_roots.specs.Joining.{AreJoined, IsCommitDue, IsShardUnder, IsStrictDue};
 ghost use Rattle.shard_roots.specs.declared.Error.TheVariants.{Root};
 ghost use Rattle.shard_roots.specs.declared.shards.Shard.{Shard};
+ghost use Rattle.systematic_shards.specs.Correcting.{ArePositionsWithout};
 ghost use Rattle.c_calls.specs.RootedShards.{AreCommitted, AreGiven, ArePlaces};
 ghost use Rattle.c_calls.specs.RootedShards.{AreShardsOf, HaveShardsFor, IsAnswer};
 ghost use Rattle.c_calls.specs.RootedShards.{IsCommitDueTo, IsMemoryOrStrictDue, TellsNoSizes};
@@ -235,11 +236,36 @@ fn shards_of<'a>(alloc: Global, held: &ShardsWithPaths<'a>) -> Mem<Vec<Shard<'a>
     Ok(shards)
 }
 
+/// Joins the shards as `join_committed` does, or where it is not to be strict as `join_under` does.
+fn join(
+    alloc: Global,
+    top: &Digest,
+    split: Split,
+    shards: &[Shard<'_>],
+    strict: bool,
+    block: &mut [u8],
+) -> Result<Vec<usize>, Error>
+    requires { length block.old ≡ split.size }
+    ensures ok { OnOk result (AreJoined sha512_256 split top.now shards.now block.new) }
+    ensures root { OnOk result (IsTrue strict → IsRootOfBlock sha512_256 split block.new top.now) }
+    ensures left_out { IfOk result (λ positions. ArePositionsWithout
+        (IsShardUnder sha512_256 split top.now) shards.now positions.items) }
+    ensures few { OnOk result (split.total ≤ 2 ^ 16) }
+    ensures due { IfErr result (IsStrictDue sha512_256 split top.now shards.now) }
+    ensures strictly { IfErr result (λ e. e ≡ Root → IsTrue strict) }
+    ensures err { OnErr result (block.new ≡ block.old) }
+{
+    if strict {
+        join_committed(alloc, top, split, shards, block)
+    } else {
+        join_under(alloc, top, split, shards, block)
+    }
+}
+
 /// Writes the block of the shards in hand that are under the root, and the positions of the others
 /// over the first items of `left_out`, and gives their number.
 ///
-/// Where it is strict it joins them as `join_committed` does, and else as `join_under` does. It
-/// refuses as that does.
+/// It refuses as `join_under` does, or as `join_committed` does.
 pub fn write_joined(
     alloc: Global,
     top: &Digest,
@@ -259,11 +285,7 @@ pub fn write_joined(
     ensures err { OnErr result ((block.new ≡ block.old) × (left_out.new ≡ left_out.old)) }
 {
     let shards = shards_of(alloc, held)?;
-    let found = if strict {
-        join_committed(alloc, top, held.split, &shards, block)?
-    } else {
-        join_under(alloc, top, held.split, &shards, block)?
-    };
+    let found = join(alloc, top, held.split, &shards, strict, block)?;
     let many = found.len();
     left_out[..many].copy_from_slice(&found);
     Ok(many)
