@@ -1,6 +1,5 @@
 -- What is recovered from the rows that are kept.
 use Rattle.std.proofs.Common.{◌≡◌, ◌∙◌, ℕ, ◌<◌, ◌≤◌, ◌^◌, List, Bool, length, sym, ap, subst}
-use Rattle.math_theory.specs.Coefficients.{coefficient}
 use Rattle.math_theory.specs.Laws.{IsEquality}
 use Rattle.math_theory.specs.Powers.{power}
 use Rattle.math_theory.specs.Recovery.{count_true}
@@ -9,7 +8,7 @@ use Rattle.math_base.specs.Polynomials.{value_in_ring}
 use Rattle.math_transforms.specs.DomainValues.{AreValuesOnDomain}
 use Rattle.math_transforms.specs.Matrices.{MatrixOf, IsOfSize, cell_of, column_of}
 use Rattle.math_ntt.specs.Evaluations.{EvaluationsOf}
-use Rattle.math_ntt.specs.PolynomialRows.{HaveSamePolynomials}
+use Rattle.math_ntt.specs.PolynomialRows.{HaveFewCoefficients, HaveSamePolynomials}
 use Rattle.math_ntt.specs.RecoveredRows.{AreRecovered}
 use Rattle.math_ntt.specs.RecoveredValues.{RecoversFromSome}
 
@@ -17,8 +16,7 @@ use Rattle.math_ntt.specs.RecoveredValues.{RecoversFromSome}
 pub kept_rows : {A : Type 0} (R : RingOf A) (root : ℕ → A) (greatest : ℕ) → RecoversFromSome R root greatest → IsEquality R.same
     → (lg : ℕ) (m v values : MatrixOf A) (kept : List Bool) (left : EvaluationsOf A) → lg ≤ greatest → m.rows ≡ 2 ^ lg → length kept ≡ m.rows
     → IsOfSize values m.rows m.cols → AreValuesOnDomain R root m values → left.matrix ≡ values → left.filled ≡ kept
-    → ((k i : ℕ) → k < m.cols → count_true kept ≤ i → R.same (coefficient R.zero (column_of R.zero m k) i) R.zero)
-    → AreRecovered R root left v → HaveSamePolynomials R.same R.zero v m
+    → HaveFewCoefficients R.same R.zero (count_true kept) m → AreRecovered R root left v → HaveSamePolynomials R.same R.zero v m
 kept_rows R root greatest some E lg m v values kept left few rows count size V same_cells same_rows zeros recovered =
     some lg few m v left
     (record {

@@ -1,11 +1,9 @@
 //! Lost rows.
 
 ghost use Rattle.std.specs.Prelude.{◌≡◌, ◌<◌, ◌≤◌, ℕ, IfOk, length};
-ghost use Rattle.math_theory.specs.Coefficients.{coefficient};
 ghost use Rattle.math_theory.specs.Recovery.{count_true};
 ghost use Rattle.math_transforms.specs.DomainValues.{HasDomain};
-ghost use Rattle.math_transforms.specs.Matrices.{column_of};
-ghost use Rattle.math_ntt.specs.PolynomialRows.{HaveSamePolynomials};
+ghost use Rattle.math_ntt.specs.PolynomialRows.{HaveFewCoefficients, HaveSamePolynomials};
 
 use commonware_math::algebra::{FieldNTT, Mem};
 use commonware_math::ntt::{EvaluationVector, PolynomialVector, VanishingPoints};
@@ -25,8 +23,7 @@ pub fn recovered<F: FieldNTT>(
     requires domain { HasDomain F.MAX_LG_ROOT_ORDER polynomials.rows }
     requires count { length kept ≡ polynomials.rows }
     ensures { IfOk result (λ answer.
-        ((k i : ℕ) → k < polynomials.cols → count_true kept ≤ i
-        → F.same (coefficient F.zero (column_of F.zero polynomials k) i) F.zero)
+        HaveFewCoefficients F.same F.zero (count_true kept) polynomials
         → HaveSamePolynomials F.same F.zero answer polynomials) }
 {
     let values = polynomials.evaluate(alloc)?;

@@ -1,13 +1,12 @@
 -- Values from which the polynomials that have them are recovered.
 use Rattle.std.specs.Prelude.{◌≡◌, ℕ, ◌<◌, ◌≤◌, ◌^◌, length, replicate, slice_index_or, false, true}
-use Rattle.math_theory.specs.Coefficients.{coefficient}
 use Rattle.math_theory.specs.Powers.{power}
 use Rattle.math_theory.specs.Recovery.{count_true}
 use Rattle.math_base.specs.Members.{RingOf}
 use Rattle.math_base.specs.Polynomials.{value_in_ring}
 use Rattle.math_ntt.specs.Evaluations.{EvaluationsOf}
 use Rattle.math_transforms.specs.Matrices.{MatrixOf, column_of, cell_of}
-use Rattle.math_ntt.specs.PolynomialRows.{HaveSamePolynomials}
+use Rattle.math_ntt.specs.PolynomialRows.{HaveFewCoefficients, HaveSamePolynomials}
 use Rattle.math_ntt.specs.RecoveredRows.{AreRecovered}
 
 -- both have 2^lg rows and as many columns, and the filled cells of e are the values of the columns of m at the powers of root lg
@@ -23,8 +22,7 @@ pub record HoldsValues {A : Type 0} (R : RingOf A) (root : ℕ → A) (lg : ℕ)
 abbrev pub RecoversFromSome : {A : Type 0} → RingOf A → (ℕ → A) → ℕ → Type 0
 RecoversFromSome {A} R root greatest =
     (lg : ℕ) → lg ≤ greatest → (m v : MatrixOf A) → (e : EvaluationsOf A) → HoldsValues R root lg m e
-    → ((k i : ℕ) → k < m.cols → count_true e.filled ≤ i → R.same (coefficient R.zero (column_of R.zero m k) i) R.zero)
-    → AreRecovered R root e v → HaveSamePolynomials R.same R.zero v m
+    → HaveFewCoefficients R.same R.zero (count_true e.filled) m → AreRecovered R root e v → HaveSamePolynomials R.same R.zero v m
 
 -- the polynomials are recovered from all values
 abbrev pub RecoversFromAll : {A : Type 0} → RingOf A → (ℕ → A) → ℕ → Type 0

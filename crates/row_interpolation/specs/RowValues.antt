@@ -8,6 +8,10 @@ use Rattle.math_fields.specs.declared.goldilocks.F.{F}
 use Rattle.math_fields.specs.Elements.{residue, same, sum, product, root_of}
 use Rattle.math_restoring.specs.Restored.{item}
 
+-- columns `from` to `from + cols`: a strip holds them, and their places are counted
+abbrev pub AreStripColumns : ℕ → ℕ → Type 0
+AreStripColumns from cols = (cols ≤ 64) × (from + cols ≤ 2 ^ 61)
+
 -- the value of a polynomial at power i of the root of order 2^lg
 abbrev pub value_at_index : ℕ → List F → ℕ → F
 value_at_index lg coefficients i = value (residue 0) sum product (residue 1) (power (residue 1) product (root_of lg) i) coefficients

@@ -13,6 +13,7 @@ ghost use Rattle.math_transforms.specs.RootTrees.{IsTreeOf};
 ghost use Rattle.math_restoring.specs.Restored.{item};
 ghost use Rattle.math_restoring.specs.Restorers.{ArePlacedBy, indices_of, lg_of, part_of};
 ghost use Rattle.math_transforms.specs.RootWeights.{AreRising};
+ghost use Rattle.row_interpolation.specs.RowValues.{AreStripColumns};
 
 use crate::points::lg_above;
 use crate::rows::ElementRows;
@@ -27,8 +28,7 @@ use std::alloc::Global;
 /// Writes over the cells the elements of row t, from column `from` on, times the factor.
 fn write_products<R: ElementRows>(rows: &R, t: usize, from: usize, factor: F, cells: &mut [F])
     requires there { t < R.count rows.now }
-    requires few { length cells.old ≤ 64 }
-    requires place { from + length cells.old ≤ 2 ^ 61 }
+    requires columns { AreStripColumns from (length cells.old) }
     ensures { (k : ℕ) → k < length cells.old
         → same (item cells.new k) (product (R.element rows.now t (from + k)) factor) }
 {
@@ -104,8 +104,7 @@ impl Transforms {
     /// `from` on, times the factor of its place, over the row at its place.
     fn place_rows<R: ElementRows>(&self, rows: &R, from: usize, cols: usize, strip: &mut [F])
         requires rows { self.now.count ≤ R.count rows.now }
-        requires few { cols ≤ 64 }
-        requires place { from + cols ≤ 2 ^ 61 }
+        requires columns { AreStripColumns from cols }
         requires strip { length strip.old ≡ 2 ^ self.now.lg * cols }
         ensures { ArePlacedBy self.now.restorer cols (λ t k. R.element rows.now t (from + k))
             strip.new }
@@ -128,8 +127,7 @@ impl Transforms {
         strip: &mut [F],
     )
         requires rows { self.now.count ≤ R.count rows.now }
-        requires few { cols ≤ 64 }
-        requires place { from + cols ≤ 2 ^ 61 }
+        requires columns { AreStripColumns from cols }
         requires strip { length strip.old ≡ 2 ^ self.now.lg * cols }
         ensures { AreValuesThrough (R.element rows.now) self.now from cols strip.new }
     {

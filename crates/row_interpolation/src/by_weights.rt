@@ -8,6 +8,7 @@ ghost use Rattle.std.specs.Prelude.{◌≡◌, ◌+◌, ◌*◌, ◌%◌, ◌<�
 ghost use Rattle.math_theory.specs.Sums.{weighted_sum};
 ghost use Rattle.math_fields.specs.Elements.{product, residue, sum};
 ghost use Rattle.math_restoring.specs.Restored.{item};
+ghost use Rattle.row_interpolation.specs.RowValues.{AreStripColumns};
 ghost use Rattle.row_interpolation.specs.Sums.{AreGathered, AreRead};
 ghost use Rattle.row_interpolation.specs.Weights.{AreWanted, part_of};
 
@@ -44,8 +45,7 @@ pub(crate) fn gather_columns<R: ElementRows>(
     columns: &mut [F],
 )
     requires count { count ≤ R.count rows.now }
-    requires few { cols ≤ 64 }
-    requires place { from + cols ≤ 2 ^ 61 }
+    requires columns { AreStripColumns from cols }
     requires room { count * cols ≤ length columns.old }
     ensures { AreGathered (R.element rows.now) count from cols count columns.new }
 {
@@ -63,8 +63,7 @@ pub(crate) fn read_rows<R: ElementRows>(
     strip: &mut [F],
 )
     requires count { count ≤ R.count rows.now }
-    requires few { cols ≤ 64 }
-    requires place { from + cols ≤ 2 ^ 61 }
+    requires columns { AreStripColumns from cols }
     requires room { count * cols ≤ length strip.old }
     ensures { AreRead (R.element rows.now) from cols count strip.new }
 {
@@ -171,8 +170,7 @@ impl WeightRows {
         out: &mut [F],
     )
         requires rows { self.now.count ≤ R.count rows.now }
-        requires few { cols ≤ 64 }
-        requires place { from + cols ≤ 2 ^ 61 }
+        requires columns { AreStripColumns from cols }
         requires rest { self.now.count * cols ≤ length rest.old }
         requires room { length out.old ≡ self.now.targets * cols }
         ensures { (total : ℕ) (indices targets : List ℕ) → AreRowsFor total indices targets self.now
