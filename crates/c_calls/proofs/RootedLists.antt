@@ -1,7 +1,7 @@
 -- Lists of paths and of shards, as they grow.
 use Rattle.std.proofs.Common.{◌≡◌, ◌≢◌, ◌⊎◌, ◌∙◌, inl, inr, ℕ, ◌+◌, ◌-◌, ◌*◌, ◌<◌, ◌≤◌, List, [], ◌∷◌, ◌++◌, length, replicate, take, drop, get_or, refl, ap, ap₂, sym, subst, arith, length-drop, length-take}
 use Rattle.std.proofs.lemmas.Bool.{cases_lt}
-use Rattle.std.proofs.lemmas.List.{get_or-append_right, get_or-map, get_or_append_left, length-append, length-map, length-replicate, length_push, take-append-le, take_all, drop-append-le}
+use Rattle.std.proofs.lemmas.List.{get_or-map, length-append, length-map, length-replicate, take-append-le, take_all, drop-append-le}
 use Rattle.std.proofs.Math.Seq.{drop-append_seam}
 use Rattle.std.proofs.lemmas.Nat.{mul-le}
 use Rattle.sha2.specs.Sha512.{sha512_256}
@@ -18,7 +18,7 @@ use Rattle.shard_roots.specs.declared.shards.Shard.{Shard}
 use Rattle.shard_roots.specs.Joining.{AreThoseUnder, IsJoinDue, IsStrictDue, row_of_shard, rows_of}
 use Rattle.c_calls.specs.Statuses.{done, inconsistent, mismatch, out_of_memory, status_of_roots, status_of_rows, too_many, wrong_root, wrong_size}
 use Rattle.c_calls.specs.declared.roots.in_hand.ShardsWithPaths.{ShardsWithPaths}
-use Rattle.c_calls.specs.RootedShards.{AreGiven, ArePlaces, AreShardsIn, AreShardsOf, HoldsOfShards, IsJoiningDue, IsMemory, IsMemoryOrStrictDue, IsStatusUnder, no_digest, path_size, place_of}
+use Rattle.c_calls.specs.RootedShards.{AreGiven, ArePlaces, AreShardsIn, AreShardsOf, HoldsOfShards, IsJoiningDue, IsMemory, IsMemoryOrStrictDue, IsStatusUnder, no_digest, place_of}
 
 -- a place has its digests
 pub length-place : (room : ℕ) (others : List (List ℕ)) → length others ≤ room → length (place_of room others) ≡ room
@@ -59,39 +59,6 @@ resized-place room n others digests place new count is few size made h =
     let long : count ≡ length (others n) = size ∙ ap length is in
     let all : new ≡ place_of room (others n) = made ∙ ap₂ (λ (xs : List (List ℕ)) (k : ℕ). xs ++ replicate (room - k) no_digest) whole long in
     rw all (places-more room n others digests few h)
-
--- one shard more
-pub shards-more : (row total : ℕ) (indices masks bytes : List ℕ) (paths : List (List ℕ)) (n : ℕ) (shards : List Shard) (next : Shard)
-    → next.index ≡ get_or indices n 0 → next.mask ≡ get_or masks n 0 → next.cells.now ≡ take row (drop (n * row) bytes)
-    → (get_or indices n 0 < total → next.path.now ≡ take (path_size total (get_or indices n 0)) (drop (n * path_size total 0) paths))
-    → AreShardsIn row total indices masks bytes paths n shards → AreShardsIn row total indices masks bytes paths (n + 1) (shards ++ next ∷ [])
-shards-more row total indices masks bytes paths n shards next index mask cells path h =
-    let old = λ (t : ℕ) (d : Shard) (l : t < n). get_or_append_left shards (next ∷ []) d t (omega (arith, l, h.count)) in
-    let end = λ (t : ℕ) (d : Shard) (e : n ≡ t).
-    get_or-append_right shards (next ∷ []) n t d h.count (omega (arith, e)) ∙ ap (λ i. get_or (next ∷ []) i d) (let z : t - n ≡ 0 = omega (arith, e) in z) in
-    record {
-      count = omega (arith, length_push shards next, h.count);
-      index = λ t d l. elim (cases_lt t n) as (λ _. (get_or (shards ++ next ∷ []) t d).index ≡ get_or indices t 0) [
-        | inl before ↦ ap (λ r. r.index) (old t d before) ∙ h.index t d before
-        | inr after ↦ let e : n ≡ t = omega (arith, after, l) in ap (λ r. r.index) (end t d e) ∙ index ∙ ap (λ i. get_or indices i 0) e
-      ];
-      mask = λ t d l. elim (cases_lt t n) as (λ _. (get_or (shards ++ next ∷ []) t d).mask ≡ get_or masks t 0) [
-        | inl before ↦ ap (λ r. r.mask) (old t d before) ∙ h.mask t d before
-        | inr after ↦ let e : n ≡ t = omega (arith, after, l) in ap (λ r. r.mask) (end t d e) ∙ mask ∙ ap (λ i. get_or masks i 0) e
-      ];
-      cells = λ t d l. elim (cases_lt t n) as (λ _. (get_or (shards ++ next ∷ []) t d).cells.now ≡ take row (drop (t * row) bytes)) [
-        | inl before ↦ ap (λ r. r.cells.now) (old t d before) ∙ h.cells t d before
-        | inr after ↦ let e : n ≡ t = omega (arith, after, l) in ap (λ r. r.cells.now) (end t d e) ∙ cells ∙ ap (λ i. take row (drop (i * row) bytes)) e
-      ];
-      path = λ t d l b. elim (cases_lt t n) as (λ _. (get_or (shards ++ next ∷ []) t d).path.now ≡ take (path_size total (get_or indices t 0)) (drop (t * path_size total 0) paths)) [
-        | inl before ↦ ap (λ r. r.path.now) (old t d before) ∙ h.path t d before b
-        | inr after ↦
-            let e : n ≡ t = omega (arith, after, l) in
-            ap (λ r. r.path.now) (end t d e)
-            ∙ path (subst (λ (i : ℕ). get_or indices i 0 < total) (sym e) b)
-            ∙ ap (λ (i : ℕ). take (path_size total (get_or indices i 0)) (drop (i * path_size total 0) paths)) e
-      ];
-    }
 
 -- a shard in hand has as many bytes as a row of the split
 pub shard-length : (held : ShardsWithPaths) (shards : List Shard) → AreShardsOf held shards → (t : ℕ) (d : Shard) → t < length shards

@@ -22,7 +22,7 @@ use Rattle.math_shards.proofs.JoinedCorrection.{joined_corrected}
 use Rattle.math_shards.proofs.OnlyData.{only_data}
 use Rattle.math_splitting.proofs.SpelledWords.{bytes-spelled, spelled-words}
 use Rattle.shard_blocks.specs.BlockWords.{words_of_bytes}
-use Rattle.shard_blocks.specs.Blocks.{AreRowsRefused, DoRowsJoinTo, JoinToBlock}
+use Rattle.shard_blocks.specs.Blocks.{JoinToBlock}
 use Rattle.shard_blocks.specs.Correcting.{CorrectToBlock, IsBlockDueCorrecting}
 use Rattle.shard_blocks.proofs.BlockErrors.{block_beside, block_of_some, block_once}
 use Rattle.c_calls.specs.ShardBytes.{AreBlockRefused, AreBlockRefusedCorrecting, AreByteRowsOf, DoCorrectToBlock, DoJoinToBlock, HaveShardBytes, SpellElements, word_bytes}
@@ -133,15 +133,6 @@ only_memory_block block min total indices bytes e h (inr (cells, is, shards, are
 
 -- Rows of bytes that are the words that they spell.
 module _ (min total : ℕ) (indices bytes : List ℕ) (spelled : bytes ≡ word_bytes (spelled_words bytes)) where
-  -- what their words join to, the bytes join to
-  pub join_of_rows : (block : List ℕ) → DoRowsJoinTo block min total indices (spelled_words bytes) → DoJoinToBlock block min total indices bytes
-  join_of_rows block (shards, are, join) = (spelled_words bytes, spelled, shards, are, join)
-
-  -- what is wrong with their words is wrong with them
-  pub refused_of_rows : (e : Error) → IsMemory e ⊎ AreRowsRefused e min total indices (spelled_words bytes) → IsMemory e ⊎ AreBlockRefused e min total indices bytes
-  refused_of_rows e (inl memory) = inl memory
-  refused_of_rows e (inr (shards, are, due)) = inr (spelled_words bytes, spelled, shards, are, due)
-
   pub refused_of_corrected : (shards : List Shard) (e : Error) → AreWordShards min total indices (spelled_words bytes) shards → IsMemory e ⊎ IsBlockDueCorrecting shards e
       → IsMemory e ⊎ AreBlockRefusedCorrecting e min total indices bytes
   refused_of_corrected shards e are (inl memory) = inl memory

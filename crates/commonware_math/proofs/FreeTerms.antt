@@ -36,10 +36,6 @@ module _ {A : Type 0} where
   rising-before (t ∷ a) b h i j (inl e) l = rw e (h.0 j (HasTerm-right a b j l))
   rising-before (t ∷ a) b h i j (inr k) l = rising-before a b h.1 i j k l
 
-  rising-last : (a b : List (ℕ × A)) → IsRising (a ++ b) → IsRising b
-  rising-last [] b h = h
-  rising-last (t ∷ a) b h = rising-last a b h.1
-
   -- a list that is not empty has a last term
   last_of : (t : ℕ × A) (a : List (ℕ × A)) → (before : List (ℕ × A)) × (last : ℕ × A) × (t ∷ a ≡ before ++ last ∷ [])
   last_of t [] = ([], t, refl)

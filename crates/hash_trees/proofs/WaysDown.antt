@@ -127,14 +127,6 @@ few_passed : (highest : ℕ) (nodes : List Node) → AreFew highest nodes → Ar
 few_passed highest [] few = tt
 few_passed highest (node ∷ later) few = few.1
 
-few_nodes : (highest : ℕ) (nodes : List Node) → AreFew highest nodes → length nodes ≤ highest + 1
-few_nodes highest [] few = omega arith
-few_nodes highest (node ∷ later) few = let here = few.0 in omega (arith, here)
-
--- a way has at most as many nodes as the tree has levels
-pub way_few : (h : List ℕ → List ℕ) (way : Way) → IsWay h way → length way.nodes ≤ height way.count + 1
-way_few h way is = few_nodes (height way.count) way.nodes is.2
-
 pub way_entered : (h : List ℕ → List ℕ) (way : Way) (left right : List ℕ) → AreChildren h way.nodes left right → IsWay h way
     → IsWay h (entered way left right) × (first_leaf (entered way left right) ≡ first_leaf way)
 way_entered h way left right children is =
@@ -255,14 +247,6 @@ first_children h way count top waiting node left right e is =
     let parts = reverse_entered waiting node node node e in
     let nodes : way.nodes ≡ node ∷ parts.0 = ap (λ w. w.nodes) (sym is) ∙ parts.1 in
     (λ c. subst (λ l. AreChildren h l left right) nodes c, λ c. subst (λ l. AreChildren h l left right) (sym nodes) c)
-
--- where no node waits there are no children
-pub no_children : (h : List ℕ → List ℕ) (way : Way) (count : ℕ) (top : List ℕ) (waiting : List Node) (left right : List ℕ)
-    → slice_get waiting (length waiting - 1) ≡ None → record { count = count; top = top; nodes = reverse waiting } ≡ way → AreChildren h way.nodes left right → ⊥
-no_children h way count top [] left right e is c = subst (λ l. AreChildren h l left right) (ap (λ w. w.nodes) (sym is)) c
-no_children h way count top (x ∷ waiting) left right e is c =
-    let past = slice_get_none (x ∷ waiting) (length (x ∷ waiting) - 1) e in
-    absurd (omega (arith, past))
 
 -- the children in the place of the node that waits last are the way further down
 pub entered_way : (h : List ℕ → List ℕ) (way : Way) (count : ℕ) (top : List ℕ) (waiting : List Node) (node a b : Node) (left right : List ℕ)

@@ -1,9 +1,9 @@
 -- The sizes of strips and of rows of data: all of them fit a word, and strips their room.
-use Rattle.std.proofs.Common.{◌≡◌, ◌∙◌, inl, inr, ℕ, suc, ◌+◌, ◌-◌, ◌*◌, ◌/◌, ◌<◌, ◌≤◌, ◌^◌, List, length, sym, ap, pow_pos, arith}
+use Rattle.std.proofs.Common.{◌≡◌, ◌∙◌, inl, inr, ℕ, suc, ◌+◌, ◌-◌, ◌*◌, ◌/◌, ◌<◌, ◌≤◌, ◌^◌, List, length, sym, ap, arith}
 use Rattle.std.specs.Int.{div_ceil}
 use Rattle.std.proofs.lemmas.Bool.{cases_lt}
 use Rattle.std.proofs.Math.Nat.{mul-div-le}
-use Rattle.std.proofs.lemmas.Nat.{le-div, mul-le}
+use Rattle.std.proofs.lemmas.Nat.{mul-le}
 use Rattle.math_numbers.specs.Bits.{piece_count}
 use Rattle.math_numbers.proofs.BitPieces.{piece_count-enough, piece_count-least}
 use Rattle.math_fields.proofs.Packing.{length-elements_of}
@@ -49,19 +49,5 @@ short_rows least words some few =
     short : (w a b least n m : ℕ) → a < n + least → a ≡ b + least → 1 * (w - 1) ≤ b → n ≡ m + 1 + div_ceil (m + 1) 63 → m < 2 ^ 61 → w < 2 ^ 63
     short w a b least n m h e l c f = omega (arith, h, e, l, c, f)
 
--- room for 2^lg rows: they have a column at least, and as many as there are in the room fit it
-pub some_cols : (n lg : ℕ) → 2 ^ lg ≤ n → 1 ≤ n / 2 ^ lg
-some_cols n lg h = le-div 1 n (2 ^ lg) (pow_pos lg) (omega (arith, h))
-
 pub cols_fit : (n lg c : ℕ) → c ≤ n / 2 ^ lg → 2 ^ lg * c ≤ n
 cols_fit n lg c h = omega (arith, mul-le (2 ^ lg) c (2 ^ lg) (n / 2 ^ lg) (omega arith) h, mul-div-le n (2 ^ lg))
-
--- room of n cells for two columns of m cells, and for as many cells of m rows and of one more as are left
-pub shared_some : (n m : ℕ) → 3 * m < n → 1 ≤ (n - 2 * m) / (m + 1)
-shared_some n m h = le-div 1 (n - 2 * m) (m + 1) (omega arith) (omega (arith, h))
-
-pub shared_fits : (n m c : ℕ) → 2 * m ≤ n → c ≤ (n - 2 * m) / (m + 1) → m * c + (2 * m + c) ≤ n
-shared_fits n m c h l =
-    let up : (m + 1) * c ≤ (m + 1) * ((n - 2 * m) / (m + 1)) = mul-le (m + 1) c (m + 1) ((n - 2 * m) / (m + 1)) (omega arith) l in
-    let all : (m + 1) * c ≡ m * c + c = omega arith in
-    omega (arith, up, all, h, mul-div-le (n - 2 * m) (m + 1))

@@ -1,10 +1,9 @@
 -- One level of a transform: the sizes of its halves, and what it counts.
-use Rattle.std.proofs.Common.{◌≡◌, ◌≢◌, ◌∙◌, ℕ, suc, ◌+◌, ◌-◌, ◌*◌, ◌^◌, ◌<◌, ◌≤◌, sym, ap, inl, inr, w64, arith}
+use Rattle.std.proofs.Common.{◌≡◌, ◌≢◌, ◌∙◌, ℕ, ◌+◌, ◌-◌, ◌*◌, ◌^◌, ◌<◌, ◌≤◌, sym, ap, inl, inr, w64, arith}
 use Rattle.std.specs.Int.{trailing_zeros, bit_at}
 use Rattle.std.proofs.lemmas.Bool.{cases_lt}
 use Rattle.std.proofs.lemmas.Nat.{pow_pos}
 use Rattle.std.proofs.lemmas.Nat.Bits.{bit_at-trailing_zeros, bit_at-pow_other}
-use Rattle.math_theory.proofs.domains.RootOrders.{power_of_two-suc}
 use Rattle.math_transforms.specs.CountedWork.{WorkOf, AddsAtMost}
 
 -- the lowest bit of a power of two that is set
@@ -20,27 +19,6 @@ lg-of_power k n e l =
             | inr at ↦ omega (arith, above, at)
           ]
     ]
-
--- the cells of both halves are all cells, and their butterflies and those of the level are all
-pub record Halved (lg c : ℕ) : Type 0 where
-  pub positive : suc (lg - 1) ≡ lg
-  pub powers : 2 ^ lg ≡ 2 ^ (lg - 1) + 2 ^ (lg - 1)
-  pub cells : 2 ^ lg * c ≡ 2 ^ (lg - 1) * c + 2 ^ (lg - 1) * c
-  pub count : c * 2 ^ lg * lg ≡ c * 2 ^ (lg - 1) * (lg - 1) + c * 2 ^ (lg - 1) * (lg - 1) + 2 * (2 ^ (lg - 1) * c)
-
-count-of_halves : (n l c m : ℕ) → m ≡ n + n → c * m * suc l ≡ c * n * l + c * n * l + 2 * (n * c)
-count-of_halves n l c m e = rw e (omega arith)
-
-pub halved : (lg c : ℕ) → lg ≢ 0 → Halved lg c
-halved lg c h =
-    let positive : suc (lg - 1) ≡ lg = omega arith in
-    let powers : 2 ^ lg ≡ 2 ^ (lg - 1) + 2 ^ (lg - 1) = ap (λ n. 2 ^ n) (sym positive) ∙ power_of_two-suc (lg - 1) in
-    record {
-      positive = positive;
-      powers = powers;
-      cells = ap (λ n. n * c) powers ∙ omega arith;
-      count = ap (λ n. c * 2 ^ lg * n) (sym positive) ∙ count-of_halves (2 ^ (lg - 1)) (lg - 1) c (2 ^ lg) powers;
-    }
 
 -- what is added is added at most, where it is part of more
 pub adds-part : (m n : ℕ) (u v : WorkOf) → m ≤ n → AddsAtMost m u v → AddsAtMost n u v

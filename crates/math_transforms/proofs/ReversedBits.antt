@@ -12,11 +12,6 @@ pub reversed-none : (lg i : ℕ) → lg ≡ 0 → 0 ≡ bit_reversed lg i
 reversed-none zero i e = omega (arith, bit_reversed-below 0 i)
 reversed-none (suc lg) i e = absurd (omega (arith, e))
 
--- the lowest bit becomes the highest one
-pub reversed-more : (lg i : ℕ) → 0 < lg → (i % 2) * 2 ^ (lg - 1) + bit_reversed (lg - 1) (i / 2) ≡ bit_reversed lg i
-reversed-more zero i h = absurd (omega (arith, h))
-reversed-more (suc lg) i h = let e : suc lg - 1 ≡ lg = omega arith in rw e (sym (bit_reversed-suc lg i))
-
 -- the highest bit becomes the lowest one
 pub reversed-high : (j h l : ℕ) → h < 2 → l < 2 ^ j → bit_reversed (suc j) (h * 2 ^ j + l) ≡ 2 * bit_reversed j l + h
 reversed-high zero h l few below =

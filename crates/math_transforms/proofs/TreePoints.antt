@@ -1,18 +1,18 @@
 -- The points below the first place of a tree of square roots, and those of the tree of the inverses.
-use Rattle.std.proofs.Common.{◌≡◌, ◌≢◌, ◌∙◌, inl, inr, ℕ, suc, ◌+◌, ◌-◌, ◌*◌, ◌/◌, ◌%◌, ◌^◌, ◌<◌, ◌≤◌, List, [], ◌∷◌, refl, sym, ap, ap₂, arith}
+use Rattle.std.proofs.Common.{◌≡◌, ◌≢◌, ◌∙◌, inl, inr, ℕ, suc, ◌+◌, ◌-◌, ◌*◌, ◌/◌, ◌%◌, ◌^◌, ◌<◌, ◌≤◌, List, [], ◌∷◌, refl, sym, ap, arith}
 use Rattle.std.proofs.lemmas.Bool.{cases_eq}
 use Rattle.math_theory.specs.BitReversal.{bit_reversed}
 use Rattle.math_theory.specs.Laws.{IsEquality, IsGroup, IsProduct, IsRing}
 use Rattle.math_theory.specs.OverRing as OverRing
 use Rattle.math_theory.specs.Rings.{CommutativeRing}
-use Rattle.math_theory.proofs.classes.Classes.{Class, class, class_same, same_class, ring_of_classes}
+use Rattle.math_theory.proofs.classes.Classes.{Class, class, class_same, ring_of_classes}
 use Rattle.math_theory.proofs.domains.RootOrders.{power_of_two-suc}
-use Rattle.math_theory.proofs.rings.Normal.{ring, ◌⊗◌, minus, 𝟙, v0, v1, v2, v3}
-use Rattle.math_theory.proofs.rings.PowerLaws.{power-add, power-of_one, power-one, power-product}
+use Rattle.math_theory.proofs.rings.Normal.{ring, ◌⊗◌, minus, 𝟙, v0, v1}
+use Rattle.math_theory.proofs.rings.PowerLaws.{power-add, power-one}
 use Rattle.math_theory.proofs.transforms.BitOrder.{bit_reversed-suc}
 use Rattle.math_base.specs.Members.{RingOf}
 use Rattle.math_transforms.specs.RootTrees.{IsTreeOf, class_at, entry}
-use Rattle.math_transforms.proofs.TreeEntries.{level-of, placed-class}
+use Rattle.math_transforms.proofs.TreeEntries.{placed-class}
 
 module _ {A : Type 0} (R : RingOf A) where
   -- the class of an even place is an entry, and that of an odd place its negative
@@ -62,47 +62,4 @@ module _ {A : Type 0} (R : RingOf A) (E : IsEquality R.same) (G : IsGroup R.same
               ∙ ap C.negative (last (t / 2) within)
               ∙ sym (ap (λ i. C.product s (OverRing.power C w i)) bits ∙ ap (C.product s) (power-add C w (2 ^ lg) (bit_reversed lg (t / 2)) ∙ ap (λ x. C.product x y) half)
               ∙ ring C (s ∷ y ∷ []) (v0 ⊗ (minus 𝟙 ⊗ v1)) (minus (v0 ⊗ v1)) refl)
-        ]
-
-  -- products of powers of inverse elements
-  unit-powers : (s t w v : Class E) (n m : ℕ) → C.product s t ≡ C.one → C.product w v ≡ C.one
-      → C.product (C.product (OverRing.power C s n) (OverRing.power C w m)) (C.product (OverRing.power C t n) (OverRing.power C v m)) ≡ C.one
-  unit-powers s t w v n m h k =
-      ring C (OverRing.power C s n ∷ OverRing.power C w m ∷ OverRing.power C t n ∷ OverRing.power C v m ∷ []) ((v0 ⊗ v1) ⊗ (v2 ⊗ v3)) ((v0 ⊗ v2) ⊗ (v1 ⊗ v3)) refl
-      ∙ ap₂ C.product
-      (sym (power-product C s t n) ∙ ap (λ x. OverRing.power C x n) h ∙ power-of_one C n)
-      (sym (power-product C w v m) ∙ ap (λ x. OverRing.power C x m) k ∙ power-of_one C m)
-      ∙ C.product_one C.one
-
-  module _ (root back : ℕ → A) (start inverse : A) (lg : ℕ) (tree inverses : List A) (T : IsTreeOf R root start lg tree) (I : IsTreeOf R back inverse lg inverses)
-      (unit : R.same (R.product start inverse) R.one) (units : (l : ℕ) → l ≤ lg → R.same (R.product (root l) (back l)) R.one) where
-    -- entries of one place, of the tree and of that of the inverses, are inverse to each other
-    entries-unit : (j : ℕ) → 1 ≤ j → j < 2 ^ lg → R.same (R.product (entry R tree j) (entry R inverses j)) R.one
-    entries-unit j some l =
-        let here = level-of lg j some l in
-        let d = here.0 in
-        let b = here.1 in
-        let is : 2 ^ d + b ≡ j = here.4 in
-        let n = 2 ^ (lg - d - 1) in
-        let m = bit_reversed d b in
-        rw is at
-        (same_class E (R.product (entry R tree (2 ^ d + b)) (entry R inverses (2 ^ d + b))) R.one
-        (ap₂ C.product
-        (class_same E _ _ (T.entries d b here.2 here.3) ∙ placed-class R E G P L root start (root (suc d)) n m)
-        (class_same E _ _ (I.entries d b here.2 here.3) ∙ placed-class R E G P L back inverse (back (suc d)) n m)
-        ∙ unit-powers (class E start) (class E inverse) (class E (root (suc d))) (class E (back (suc d))) n m (class_same E _ _ unit)
-        (class_same E _ _ (units (suc d) (let q : suc d ≤ lg = omega (arith, here.2) in q)))))
-
-    -- and so are their classes
-    pub classes-unit : (j : ℕ) → 2 ≤ j → j < 2 * 2 ^ lg → R.same (R.product (class_at R tree j) (class_at R inverses j)) R.one
-    classes-unit j some l =
-        let within : j / 2 < 2 ^ lg = omega (arith, l) in
-        let least : 1 ≤ j / 2 = omega (arith, some) in
-        elim (cases_eq (j % 2) 0) [
-          | inl even ↦ rw (class-even R tree j even, class-even R inverses j even) (entries-unit (j / 2) least within)
-          | inr odd ↦
-              rw (class-odd R tree j odd, class-odd R inverses j odd)
-              (same_class E _ _
-              (ring C (class E (entry R tree (j / 2)) ∷ class E (entry R inverses (j / 2)) ∷ []) (minus v0 ⊗ minus v1) (v0 ⊗ v1) refl
-              ∙ class_same E _ _ (entries-unit (j / 2) least within)))
         ]

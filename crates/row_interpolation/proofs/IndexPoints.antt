@@ -1,5 +1,5 @@
 -- The points of indices: polynomials of few coefficients are determined by their values there, and go through any values there.
-use Rattle.std.proofs.Common.{◌≡◌, ◌≢◌, ◌∙◌, inl, inr, ℕ, zero, suc, ◌*◌, ◌-◌, ◌<◌, ◌≤◌, ◌^◌, List, length, map, get_or, sym, ap, subst, pow-suc, arith}
+use Rattle.std.proofs.Common.{◌≡◌, ◌≢◌, ◌∙◌, inl, inr, ℕ, suc, ◌*◌, ◌-◌, ◌<◌, ◌≤◌, ◌^◌, List, length, map, get_or, sym, ap, subst, pow-suc, arith}
 use Rattle.std.proofs.Math.Pow.{pow_mono}
 use Rattle.std.proofs.lemmas.Bool.{cases_lt}
 use Rattle.std.specs.Int.{IsNextPowerOfTwo}
@@ -36,11 +36,6 @@ least_lg n few lg some l next = elim (cases_lt lg few) [
       absurd (omega (arith, next.2, up, twice, l, some))
   | inr fits ↦ omega (arith, fits)
 ]
-
--- that of two points or more has a level
-pub has_level : (n lg : ℕ) → 2 ≤ n → n ≤ 2 ^ lg → 1 ≤ lg
-has_level n zero many l = absurd (omega (arith, many, l))
-has_level n (suc lg) many l = omega arith
 
 -- the elements, of which same ones are one, as a field
 abbrev pub elements_field : Field F

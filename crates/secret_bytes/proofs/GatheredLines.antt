@@ -9,7 +9,7 @@ use Rattle.secret_bytes.specs.declared.share.SecretShare.{SecretShare}
 use Rattle.secret_bytes.specs.Gathered.{AreOwn, IsAtShare, IsNextGoingOn, IsPassed, own_lines}
 use Rattle.secret_bytes.specs.Readings.{has_mark, letters_of}
 use Rattle.secret_bytes.specs.Refusals.{IsMemory}
-use Rattle.secret_bytes.specs.Texts.{FitShares, IsDueAt, IsDueReading, IsFirstStray, IsInLine, IsOfNone, IsReadAs, all_letters, going_on, parts, text_lines}
+use Rattle.secret_bytes.specs.Texts.{IsDueAt, IsDueReading, IsFirstStray, IsOfNone, IsReadAs, all_letters, going_on, parts, text_lines}
 use Rattle.secret_bytes.specs.declared.text.LineFault.{LineFault}
 
 -- the line begins no share
@@ -126,17 +126,6 @@ gathered-next text letters all rest more after count next g o e n = record {
   few = omega (arith, n, g.few, o.shorter);
 }
 
-pub gathered-own : (text letters : List ℕ) (count : ℕ) (after : List ℕ) → (g : IsGathered text letters count after) → IsAtShare after → own_lines (text_lines text) ≡ g.own
-gathered-own text letters count after g a = g.first ∙ ap (λ ls. g.own ++ ls) a ∙ append-nil g.own
-
-pub gathered-letters : (text letters : List ℕ) (count : ℕ) (after : List ℕ) → IsGathered text letters count after → IsAtShare after → letters ≡ all_letters (own_lines (text_lines text))
-gathered-letters text letters count after g a = g.has ∙ ap all_letters (sym (gathered-own text letters count after g a))
-
-pub gathered-end : (text letters : List ℕ) (count : ℕ) (after : List ℕ) → IsGathered text letters count after → IsAtShare after → AreOwn text count after
-gathered-end text letters count after g a =
-    let own = gathered-own text letters count after g a in
-    record { lines = g.lines ∙ ap (λ ls. ls ++ text_lines after) (sym own); number = g.number ∙ ap length (sym own); some = g.some; at_share = a; few = g.few }
-
 -- the letter at a place stands in this line or in one after it
 pub record IsWalked (text : List ℕ) (number place : ℕ) (letters : List ℕ) (left at : ℕ) (rest : List ℕ) : Type 0 where
   pub before : List (List ℕ)
@@ -171,18 +160,6 @@ walked-next text letters more rest after number place left next at further w o e
   there = omega (arith, f, w.there, length-append w.before (w.line ∷ []));
   passed = omega (arith, e, w.passed, ap length w.has, ap length (all_letters-push w.before w.line), length-append (all_letters w.before) (letters_of w.line));
   few = omega (arith, f, w.few, o.shorter);
-}
-
-pub walked-end : (text letters rest : List ℕ) (number place left at : ℕ) → IsWalked text number place letters left at rest → left < length letters
-    → IsInLine number (own_lines (text_lines text)) place at
-walked-end text letters rest number place left at w l = record {
-  before = w.before;
-  line = w.line;
-  after = going_on (text_lines rest);
-  split = w.first;
-  place = w.there;
-  from = omega (arith, w.passed);
-  below = omega (arith, w.passed, l, ap length w.has);
 }
 
 -- the letters do not end before the place
@@ -297,8 +274,3 @@ due-share text rest number shares numbers fault r some (inr h) =
       none = h.0;
       due = h.1;
     })
-
-pub read-end : (text rest : List ℕ) (number : ℕ) (shares : List SecretShare) (numbers : List ℕ) → IsReadTo text rest number shares numbers → rest ≡ [] → FitShares IsReadAs (text_lines text) shares numbers
-read-end text rest number shares numbers r e =
-    let all : parts 1 (text_lines text) ≡ r.read = r.split ∙ ap (λ t. r.read ++ parts number (text_lines t)) e ∙ append-nil r.read in
-    record { before = r.before; fit = rw all r.fit; places = r.places ∙ ap (map (λ (part : ℕ × List (List ℕ)). part.0)) (sym all) }

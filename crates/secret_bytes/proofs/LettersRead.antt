@@ -138,16 +138,6 @@ grouped_once xs ys h k e = once true xs ys h k e
         let next = front first b (letter (b / 16) ∷ letter (b % 16) ∷ grouped (not first) xs) (grouped (not first) xs) ys refl (All-head (λ x. x < 256) b xs h) k e in
         ap (λ x. b ∷ x) (once (not first) xs next.0 (All-tail (λ x. x < 256) b xs h) next.3 next.2) ∙ sym next.1
 
--- the length of letters in groups is that of any others of as many bytes
-pub length-grouped : (first : Bool) (xs ys : List ℕ) → length xs ≡ length ys → length (grouped first xs) ≡ length (grouped first ys)
-length-grouped first [] [] e = refl
-length-grouped first [] (c ∷ ys) e = absurd (omega arith)
-length-grouped first (b ∷ xs) [] e = absurd (omega arith)
-length-grouped first (b ∷ xs) (c ∷ ys) e =
-    let rest : length (grouped (not first) xs) ≡ length (grouped (not first) ys) = length-grouped (not first) xs ys (omega arith) in
-    length-append (gap first) (letter (b / 16) ∷ letter (b % 16) ∷ grouped (not first) xs) ∙ ap (λ n. length (gap first) + suc (suc n)) rest
-    ∙ sym (length-append (gap first) (letter (c / 16) ∷ letter (c % 16) ∷ grouped (not first) ys))
-
 gap-small : (first : Bool) → All (λ a. a < 128) (gap first)
 gap-small true = All-cons (λ a. a < 128) 45 [] (omega arith) (All-nil (λ a. a < 128))
 gap-small false = All-nil (λ a. a < 128)

@@ -1,5 +1,5 @@
 -- Where blocks and records lie.
-use Rattle.std.proofs.Common.{◌≡◌, ◌≢◌, ◌∙◌, ℕ, zero, suc, ◌+◌, ◌-◌, ◌*◌, ◌/◌, ◌^◌, ◌<◌, ◌≤◌, ◌++◌, true, false, length, refl, sym, ap, ap₂, subst, arith, add-one, add-zero}
+use Rattle.std.proofs.Common.{◌≡◌, ◌≢◌, ◌∙◌, ℕ, zero, suc, ◌+◌, ◌-◌, ◌*◌, ◌/◌, ◌^◌, ◌<◌, ◌≤◌, ◌++◌, false, length, refl, sym, ap, ap₂, subst, arith, add-one, add-zero}
 use Rattle.std.proofs.Math.Nat.{mul-le-mul_left, mul-le-mul_right, add-mul, mul-zero, one-mul, zero-mul, div-mul-le_self, lt-div-mul-add, min-eq_left, min-eq_right}
 use Rattle.std.specs.Prelude.{min}
 use Rattle.shard_format.specs.declared.formats.Format.{Format}
@@ -79,10 +79,6 @@ pairs h number e = ap (λ n. n * pair_size h) (let before : block_count h - 1 �
 
 no_pairs : (h : Header) → block_count h ≡ 0 → pairs_size h ≡ 0
 no_pairs h e = ap (λ n. (n - 1) * pair_size h) e ∙ zero-mul (pair_size h)
-
--- one format alone has paths
-pub with_paths : (f : Format) → f ≡ formats.RowsWithPaths → has_paths f ≡ true
-with_paths f e = ap has_paths e
 
 pub without_paths : (f : Format) → f ≢ formats.RowsWithPaths → has_paths f ≡ false
 without_paths formats.Cells differ = refl
