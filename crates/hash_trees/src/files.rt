@@ -1,7 +1,7 @@
 //! The root of a file that is kept in blocks.
 
 ghost use Rattle.std.specs.Option.{option_copied};
-ghost use Rattle.std.specs.Prelude.{◌≡◌, ◌≤◌, ◌<◌, [], length, unwrap_or, IfOk};
+ghost use Rattle.std.specs.Prelude.{◌≡◌, ◌<◌, [], unwrap_or, IfOk};
 ghost use Rattle.hash_trees.specs.Files.{file_message, file_root, file_root_over};
 ghost use Rattle.hash_trees.specs.Trees.{root};
 ghost use Rattle.sha2.specs.Sha512.{sha512_256};

@@ -1,6 +1,6 @@
 //! Paths from a leaf up to the root.
 
-ghost use Rattle.std.specs.Prelude.{◌≡◌, ◌↔◌, ◌≤◌, ◌<◌, ◌++◌, ℕ, List, length};
+ghost use Rattle.std.specs.Prelude.{◌≡◌, ◌↔◌, ◌<◌, ◌++◌, ℕ, List, length};
 ghost use Rattle.std.specs.Prelude.{IfNone, IfOk, IfSome, IsTrue, OnOk};
 ghost use Rattle.hash_trees.specs.Binding.{IsLeafUnder, IsUnder};
 ghost use Rattle.hash_trees.specs.Trees.{LeadsTo, half, is_alone, neighbour, path, step_message};

@@ -1,7 +1,7 @@
 -- Steps of Newton's interpolation: the product by X - x, and one value more that the polynomial goes through.
 use Rattle.std.proofs.Common.{◌≡◌, ◌≢◌, ℕ, zero, suc, ◌+◌, ◌<◌, ◌≤◌, List, [], ◌∷◌, ◌++◌, length, map, take, get_or, inl, inr, refl, sym, ◌∙◌, ap, ap₂, subst, arith}
 use Rattle.std.proofs.lemmas.Bool.{cases_lt}
-use Rattle.std.proofs.lemmas.List.{take_more, get_or-take, get_or_default, get_or_past, length-take-le}
+use Rattle.std.proofs.lemmas.List.{take_more, get_or-take, get_or_past, length-take-le}
 use Rattle.std.proofs.lemmas.List as Lists
 use Rattle.std.specs.List.{All}
 use Rattle.math_theory.specs.Coefficients.{coefficient, HaveSameCoefficients, polynomial_difference, polynomial_multiple}

@@ -1,6 +1,6 @@
 -- A step of Euclid's algorithm, and the products that it makes.
 use Rattle.std.proofs.Common.{◌≡◌, ℕ, ◌+◌, ◌<◌, List, [], ◌∷◌, ◌++◌, length, map, take, get_or, refl, sym, ◌∙◌, ap, arith}
-use Rattle.std.proofs.lemmas.List.{take_more, get_or_past, length-take-le}
+use Rattle.std.proofs.lemmas.List.{take_more, length-take-le}
 use Rattle.std.proofs.lemmas.List as Lists
 use Rattle.math_theory.specs.Coefficients.{coefficient, HaveSameCoefficients, polynomial_difference, polynomial_multiple, polynomial_product}
 use Rattle.math_theory.specs.Division.{moved_up}

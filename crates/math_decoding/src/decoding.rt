@@ -13,7 +13,7 @@
 //! coefficients as the caller asks for, with zeros at the end, and may have none: so it is a list,
 //! and no `Poly`.
 
-ghost use Rattle.std.specs.Prelude.{◌≡◌, ◌+◌, ◌<◌, ◌≤◌, ℕ, List, IfOk, IfSome, IfNone, length};
+ghost use Rattle.std.specs.Prelude.{◌≡◌, ◌<◌, ◌≤◌, ℕ, List, IfOk, IfSome, IfNone, length};
 ghost use Rattle.math_theory.specs.Interpolation.{AreApart};
 ghost use Rattle.math_decoding.specs.Decodings.{AreWrongPlaces, IsDecoded, IsWithinRadius};
 ghost use Rattle.math_decoding.specs.Polynomials.{coefficient, product, AreSame, IsZero};

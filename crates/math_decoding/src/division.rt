@@ -4,7 +4,7 @@
 //! coefficients. From the last coefficient down, c is what is left of coefficient i + n over the
 //! last of d, and becomes coefficient i of q; c X^i d is taken from what is left.
 
-ghost use Rattle.std.specs.Prelude.{◌≡◌, ◌-◌, ◌<◌, ◌≤◌, ℕ, IfOk, IfSome, IfNone, OnOk, List, reverse, length, min};
+ghost use Rattle.std.specs.Prelude.{◌≡◌, ◌-◌, ◌<◌, ◌≤◌, ℕ, IfOk, IfSome, IfNone, OnOk, reverse, length};
 ghost use Rattle.math_decoding.specs.Divisions.{IsDivided, IsDividedDownTo};
 ghost use Rattle.math_decoding.specs.Polynomials.{coefficient, HasExactDegree, IsZero};
 

@@ -1,5 +1,5 @@
 -- Sixteen cells of one column that are turned by four levels.
-use Rattle.std.proofs.Common.{◌≡◌, ℕ, ◌+◌, ◌*◌, ◌<◌, Bool, true, false, List, length, refl, sym, subst, arith}
+use Rattle.std.proofs.Common.{◌≡◌, ℕ, ◌+◌, ◌*◌, ◌<◌, Bool, true, false, List, length, refl, subst, arith}
 use Rattle.math_fields.specs.declared.goldilocks.F.{F}
 use Rattle.math_fields.specs.Elements.{goldilocks}
 use Rattle.math_base.specs.Columns.{AreSixteenTurned, IsTurnedByTree}

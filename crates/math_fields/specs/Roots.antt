@@ -18,7 +18,3 @@ root lg = squared (32 - lg) greatest_root
 -- a number that is no power of any of the roots
 abbrev pub shift : ℕ
 shift = 0x79bc2f50acd74161
-
--- the inverse of the shift
-abbrev pub shift_inverse : ℕ
-shift_inverse = 0x1036c4023580ce8d

@@ -12,7 +12,7 @@ ghost use Rattle.std.specs.Int.{to_be_bytes, to_le_bytes, w64};
 ghost use Rattle.math_numbers.specs.Goldilocks.{P};
 ghost use Rattle.math_numbers.specs.PowersModulo.{power_mod};
 ghost use Rattle.math_codec.specs.WordLaws.{word_bounded};
-ghost use Rattle.math_fields.specs.Roots.{root, greatest_root, shift, shift_inverse};
+ghost use Rattle.math_fields.specs.Roots.{root, greatest_root, shift};
 ghost use Rattle.math_base.specs.declared.algebra.RandomError.TheVariants.{TooManyWords};
 
 mod columns;

@@ -6,7 +6,7 @@
 //! that refuses them says that while a string is read no allocation is larger than the bytes at
 //! hand justify: room for four items, or for twice as many as the bytes can spell.
 
-ghost use Rattle.std.specs.Prelude.{◌<◌, ◌≡◌, IfOk};
+ghost use Rattle.std.specs.Prelude.{◌<◌, IfOk};
 
 use crate::encodings::{read_from, write_matrix, write_to};
 use math_base::algebra::Mem;

@@ -3,13 +3,12 @@
 //! A reader makes room for four items, and then for as many further ones as it has read. So a
 //! clause says what it may reserve: std's `push` promises no bound.
 
-ghost use Rattle.std.specs.Prelude.{◌≡◌, ◌<◌, ◌≤◌, ◌+◌, ◌*◌, ◌^◌, ◌++◌, ◌∷◌, [], ℕ, List, length, take, true, IfOk, OnOk, OnErr, vec_capacity};
+ghost use Rattle.std.specs.Prelude.{◌≡◌, ◌<◌, ◌≤◌, ◌+◌, ◌*◌, ◌^◌, ◌++◌, ◌∷◌, [], ℕ, List, length, take, IfOk, OnOk, OnErr, vec_capacity};
 ghost use Rattle.std.specs.List.{flat_map, All, AllByRecursion, AllZip};
 ghost use Rattle.math_codec.specs.Faults.{Agrees, Reads, OnMemory};
 ghost use Rattle.math_codec.specs.Lengths.{length_in_front};
 ghost use Rattle.math_codec.specs.Lists.{scan_items, scan_list, list_spelling, AdmitsList, ItemsGrow, ListGrows};
 ghost use Rattle.math_codec.specs.ListLaws.{list_again, list_apart};
-ghost use Rattle.math_codec.specs.Ranges.{in_range};
 
 use super::Mem;
 use super::error::Error;

@@ -1,6 +1,6 @@
 //! Words: eight bytes, highest first.
 
-ghost use Rattle.std.specs.Prelude.{◌≡◌, ◌<◌, ◌^◌, ◌≤◌, refl};
+ghost use Rattle.std.specs.Prelude.{◌≡◌, ◌<◌, ◌^◌, refl};
 ghost use Rattle.std.specs.Int.{w64, to_be_bytes};
 ghost use Rattle.math_codec.specs.Words.{scan_word};
 ghost use Rattle.math_codec.specs.WordLaws.{word_again, word_apart, word_bounded};

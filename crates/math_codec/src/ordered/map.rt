@@ -1,6 +1,6 @@
 //! Sorted maps.
 
-ghost use Rattle.std.specs.Prelude.{◌≡◌, ◌++◌, ◌∷◌, [], List, length, map, true, IsTrue, ◌↔◌, IfOk, OnOk, not};
+ghost use Rattle.std.specs.Prelude.{◌≡◌, List, length, true, IsTrue, ◌↔◌, IfOk, OnOk, not};
 ghost use Rattle.std.specs.Iterator.{IsFiniteIterable, Drains, Yields};
 ghost use Rattle.std.specs.List.{zip};
 ghost use Rattle.std.specs.List.Sorted.{IsStrictlySortedBy};

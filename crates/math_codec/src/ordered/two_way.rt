@@ -4,7 +4,7 @@
 //! pairs that were seen, so all pairs are taken before the first is looked at: memory may run out
 //! before a repeat is found. A `Map` asks for no pair after a repeated key.
 
-ghost use Rattle.std.specs.Prelude.{◌≡◌, ◌++◌, ◌∷◌, [], List, ℕ, length, map, true, IsTrue, ◌↔◌, IfOk, OnOk, IfErr};
+ghost use Rattle.std.specs.Prelude.{◌≡◌, List, length, map, IsTrue, ◌↔◌, IfOk, OnOk};
 ghost use Rattle.std.specs.Iterator.{IsFiniteIterable, Drains};
 ghost use Rattle.std.specs.Map.{keys_of, values_of};
 ghost use Rattle.std.specs.Option.{option_copied};

@@ -1,8 +1,8 @@
 //! Eight elements at once, or four, as the lanes of a vector.
 
-ghost use Rattle.std.specs.Prelude.{◌≡◌, ◌≢◌, ℕ, ◌<◌, ◌≤◌, ◌+◌, ◌*◌, ◌^◌, length, slice_index, slice_index_or};
+ghost use Rattle.std.specs.Prelude.{◌≡◌, ◌≢◌, ℕ, ◌<◌, ◌≤◌, ◌+◌, ◌*◌, ◌^◌, length, slice_index_or};
 ghost use Rattle.math_lanes.specs.Elements.{AreElements};
-ghost use Rattle.math_fields.specs.Elements.{number, residue, sum, negative, product};
+ghost use Rattle.math_fields.specs.Elements.{residue, sum, negative, product};
 ghost use Rattle.math_fields.specs.Lanes.{IsLane};
 
 use super::F;

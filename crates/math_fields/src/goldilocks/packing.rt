@@ -8,7 +8,7 @@
 //! Neither makes the list. Its first bits wait in a word. Those of the next item are put above
 //! them; the lowest of both are the next piece, and what is left of the item waits in its turn.
 
-ghost use Rattle.std.specs.Prelude.{◌≡◌, ◌<◌, ◌≤◌, ◌+◌, ◌*◌, ◌^◌, ◌%◌, ◌++◌, [], take, drop, None};
+ghost use Rattle.std.specs.Prelude.{◌≡◌, ◌<◌, ◌+◌, ◌*◌, ◌^◌, ◌%◌, ◌++◌, [], take, drop, None};
 ghost use Rattle.std.specs.Iterator.{count_map};
 ghost use Rattle.math_numbers.specs.Bits.{bits, piece_count};
 ghost use Rattle.math_fields.specs.Repacking.{running, NoMoreThan};

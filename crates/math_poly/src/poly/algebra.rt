@@ -1,6 +1,6 @@
 //! Polynomials coefficient by coefficient: their equality, sums and multiples.
 
-ghost use Rattle.std.specs.Prelude.{◌≡◌, ◌↔◌, ◌<◌, ◌≤◌, ◌^◌, ◌⊎◌, Bool, true, false, IsTrue, IsOk, Ok, IfOk, OnOk, OnErr, List, [], ◌∷◌, length, max, take};
+ghost use Rattle.std.specs.Prelude.{◌≡◌, ◌↔◌, ◌<◌, ◌≤◌, ◌^◌, ◌⊎◌, true, false, IsTrue, IsOk, Ok, IfOk, OnOk, OnErr, [], ◌∷◌, length, max, take};
 ghost use Rattle.std.specs.Fn.{FnReturnsAt};
 ghost use Rattle.std.specs.List.{AllZip};
 ghost use Rattle.math_theory.specs.Coefficients.{coefficient, HaveSameCoefficients, HasDegree, polynomial_sum, polynomial_negative, polynomial_difference, polynomial_multiple};

@@ -8,7 +8,7 @@
 //! the wanted polynomial times v (Gao, A new algorithm for decoding Reed-Solomon codes, 2003).
 
 ghost use Rattle.std.specs.List.Sorted.{IsStrictlyIncreasing};
-ghost use Rattle.std.specs.Prelude.{◌≡◌, ◌≢◌, ◌+◌, ◌-◌, ◌<◌, ◌≤◌, ℕ, suc, List, length, slice_index_or, All};
+ghost use Rattle.std.specs.Prelude.{◌≢◌, ◌+◌, ◌-◌, ◌<◌, ◌≤◌, ℕ, suc, List, length, slice_index_or, All};
 ghost use Rattle.math_theory.specs.OverRing.{AreDistinct, value, HaveSameCoefficients, polynomial_difference};
 ghost use Rattle.math_theory.specs.OverRing.{polynomial_product, HasExactDegree, IsDivision};
 ghost use Rattle.math_theory.specs.OverRing.{IsKept, IsWithinRadius};
