@@ -19,9 +19,7 @@ use Rattle.math_splitting.proofs.SameCells.{nought}
 
 -- the indices of all shards are below their number
 pub all_below : (total : ℕ) → All (λ i. i < total) (range_with_len 0 total)
-all_below total = λ i d l.
-    let within : i < total = omega (arith, l, length-range_with_len 0 total) in
-    omega (arith, within, get_or-range_with_len 0 total i d within)
+all_below total = grind (arith, length-range_with_len, get_or-range_with_len)
 
 -- one shard more
 pub cut-more : (min total width : ℕ) (indices : List ℕ) (cells : List F) (n : ℕ) (shards : List Shard) (s : Shard) → AreCut min total width indices cells n shards

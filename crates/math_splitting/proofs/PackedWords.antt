@@ -1,10 +1,10 @@
 -- One of the elements that words pack to, from the two words in which its bits stand.
-use Rattle.std.proofs.Common.{◌≡◌, ◌∙◌, inl, inr, ℕ, zero, suc, ◌+◌, ◌-◌, ◌*◌, ◌/◌, ◌%◌, ◌^◌, ◌<◌, ◌≤◌, bit_and, List, [], ◌∷◌, ◌++◌, length, take, drop, get_or, replicate, refl, sym, ap, ap₂, subst, arith, lit<, lit≤, length-append, append_assoc, append-nil}
+use Rattle.std.proofs.Common.{◌≡◌, ◌∙◌, inl, inr, ℕ, zero, suc, ◌+◌, ◌-◌, ◌*◌, ◌/◌, ◌%◌, ◌^◌, ◌<◌, ◌≤◌, bit_and, List, [], ◌∷◌, ◌++◌, length, take, drop, get_or, replicate, refl, sym, ap, subst, arith, lit<, lit≤, length-append, append_assoc, append-nil}
 use Rattle.std.proofs.Math.ListN.{get_or-map}
 use Rattle.std.proofs.lemmas.Bool.{cases_lt}
 use Rattle.std.proofs.lemmas.List.{take-append-le, drop-append-le, drop-drop, drop-replicate, drop_all, drop_at, drop_more, get_or_past}
 use Rattle.std.proofs.lemmas.Nat.{mul-le, shr-shr, shr_below}
-use Rattle.math_numbers.specs.Bits.{bits, bits-zero, cut, joined, number, piece_count, pieces, pieces-suc}
+use Rattle.math_numbers.specs.Bits.{bits, bits-zero, cut, joined, number, pieces, pieces-suc}
 use Rattle.math_numbers.proofs.BitLists.{bits-of_zero, length-bits}
 use Rattle.math_numbers.proofs.BitPieces.{length-cut, piece_count-enough}
 use Rattle.math_fields.specs.Elements.{residue}
@@ -36,15 +36,7 @@ drop-none (suc k) = refl
 
 -- the pieces past the last one are zero too
 pub cut_at : (k : ℕ) (bs : List ℕ) (j : ℕ) → 0 < k → get_or (cut k bs) j 0 ≡ number (take k (drop (k * j) bs))
-cut_at k bs j positive =
-    elim (cases_lt j (piece_count k (length bs))) [
-      | inl within ↦ piece_at k (piece_count k (length bs)) bs j within
-      | inr past ↦
-          let enough : length bs ≤ k * piece_count k (length bs) = piece_count-enough k (length bs) positive in
-          let up : k * piece_count k (length bs) ≤ k * j = mul-le k (piece_count k (length bs)) k j (omega arith) past in
-          let none : drop (k * j) bs ≡ [] = drop_all (k * j) bs (omega arith) in
-          get_or_past (cut k bs) j 0 (omega (arith, length-cut k bs)) ∙ sym (take-none k) ∙ ap (λ l. number (take k l)) (sym none)
-    ]
+cut_at k bs j positive = grind (arith, cases_lt, piece_at, piece_count-enough, mul-le, drop_all, get_or_past, length-cut, take-none)
 
 pub element_bits_at : (words : List ℕ) (e : ℕ) → get_or (elements_of words) e nought ≡ residue (number (take 63 (drop (63 * e) (joined 64 words))))
 element_bits_at words e = get_or-map residue (cut 63 (joined 64 words)) e 0 ∙ ap residue (cut_at 63 (joined 64 words) e (lit< tt))
@@ -168,19 +160,7 @@ counted-behind words (suc place) some = ap (λ n. get_or words n 0) (let e : pla
 pub run_packed : (words part : List ℕ) (first k : ℕ) → 2 ≤ first - first / 64 → first % 64 + k < 64
     → ((j : ℕ) → j ≤ k + 1 → get_or part j 0 ≡ get_or words (first - first / 64 - 2 + j) 0)
     → piece_of (get_or part k 0) (get_or part (k + 1) 0) (first % 64 + k) ≡ packed_at words (first + k)
-run_packed words part first k some run read =
-    let from = first - first / 64 - 2 in
-    let e = first + k in
-    let taken : first % 64 + k ≡ e % 64 = omega (arith, run) in
-    let at : from + k ≡ e - e / 64 - 1 - 1 = omega (arith, some, run) in
-    let after : from + (k + 1) ≡ e - e / 64 - 1 = omega (arith, some, run) in
-    let before : get_or part k 0 ≡ get_or (counted words) (e - e / 64 - 1) 0 =
-    read k (omega arith) ∙ ap (λ p. get_or words p 0) at ∙ sym (counted-behind words (e - e / 64 - 1) (omega (arith, some, run))) in
-    let word : get_or part (k + 1) 0 ≡ get_or (counted words) (e - e / 64) 0 =
-    read (k + 1) (omega arith) ∙ ap (λ p. get_or words p 0) after ∙ sym (counted-behind words (e - e / 64) (omega (arith, some, run))) in
-    ap₂ (λ x y. piece_of x y (first % 64 + k)) before word
-    ∙ ap (λ t. piece_of (get_or (counted words) (e - e / 64 - 1) 0) (get_or (counted words) (e - e / 64) 0) t) taken
-    ∙ sym (packed_from_words words e)
+run_packed words part first k some run read = grind (arith, counted-behind, packed_from_words)
 
 -- the bits of two words, shifted and put together
 pub both-number : (before word taken : ℕ) → before < 2 ^ 64 → word < 2 ^ 64 → taken < 64

@@ -51,9 +51,7 @@ one_written from i place word old words bytes new e l m hw hn h =
 
 pub all_written : (from i : ℕ) (old words bytes : List ℕ) → i ≡ length words → AreWritten from i old words bytes
     → bytes ≡ take from old ++ bytes_of words ++ drop (from + 8 * length words) old
-all_written from i old words bytes e h =
-    sym (take-append-drop (from + 8 * i) bytes)
-    ∙ ap₂ (λ xs ys. xs ++ ys) (h.front ∙ ap (λ xs. take from old ++ bytes_of xs) (take_all i words (omega arith))) (h.rest ∙ ap (λ n. drop (from + 8 * n) old) e)
+all_written from i old words bytes e h = grind (arith, take-append-drop, take_all)
 
 -- The words that bytes spell.
 

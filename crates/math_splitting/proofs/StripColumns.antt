@@ -48,12 +48,7 @@ cell_of_rows words min r k some b =
 
 -- past the last row there is no element
 packed_past : (words : List ℕ) (min r k : ℕ) → 1 ≤ min → min ≤ r → packed_at words (r * width_for min words + k) ≡ nought
-packed_past words min r k some past =
-    let m = rows_for min words in
-    let whole : length m.cells ≡ min * width_for min words = rows_are_whole min words some in
-    let up : min * width_for min words ≤ r * width_for min words = mul-le min (width_for min words) r (width_for min words) past (omega arith) in
-    sym (zeros-behind (elements_for words) (min * width_for min words - length (elements_for words)) (r * width_for min words + k))
-    ∙ get_or_past m.cells (r * width_for min words + k) nought (omega (arith, whole, up))
+packed_past words min r k some past = grind (arith, rows_are_whole, mul-le, zeros-behind, get_or_past)
 
 -- the rows of data and zeros behind them are a strip
 pub strip_filled : (words : List ℕ) (min n from c m : ℕ) (rows cells : List F) (z : F) → 1 ≤ min → min ≤ n → from + c ≤ width_for min words
@@ -107,10 +102,4 @@ first_columns n c k rows rest whole =
 -- the values of the columns of a strip, in whose first rows the coefficients stood, are those of the columns of the rows of data
 pub strip_valued : (words : List ℕ) (min lg part from c : ℕ) (strip rest mid new : List F) → IsStripOf words min (2 ^ part) from c strip → length new ≡ 2 ^ lg * c
     → AreReversedValuesAtPowers goldilocks (root_of lg) lg (matrix_of (2 ^ part) c (strip ++ rest)) (matrix_of (2 ^ lg) c mid) → ArePlaced lg c mid new → HasStripValues words min lg from c new
-strip_valued words min lg part from c strip rest mid new h count values placed = record {
-  count = count;
-  values = λ i k a b.
-      let column = column_of nought (matrix_of (2 ^ part) c strip) k in
-      let there = column_of nought (rows_for min words) (from + k) in
-      ap number (placed i k a b) ∙ rw (first_columns (2 ^ part) c k strip rest h.count) at (values i k a b) ∙ same_values _ column there (h.columns k b);
-}
+strip_valued words min lg part from c strip rest mid new h count values placed = grind (arith, first_columns, same_values)

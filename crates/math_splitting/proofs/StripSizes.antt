@@ -1,5 +1,5 @@
 -- The sizes of strips and of rows of data: all of them fit a word, and strips their room.
-use Rattle.std.proofs.Common.{◌≡◌, ◌∙◌, inl, inr, ℕ, suc, ◌+◌, ◌-◌, ◌*◌, ◌/◌, ◌<◌, ◌≤◌, ◌^◌, List, length, sym, ap, arith}
+use Rattle.std.proofs.Common.{◌≡◌, ◌∙◌, ℕ, suc, ◌+◌, ◌-◌, ◌*◌, ◌/◌, ◌<◌, ◌≤◌, ◌^◌, List, length, sym, ap, arith}
 use Rattle.std.specs.Int.{div_ceil}
 use Rattle.std.proofs.lemmas.Bool.{cases_lt}
 use Rattle.std.proofs.Math.Nat.{mul-div-le}
@@ -27,27 +27,10 @@ cells_fit least words some small few = omega (arith, piece_count-least least (le
 
 -- there is a cell in a row, and a row is shorter than 2^63
 pub wide_rows : (least : ℕ) (words : List ℕ) → 1 ≤ least → 1 ≤ width_for least words
-wide_rows least words some =
-    let enough : length (elements_for words) ≤ least * width_for least words = piece_count-enough least (length (elements_for words)) some in
-    elim (cases_lt 0 (width_for least words)) [
-      | inl wide ↦ omega (arith, wide)
-      | inr o ↦
-          let none : width_for least words ≡ 0 = omega (arith, o) in
-          let all : least * width_for least words ≡ 0 = ap (λ n. least * n) none ∙ (let e : least * 0 ≡ 0 = omega arith in e) in
-          absurd (omega (arith, all, enough, count_elements words))
-    ]
+wide_rows least words some = grind (arith, piece_count-enough, cases_lt, count_elements)
 
 pub short_rows : (least : ℕ) (words : List ℕ) → 1 ≤ least → length words < 2 ^ 61 → width_for least words < 2 ^ 63
-short_rows least words some few =
-    let w = width_for least words in
-    let one : least * w < length (elements_for words) + least = piece_count-least least (length (elements_for words)) some in
-    let wide : 1 ≤ w = wide_rows least words some in
-    let next : least * w ≡ least * (w - 1) + least = ap (λ n. least * n) (let e : w ≡ w - 1 + 1 = omega (arith, wide) in e) ∙ (let e : least * (w - 1 + 1) ≡ least * (w - 1) + least = omega arith in e) in
-    let all : 1 * (w - 1) ≤ least * (w - 1) = mul-le 1 (w - 1) least (w - 1) some (omega arith) in
-    short w (least * w) (least * (w - 1)) least (length (elements_for words)) (length words) one next all (count_elements words) few
-  where
-    short : (w a b least n m : ℕ) → a < n + least → a ≡ b + least → 1 * (w - 1) ≤ b → n ≡ m + 1 + div_ceil (m + 1) 63 → m < 2 ^ 61 → w < 2 ^ 63
-    short w a b least n m h e l c f = omega (arith, h, e, l, c, f)
+short_rows least words some few = grind (arith, piece_count-least, wide_rows, mul-le, count_elements)
 
 pub cols_fit : (n lg c : ℕ) → c ≤ n / 2 ^ lg → 2 ^ lg * c ≤ n
 cols_fit n lg c h = omega (arith, mul-le (2 ^ lg) c (2 ^ lg) (n / 2 ^ lg) (omega arith) h, mul-div-le n (2 ^ lg))

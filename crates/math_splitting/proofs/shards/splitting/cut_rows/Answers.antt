@@ -1,6 +1,6 @@
-use Rattle.std.proofs.Common.{◌≡◌, ◌∙◌, ◌+◌, ◌-◌, ◌*◌, length, take, drop, refl, ap, subst, arith}
+use Rattle.std.proofs.Common.{◌≡◌, ◌∙◌, ◌+◌, ◌-◌, ◌*◌, length, take, drop, refl, ap, arith}
 use Rattle.math_splitting.specs.declared.shards.Shard.{Shard}
-use Rattle.math_splitting.specs.ShardRows.{AreCut, IsCutAt, indices_in}
+use Rattle.math_splitting.specs.ShardRows.{IsCutAt, indices_in}
 use Rattle.math_splitting.proofs.CutShards.{cut-more}
 use Rattle.math_splitting.proofs.shards.splitting.cut_rows.Goals as goal
 
@@ -25,6 +25,4 @@ loop-t-preserved c =
     rw c.in_ok-push.ensures.items (cut-more c.args.layout.min c.args.layout.total width indices cells t c.loop-t.shards.items s c.loop-t.invariant here)
 
 pub returns : goal.returns
-returns c =
-    let all : c.loop-t.t ≡ length (indices_in c.args.wanted) = omega (arith, c.wanted_count-t-end.ensures) in
-    subst (λ n. AreCut c.args.layout.min c.args.layout.total c.args.layout.width (indices_in c.args.wanted) c.args.cells.now n c.loop-t.shards.items) all c.loop-t.invariant
+returns c = grind arith

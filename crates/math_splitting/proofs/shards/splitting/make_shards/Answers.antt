@@ -1,7 +1,6 @@
 use Rattle.std.proofs.Common.{◌≡◌, ◌∙◌, ◌*◌, ◌++◌, List, length, take, drop, ap, subst, arith}
 use Rattle.std.proofs.lemmas.List.{length-map}
 use Rattle.math_fields.specs.declared.goldilocks.F.{F}
-use Rattle.math_fields.specs.Elements.{number}
 use Rattle.math_base.proofs.WholeWrites.{take-written}
 use Rattle.math_splitting.specs.DataWords.{words_in}
 use Rattle.math_splitting.specs.ShardRows.{AreCut, indices_in}
@@ -10,13 +9,7 @@ use Rattle.math_splitting.proofs.LayoutNumbers.{next_of}
 use Rattle.math_splitting.proofs.shards.splitting.make_shards.Goals as goal
 
 pub write_all-requires-clause-cells : goal.write_all-requires-clause-cells
-write_all-requires-clause-cells g c =
-    let vec = c.in_ok-cells.cells in
-    let count : length c.deref_mut.result.now ≡ length vec.items = ap length c.deref_mut.ensures.value in
-    record {
-      size = length-map _ number ∙ count ∙ c.in_ok-cells.ensures ∙ ap (λ n. n * c.args.layout.width) c.wanted_count.ensures;
-      fits = omega (arith, length-map c.deref_mut.result.now number, count, vec.ok.0, vec.ok.1, vec.small);
-    }
+write_all-requires-clause-cells g c = grind (arith, length-map)
 
 pub returns : goal.returns
 returns g c =

@@ -1,4 +1,4 @@
-use Rattle.std.proofs.Common.{◌≡◌, ◌*◌, ◌≤◌, ◌^◌, ℕ, length, drop, length-append, subst, sym, rules, arith}
+use Rattle.std.proofs.Common.{◌≡◌, ◌*◌, ◌≤◌, ◌^◌, ℕ, drop, length-append, subst, sym, arith}
 use Rattle.std.proofs.Math.Pow.{pow_mono}
 use Rattle.std.proofs.lemmas.List.{length-drop, length-take-le}
 use Rattle.std.proofs.lemmas.Nat.{mul-le}
@@ -9,14 +9,10 @@ use Rattle.math_splitting.proofs.shards.strips.write_values.Goals as goal
 
 -- the first rows are among all
 few_rows : (part lg n c k : ℕ) → part ≤ lg → n ≡ 2 ^ part → k ≡ 2 ^ lg * c → n * c ≤ k
-few_rows part lg n c k l e f =
-    let up : 2 ^ part ≤ 2 ^ lg = pow_mono l in
-    omega (arith, mul-le n c (2 ^ lg) c (omega (arith, e, up)) (omega arith), f)
+few_rows part lg n c k l e f = grind (arith, pow_mono, mul-le)
 
 pub overflow_mul-rows : goal.overflow_mul-rows
-overflow_mul-rows g c =
-    let fits : c.size_of-rows.result * c.args.strip.cols ≤ length c.args.cells.now = few_rows _ _ _ _ _ c.part-part.ensures.within c.size_of-rows.ensures c.requires.size in
-    search rules
+overflow_mul-rows g c = grind (arith, few_rows)
 
 pub slice_bounds-write_strip-end : goal.slice_bounds-write_strip-end
 slice_bounds-write_strip-end g c = few_rows _ _ _ _ _ c.part-part.ensures.within c.size_of-rows.ensures c.requires.size
