@@ -8,10 +8,9 @@ use Rattle.std.proofs.lemmas.List.{length-map}
 use Rattle.std.proofs.lemmas.Bool.{cases_Bool}
 use Rattle.std.proofs.lemmas.List.Sums.{sum_by-cons}
 use Rattle.std.proofs.lemmas.List.Elements.{All-cons, All-head, All-tail}
-use Rattle.math_fields.specs.Elements.{number, residue, same}
-use Rattle.math_transforms.specs.Matrices.{column_of}
+use Rattle.math_fields.specs.Elements.{number}
 use Rattle.math_splitting.specs.declared.shards.Shard.{Shard}
-use Rattle.math_splitting.specs.Shards.{IsShardOf, JoinTo, distinct_indices, has_index, rows_for, value_at_index}
+use Rattle.math_splitting.specs.Shards.{IsShardOf, JoinTo, distinct_indices, has_index}
 use Rattle.math_shards.specs.declared.shards.Error.{Error}
 use Rattle.math_shards.specs.declared.shards.Error.TheVariants.{Memory, TooFew, Mismatch, Index, Conflict, Inconsistent}
 use Rattle.math_shards.specs.Correcting.{AreCorrected, CorrectTo, HasNumbersOf, are_same, is_settled, settled, settled_indices}
@@ -35,16 +34,7 @@ record AreAlike (s t : Shard) : Type 0 where
   cells : s.cells.items ≡ t.cells.items
 
 shard_alike : (words : List ℕ) (min total : ℕ) (s t : Shard) → AreAlike s t → IsShardOf words min total s → IsShardOf words min total t
-shard_alike words min total s t a h = record {
-  index = subst (λ n. n < total) a.index h.index;
-  least = sym a.least ∙ h.least;
-  most = sym a.most ∙ h.most;
-  count = ap length (sym a.cells) ∙ h.count;
-  values = λ lg k domain b.
-      let column = column_of (residue 0) (rows_for min words) k in
-      subst (λ i. same (get_or t.cells.items k (residue 0)) (value_at_index lg column i)) a.index
-      (subst (λ xs. same (get_or xs k (residue 0)) (value_at_index lg column s.index)) a.cells (h.values lg k domain b));
-}
+shard_alike words min total s t a h = grind arith
 
 each_alike : (words : List ℕ) (min total : ℕ) (xs ys : List Shard) → AllZip AreAlike xs ys → All (IsShardOf words min total) xs → All (IsShardOf words min total) ys
 each_alike words min total [] [] a h = h
@@ -126,18 +116,7 @@ alike_rows min total w indices cells (x ∷ xs) (y ∷ ys) h k =
     }
 
 rows_of : (min total : ℕ) (indices cells : List ℕ) (shards : List Shard) → AreWordShards min total indices cells shards → AreRows min total (length cells / length indices) indices cells shards
-rows_of min total indices cells shards h =
-    let many : length shards ≡ length indices = sym (length-map shards (λ (s : Shard). s.index)) ∙ ap length h.keys in
-    record {
-      keys = h.keys;
-      least = h.least;
-      most = h.most;
-      count = λ i d l.
-          let n : ℕ = length (get_or shards i d).cells.items in
-          let whole : length cells ≡ n * length indices = omega (arith, h.count i d l ∙ ap (λ m. m * n) many) in
-          sym (mul-div_cancel n (omega (arith, l, many))) ∙ ap (λ m. m / length indices) (sym whole);
-      rows = h.rows;
-    }
+rows_of min total indices cells shards h = grind (arith, length-map, mul-div_cancel)
 
 -- shards with the same words are alike
 alike_shards : (min total : ℕ) (indices cells : List ℕ) (xs ys : List Shard) → AreWordShards min total indices cells xs → AreWordShards min total indices cells ys → AllZip AreAlike xs ys
@@ -295,6 +274,4 @@ rising_few (x ∷ xs) n h b =
 -- so there is room for the positions where there is for all shards
 pub room_for_positions : (words positions : List ℕ) (min total : ℕ) (indices cells : List ℕ) (shards : List Shard) → AreWordShards min total indices cells shards
     → AreCorrected words positions shards → length positions ≤ length indices
-room_for_positions words positions min total indices cells shards are h =
-    let many : length shards ≡ length indices = sym (length-map shards (λ (t : Shard). t.index)) ∙ ap length are.keys in
-    omega (arith, many, rising_few positions (length shards) h.1.rising h.1.below)
+room_for_positions words positions min total indices cells shards are h = grind (arith, length-map, rising_few)

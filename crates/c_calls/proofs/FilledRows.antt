@@ -1,15 +1,12 @@
 -- Rows of which the filled ones alone are read: what is recovered and corrected of them is what is of all.
-use Rattle.std.proofs.Common.{◌≡◌, ◌∙◌, inl, inr, ℕ, ◌+◌, ◌*◌, ◌<◌, ◌≤◌, ◌==◌, List, ◌++◌, Bool, true, false, length, take, drop, get_or, All, refl, sym, ap, ap₂, subst, arith}
+use Rattle.std.proofs.Common.{◌≡◌, ◌∙◌, ℕ, ◌+◌, ◌*◌, ◌<◌, ◌≤◌, ◌==◌, List, ◌++◌, Bool, true, false, length, take, drop, get_or, All, sym, ap, subst, arith}
 use Rattle.std.proofs.lemmas.Bool.{cases_lt, eqb-true}
 use Rattle.std.proofs.lemmas.List.{get_or-append-add, get_or_append_left, get_or-drop, get_or-map, get_or-take, length-append, length-map}
 use Rattle.std.proofs.lemmas.Nat.{mul-add-lt}
-use Rattle.math_theory.specs.Coefficients.{coefficient}
 use Rattle.math_theory.specs.Powers.{power}
 use Rattle.math_theory.specs.Recovery.{Fits, count_true}
-use Rattle.math_theory.specs.Values.{value}
 use Rattle.math_fields.specs.declared.goldilocks.F.{F}
 use Rattle.math_fields.specs.Elements.{residue, root_of}
-use Rattle.math_base.specs.Polynomials.{value_in_ring}
 use Rattle.math_transforms.specs.DomainValues.{matrix_of}
 use Rattle.math_transforms.specs.Matrices.{MatrixOf, IsOfSize, cell_of, column_of}
 use Rattle.math_ntt.specs.CorrectedRows.{AgreesAtRow, AreWithinRadius, IsCorrected}
@@ -29,53 +26,23 @@ pub record AgreeWhereFilled (e f : EvaluationsOf F) : Type 0 where
   pub cells : (i k : ℕ) → k < e.matrix.cols → get_or e.filled i false ≡ true → cell_of (residue 0) e.matrix i k ≡ cell_of (residue 0) f.matrix i k
 
 pub agree_back : (e f : EvaluationsOf F) → AgreeWhereFilled e f → AgreeWhereFilled f e
-agree_back e f h = record {
-  rows = sym h.rows;
-  cols = sym h.cols;
-  filled = sym h.filled;
-  cells = λ i k m is. sym (h.cells i k (subst (λ n. k < n) (sym h.cols) m) (ap (λ bs. get_or bs i false) h.filled ∙ is));
-}
+agree_back e f h = grind arith
 
 -- what fits the one in a column fits the other
 fits_there : (e f : EvaluationsOf F) → AgreeWhereFilled e f → (w : F) (k : ℕ) (q : List F) → k < e.matrix.cols
     → Fits goldilocks.same goldilocks.zero goldilocks.sum goldilocks.product goldilocks.one w (column_of goldilocks.zero e.matrix k) e.filled q
     → Fits goldilocks.same goldilocks.zero goldilocks.sum goldilocks.product goldilocks.one w (column_of goldilocks.zero f.matrix k) f.filled q
-fits_there e f h w k q l fits = record {
-  agrees = λ j within is.
-      let below_f : j < f.matrix.rows = omega (arith, within, columns_are_full f.matrix k (residue 0)) in
-      let below_e : j < e.matrix.rows = omega (arith, below_f, h.rows) in
-      let is_e : get_or e.filled j false ≡ true = ap (λ bs. get_or bs j false) h.filled ∙ is in
-      let found = fits.agrees j (omega (arith, below_e, columns_are_full e.matrix k (residue 0))) is_e in
-      let cells : get_or (column_of (residue 0) e.matrix k) j (residue 0) ≡ get_or (column_of (residue 0) f.matrix k) j (residue 0) =
-      columns_hold_cells e.matrix j k (residue 0) (residue 0) below_e l ∙ h.cells j k l is_e
-      ∙ sym (columns_hold_cells f.matrix j k (residue 0) (residue 0) below_f (subst (λ n. k < n) h.cols l)) in
-      let v : F = value goldilocks.zero goldilocks.sum goldilocks.product goldilocks.one (power goldilocks.one goldilocks.product w j) q in
-      subst (λ (x : F). goldilocks.same v x) cells found;
-  zero_from = subst (λ (bs : List Bool). (i : ℕ) → count_true bs ≤ i → goldilocks.same (coefficient goldilocks.zero q i) goldilocks.zero) h.filled fits.zero_from;
-}
+fits_there e f h w k q l fits = grind (arith, columns_are_full, columns_hold_cells)
 
 -- the columns of the words, as far as rows are filled
 words_where_filled : (cols : ℕ) (cells bytes : List ℕ) (m : MatrixOf F) → IsOfSize m (length bytes) cols → length cells ≡ length bytes * cols
     → AreElementsWhereFilled cols cells bytes m.cells → AgreeWhereFilled (record { matrix = m; filled = truth bytes }) (word_evaluations cols cells bytes)
-words_where_filled cols cells bytes m size count h = record {
-  rows = size.0;
-  cols = size.1;
-  filled = refl;
-  cells = λ i k n is.
-      let below : i < length bytes = omega (arith, inside-true (truth bytes) i is, length-map bytes (λ b. b == 1)) in
-      let column : k < cols = omega (arith, n, size.1) in
-      let one : get_or bytes i 0 ≡ 1 = eqb-true (get_or bytes i 0) 1 (sym (get_or-map (λ b. b == 1) bytes i 0 false below) ∙ is) in
-      let place : i * cols + k < length cells = omega (arith, mul-add-lt i cols k (length bytes) below column, count) in
-      ap (λ c. get_or m.cells (i * c + k) (residue 0)) size.1 ∙ h i k below one column ∙ sym (get_or-map residue cells (i * cols + k) 0 (residue 0) place);
-}
+words_where_filled cols cells bytes m size count h = grind (arith, inside-true, length-map, eqb-true, get_or-map, mul-add-lt)
 
 -- the rows with zeros in place of the words that are not read
 pub read_where_filled : (cols : ℕ) (cells bytes : List ℕ) (items : List F) (e : EvaluationsOf F) → e.matrix ≡ matrix_of (length bytes) cols items → e.filled ≡ truth bytes
     → length cells ≡ length bytes * cols → length items ≡ length bytes * cols → AreElementsWhereFilled cols cells bytes items → AgreeWhereFilled e (word_evaluations cols cells bytes)
-read_where_filled cols cells bytes items e matrix filled count full h =
-    let read : MatrixOf F = matrix_of (length bytes) cols items in
-    let is : e ≡ record { matrix = read; filled = truth bytes } = ap₂ (λ m b. record { matrix = m; filled = b }) matrix filled in
-    subst (λ x. AgreeWhereFilled x (word_evaluations cols cells bytes)) (sym is) (words_where_filled cols cells bytes read (refl, refl, full) count h)
+read_where_filled cols cells bytes items e matrix filled count full h = grind (arith, words_where_filled)
 
 -- the numbers of the coefficients that are recovered from what is filled of the words
 pub recovered_filled : (cols : ℕ) (old bytes new : List ℕ) (e : EvaluationsOf F) (q : MatrixOf F) → HasRowsFor (length old) cols (length bytes) → All (λ b. b ≤ 1) bytes
@@ -96,25 +63,12 @@ recovered_filled cols old bytes new e q shape marks below agree size fits only w
 -- a value that agrees with a filled cell of the one agrees with that of the other
 agrees_there : (e f : EvaluationsOf F) → AgreeWhereFilled e f → (w : F) (i k : ℕ) (p : List F) → k < e.matrix.cols → get_or e.filled i false ≡ true
     → AgreesAtRow goldilocks w e.matrix i k p → AgreesAtRow goldilocks w f.matrix i k p
-agrees_there e f h w i k p l is a =
-    let v : F = value_in_ring goldilocks p (power goldilocks.one goldilocks.product w i) in
-    subst (λ (x : F). goldilocks.same v x) (h.cells i k l is) a
+agrees_there e f h w i k p l is a = grind arith
 
 -- what is within the radius of the one is within that of the other
 pub near_there : (e f : EvaluationsOf F) → AgreeWhereFilled e f → (w : F) (count : ℕ) (a : ℕ → List F) → AreWithinRadius goldilocks w e count a
     → AreWithinRadius goldilocks w f count a
-near_there e f h w count a near =
-    let among : (i : ℕ) → get_or near.right i false ≡ true → get_or f.filled i false ≡ true = λ i is. ap (λ bs. get_or bs i false) (sym h.filled) ∙ near.among i is in
-    record {
-      right = near.right;
-      marks = near.marks ∙ ap length h.filled;
-      among = among;
-      few = subst (λ (bs : List Bool). count_true bs + count ≤ count_true near.right + count_true near.right) h.filled near.few;
-      short = λ k l. near.short k (subst (λ n. k < n) (sym h.cols) l);
-      agree = λ i k l is.
-          let l_e : k < e.matrix.cols = subst (λ n. k < n) (sym h.cols) l in
-          agrees_there e f h w i k (a k) l_e (near.among i is) (near.agree i k l_e is);
-    }
+near_there e f h w count a near = grind arith
 
 -- what is corrected of the one is corrected of the other
 pub corrected_there : (e f : EvaluationsOf F) → AgreeWhereFilled e f → (w : F) (count : ℕ) (v : MatrixOf F) (rows : List ℕ) → IsCorrected goldilocks w e count v rows
@@ -148,21 +102,4 @@ pub record HoldFilled (cols i : ℕ) (cells bytes : List ℕ) (items : List F) :
 -- one row more
 pub hold_more : (cols i : ℕ) (cells bytes : List ℕ) (items part : List F) → length cells ≡ length bytes * cols → i < length bytes → length part ≡ cols
     → (get_or bytes i 0 ≡ 1 → part ≡ elements (take cols (drop (i * cols) cells))) → HoldFilled cols i cells bytes items → HoldFilled cols (i + 1) cells bytes (items ++ part)
-hold_more cols i cells bytes items part count l long is h = record {
-  count = omega (arith, length-append items part, h.count, long);
-  hold = λ j k m one n. elim (cases_lt j i) [
-    | inl before ↦
-        let place : j * cols + k < length items = omega (arith, mul-add-lt j cols k i before n, h.count) in
-        get_or_append_left items part (residue 0) (j * cols + k) place ∙ h.hold j k before one n
-    | inr after ↦
-        let e : j ≡ i = omega (arith, m, after) in
-        let row = take cols (drop (i * cols) cells) in
-        let same = is (ap (λ r. get_or bytes r 0) (sym e) ∙ one) in
-        let at : j * cols + k ≡ length items + k = ap (λ r. r * cols + k) e ∙ ap (λ r. r + k) (sym h.count) in
-        ap (λ r. get_or (items ++ part) r (residue 0)) at ∙ get_or-append-add items part k (residue 0)
-        ∙ ap (λ xs. get_or xs k (residue 0)) same
-        ∙ get_or-map residue row k 0 (residue 0) (omega (arith, n, long, ap length same, length-map row residue))
-        ∙ ap residue (get_or-take cols (drop (i * cols) cells) k 0 n ∙ get_or-drop (i * cols) cells k 0)
-        ∙ ap (λ r. residue (get_or cells (r * cols + k) 0)) (sym e)
-  ];
-}
+hold_more cols i cells bytes items part count l long is h = grind (arith, length-append, cases_lt, mul-add-lt, get_or_append_left, get_or-append-add, get_or-map, length-map, get_or-take, get_or-drop)

@@ -77,10 +77,7 @@ first_not_alone n l = elim (cases_Bool (is_alone n 0)) [
 
 -- one that has a neighbour is not the only one
 not_one : (n i : ℕ) → i < n → is_alone n i ≡ false → 2 ≤ n
-not_one n i within f = elim (cases_lt 1 n) [
-  | inl l ↦ omega (arith, l)
-  | inr g ↦ absurd (both_ways (is_alone n i) f (only_alone n i within (omega (arith, g))))
-]
+not_one n i within f = grind (arith, cases_lt, both_ways, only_alone)
 
 most-steps : (k n i : ℕ) → i < n → steps k n i ≤ steps k n 0
 unfolding steps

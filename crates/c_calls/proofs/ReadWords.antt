@@ -10,7 +10,6 @@ use Rattle.math_numbers.specs.Goldilocks.{P}
 use Rattle.math_codec.specs.Lists.{scan_items}
 use Rattle.math_fields.specs.ElementEncoding.{scan_element}
 use Rattle.math_fields.specs.ElementEncodingLaws.{element_again}
-use Rattle.math_splitting.specs.DataWords.{spelled_words}
 use Rattle.math_splitting.proofs.SpelledWords.{spelled-words}
 use Rattle.c_calls.specs.WordElements.{AreElements}
 use Rattle.c_calls.proofs.WrittenWords.{bytes_of}
@@ -25,9 +24,7 @@ one_read i word words eights d l m e h =
 -- where the bytes are those of the items, all words are these
 pub all_read : (i : ℕ) (words items bytes : List ℕ) (eights : List (List ℕ)) → length words ≤ i → length eights ≤ i → take i words ≡ map (from_be_bytes w64) (take i eights)
     → eights ≡ first_chunks 8 (length bytes / 8) bytes → AreElements items → bytes ≡ bytes_of items → words ≡ items
-all_read i words items bytes eights l m h chunks below e =
-    sym (take_all i words l) ∙ h ∙ ap (map (from_be_bytes w64)) (take_all i eights m ∙ chunks) ∙ ap spelled_words e
-    ∙ spelled-words items (λ k d n. let small = below k d n in omega (arith, small))
+all_read i words items bytes eights l m h chunks below e = grind (arith, take_all, spelled-words)
 
 -- one word below P more
 pub elements_pushed : (words : List ℕ) (word : ℕ) → AreElements words → word < P → AreElements (words ++ word ∷ [])

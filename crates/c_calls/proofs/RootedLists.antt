@@ -22,34 +22,12 @@ use Rattle.c_calls.specs.RootedShards.{AreGiven, ArePlaces, AreShardsIn, AreShar
 
 -- a place has its digests
 pub length-place : (room : ℕ) (others : List (List ℕ)) → length others ≤ room → length (place_of room others) ≡ room
-length-place room others l =
-    length-append others (replicate (room - length others) no_digest)
-    ∙ (let e = length-replicate (room - length others) no_digest in omega (arith, e, l))
+length-place room others l = grind (arith, length-append, length-replicate)
 
 -- one place more
 pub places-more : (room n : ℕ) (others : ℕ → List (List ℕ)) (digests : List (List ℕ)) → length (others n) ≤ room → ArePlaces room n others digests
     → ArePlaces room (n + 1) others (digests ++ place_of room (others n))
-places-more room n others digests l h =
-    let next = place_of room (others n) in
-    let long : length next ≡ room = length-place room (others n) l in
-    let turn : (n + 1) * room ≡ n * room + room = grind arith in
-    record {
-      count = length-append digests next ∙ (let c = h.count in omega (arith, c, long, turn));
-      each = λ i b. elim (cases_lt i n) as (λ _. take room (drop (i * room) (digests ++ next)) ≡ place_of room (others i)) [
-        | inl before ↦
-            let up : (i + 1) * room ≤ n * room = mul-le (i + 1) room n room (omega (arith, before)) (omega arith) in
-            let step : (i + 1) * room ≡ i * room + room = grind arith in
-            let c = h.count in
-            let within : i * room ≤ length digests = omega (arith, c, up, step) in
-            let left : room ≤ length (drop (i * room) digests) = let d = length-drop (i * room) digests in omega (arith, d, c, up, step) in
-            ap (λ xs. take room xs) (drop-append-le (i * room) digests next within) ∙ take-append-le room (drop (i * room) digests) next left ∙ h.each i before
-        | inr after ↦
-            let e : n ≡ i = omega (arith, after, b) in
-            let at : drop (n * room) (digests ++ next) ≡ next = ap (λ (k : ℕ). drop k (digests ++ next)) (sym h.count) ∙ drop-append_seam digests next in
-            subst (λ (k : ℕ). take room (drop (k * room) (digests ++ next)) ≡ place_of room (others k)) e
-            (ap (λ xs. take room xs) at ∙ take_all room next (omega (arith, long)))
-      ];
-    }
+places-more room n others digests l h = grind (arith, length-place, length-append, cases_lt, mul-le, drop-append-le, take-append-le, drop-append_seam, take_all)
 
 -- the same where a path was made as long as a place
 pub resized-place : (room n : ℕ) (others : ℕ → List (List ℕ)) (digests place new : List (List ℕ)) (count : ℕ) → place ≡ others n → length (others n) ≤ room

@@ -1,5 +1,5 @@
 -- Rows of systematic shards as bytes.
-use Rattle.std.proofs.Common.{◌≡◌, ◌≢◌, ◌∙◌, inl, inr, ℕ, ◌+◌, ◌-◌, ◌*◌, ◌<◌, ◌≤◌, ◌^◌, List, [], ◌∷◌, ◌++◌, length, take, drop, get_or, ap, ap₂, sym, subst, arith, length-drop, length-take}
+use Rattle.std.proofs.Common.{◌≡◌, ◌≢◌, ◌∙◌, inl, inr, ℕ, ◌+◌, ◌-◌, ◌*◌, ◌<◌, ◌≤◌, ◌^◌, List, [], ◌∷◌, ◌++◌, length, take, drop, get_or, ap, sym, subst, arith, length-drop, length-take}
 use Rattle.std.proofs.lemmas.Bool.{cases_lt}
 use Rattle.std.proofs.lemmas.List.{get_or-append_right, get_or_append_left, length_push}
 use Rattle.std.proofs.lemmas.Nat.{mul-le}
@@ -19,19 +19,7 @@ use Rattle.c_calls.specs.WordShards.{IsSplit}
 
 -- a split of these numbers is that of so many bytes
 pub split-of : (size least total : ℕ) (split : Split) → split.min ≡ least → split.total ≡ total → split.size ≡ size → IsSplitOf size least total split
-split-of size least total split few all bytes = record {
-  bytes = bytes;
-  needed = few;
-  all = all;
-  words = split.wide ∙ ap₂ width_of bytes few;
-}
-
--- it has room
-pub split-room : (size least total : ℕ) (split : Split) → IsSplitOf size least total split → HaveRoom least total (width_of size least)
-split-room size least total split is = (
-  subst (λ (m : ℕ). m * width_of size least < 2 ^ 31) is.needed (subst (λ (w : ℕ). split.min * w < 2 ^ 31) is.words split.few),
-  subst (λ (m : ℕ). m * width_of size least < 2 ^ 60) is.all (subst (λ (w : ℕ). split.total * w < 2 ^ 60) is.words split.all),
-)
+split-of size least total split few all bytes = grind arith
 
 -- and none is refused for another reason than that there is no room
 pub no-room : (size least total : ℕ) (e : Error) → IsSplit least total → IsSplitDue least total size e → ¬ (HaveRoom least total (width_of size least))
@@ -44,31 +32,13 @@ no-room size least total Word is due = absurd due
 no-room size least total Conflict is due = absurd due
 no-room size least total Inconsistent is due = absurd due
 
--- so many rows of the split are so many bytes
-pub rows-for : (size least total count n : ℕ) (split : Split) → IsSplitOf size least total split → n ≡ count * (8 * split.width) → HaveRowsFor size least total count n
-rows-for size least total count n split is e = (split-room size least total split is, e ∙ ap (λ (w : ℕ). count * (8 * w)) is.words)
-
 pub rows-of : (size least total count n : ℕ) (split : Split) → IsSplitOf size least total split → HaveRowsFor size least total count n → n ≡ count * (8 * split.width)
 rows-of size least total count n split is h = h.1 ∙ ap (λ (w : ℕ). count * (8 * w)) (sym is.words)
 
 -- one row more
 pub rows-more : (row : ℕ) (indices bytes : List ℕ) (n : ℕ) (rows : List (Row ℕ)) (next : Row ℕ) → next.index ≡ get_or indices n 0 → next.cells.now ≡ take row (drop (n * row) bytes)
     → AreRowsIn row indices bytes n rows → AreRowsIn row indices bytes (n + 1) (rows ++ next ∷ [])
-rows-more row indices bytes n rows next index cells h =
-    let old = λ (t : ℕ) (d : Row ℕ) (l : t < n). get_or_append_left rows (next ∷ []) d t (omega (arith, l, h.count)) in
-    let end = λ (t : ℕ) (d : Row ℕ) (e : n ≡ t).
-    get_or-append_right rows (next ∷ []) n t d h.count (omega (arith, e)) ∙ ap (λ i. get_or (next ∷ []) i d) (let z : t - n ≡ 0 = omega (arith, e) in z) in
-    record {
-      count = omega (arith, length_push rows next, h.count);
-      index = λ t d l. elim (cases_lt t n) as (λ _. (get_or (rows ++ next ∷ []) t d).index ≡ get_or indices t 0) [
-        | inl before ↦ ap (λ r. r.index) (old t d before) ∙ h.index t d before
-        | inr after ↦ let e : n ≡ t = omega (arith, after, l) in ap (λ r. r.index) (end t d e) ∙ index ∙ ap (λ i. get_or indices i 0) e
-      ];
-      cells = λ t d l. elim (cases_lt t n) as (λ _. (get_or (rows ++ next ∷ []) t d).cells.now ≡ take row (drop (t * row) bytes)) [
-        | inl before ↦ ap (λ r. r.cells.now) (old t d before) ∙ h.cells t d before
-        | inr after ↦ let e : n ≡ t = omega (arith, after, l) in ap (λ r. r.cells.now) (end t d e) ∙ cells ∙ ap (λ i. take row (drop (i * row) bytes)) e
-      ];
-    }
+rows-more row indices bytes n rows next index cells h = grind (arith, get_or_append_left, get_or-append_right, length_push, cases_lt)
 
 -- a row in hand has as many bytes as a row of the split
 pub row-length : (held : RowsInHand) (rows : List (Row ℕ)) → AreRowsOf held rows → (t : ℕ) (d : Row ℕ) → t < length rows → HasLength 1 held.code.split (get_or rows t d)

@@ -1,5 +1,5 @@
 -- From what is decoded of elements to the words that are written.
-use Rattle.std.proofs.Common.{◌≡◌, ℕ, ◌≤◌, ◌++◌, List, length, drop}
+use Rattle.std.proofs.Common.{arith, ◌≡◌, ℕ, ◌≤◌, ◌++◌, List, length, drop}
 use Rattle.math_theory.specs.Interpolation.{AreApart}
 use Rattle.math_fields.specs.declared.goldilocks.F.{F}
 use Rattle.math_fields.specs.Elements.{same}
@@ -11,13 +11,4 @@ use Rattle.c_calls.proofs.WordElements.{elements_of_numbers, numbers_below}
 pub decoded_words : (points values coefficients wrong wrong' : List ℕ) (items : List F) (places : List ℕ) (count k : ℕ) → AreElements points → AreElements values
     → AreApart same (elements points) → coefficients ≡ numbers items → k ≡ length coefficients → count ≡ length places → length places ≤ length wrong → wrong' ≡ places ++ drop count wrong
     → IsDecoded goldilocks (elements points) (elements values) k items places → AreDecodedWords points values coefficients wrong wrong' count
-decoded_words points values coefficients wrong wrong' items places count k below below' apart written many is room stand d = record {
-  points_below = below;
-  values_below = below';
-  apart = apart;
-  coefficients_below = rw written (numbers_below items);
-  places = places;
-  count_places = is;
-  stand = (room, rw is at stand);
-  decoded = rw (← many, written, elements_of_numbers items) d;
-}
+decoded_words points values coefficients wrong wrong' items places count k below below' apart written many is room stand d = grind (arith, numbers_below, elements_of_numbers)

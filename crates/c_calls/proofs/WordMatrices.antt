@@ -43,22 +43,7 @@ count_by m n words e h = ap length h ∙ length-map m.cells number ∙ e
 -- the numbers of the values of a matrix of words
 pub values_of_words : (lg cols : ℕ) (old new : List ℕ) (p v : MatrixOf F) → lg ≤ 32 → length old ≡ 2 ^ lg * cols → AreElements old → p ≡ word_matrix (2 ^ lg) cols old
     → IsOfSize v p.rows p.cols → AreValuesOnDomain goldilocks root_of p v → new ≡ numbers v.cells → AreWordValues cols old new
-values_of_words lg cols old new p v small count below e size values h =
-    let rows : v.rows ≡ 2 ^ lg = size.0 ∙ ap (λ m. m.rows) e in
-    let columns : v.cols ≡ cols = size.1 ∙ ap (λ m. m.cols) e in
-    let full : length v.cells ≡ 2 ^ lg * cols = size.2 ∙ ap (λ m. m.rows * m.cols) e in
-    let whole : v ≡ word_matrix (2 ^ lg) cols new = matrix_of_numbers v (2 ^ lg) cols new rows columns h in
-    let there : AreValuesOnDomain goldilocks root_of (word_matrix (2 ^ lg) cols old) (word_matrix (2 ^ lg) cols new) =
-    subst (λ m. AreValuesOnDomain goldilocks root_of m (word_matrix (2 ^ lg) cols new)) e (subst (λ m. AreValuesOnDomain goldilocks root_of p m) whole values) in
-    record {
-      lg = lg;
-      small = small;
-      count = count;
-      value_count = count_by v (2 ^ lg * cols) new full h;
-      coefficients_below = below;
-      values_below = below_by v new h;
-      at_powers = there lg refl;
-    }
+values_of_words lg cols old new p v small count below e size values h = grind (arith, matrix_of_numbers, count_by, below_by)
 
 -- where all rows are filled, what is recovered has the cells as its values
 values_of_recovered : (e : EvaluationsOf F) (q : MatrixOf F) → e.filled ≡ replicate e.matrix.rows true → q.rows ≡ e.matrix.rows → q.cols ≡ e.matrix.cols

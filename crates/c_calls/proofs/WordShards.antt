@@ -45,16 +45,4 @@ numbers_of_all (s ∷ shards) = map-append number s.cells.items (flat_map cells_
 -- the numbers of the cells of a split are its shards as words
 pub words_of_split : (words : List ℕ) (min total : ℕ) (shards : List Shard) (cells : List ℕ) → AreShardsOf words min total shards → cells ≡ numbers (flat_map cells_of shards)
     → AreWordsOfShards words min total cells
-words_of_split words min total shards cells h e =
-    let long : length cells ≡ length shards * width_for min words =
-    ap length e ∙ length-map (flat_map cells_of shards) number ∙ count_of_all (width_for min words) shards (λ i d l. (h.each i d l).count) in (
-      shards,
-      h,
-      record {
-        keys = h.indices;
-        least = λ i d l. (h.each i d l).least;
-        most = λ i d l. (h.each i d l).most;
-        count = λ i d l. long ∙ ap (λ w. length shards * w) (sym ((h.each i d l).count));
-        rows = sym (numbers_of_all shards) ∙ sym e;
-      },
-    )
+words_of_split words min total shards cells h e = grind (arith, length-map, count_of_all, numbers_of_all)

@@ -43,19 +43,7 @@ weight_words x points weights y p w x_below below e f g count at_point repeated 
 -- the numbers of the weights over powers of a root
 pub root_weight_words : (x total : ℕ) (indices weights : List ℕ) (y : F) (pairs : List (ℕ × F)) → x < P → AreRising total indices → y ≡ residue x → keys_of pairs ≡ indices
     → weights ≡ numbers (values_of pairs) → AreRootWeightsAt goldilocks root_of total y pairs → AreWordWeightsAtRoots x total indices weights
-root_weight_words x total indices weights y pairs x_below rising e keys g h =
-    let w : List F = values_of pairs in
-    let back : elements weights ≡ w = ap elements g ∙ elements_of_numbers w in
-    record {
-      x_below = x_below;
-      rising = rising;
-      weights_below = subst AreElements (sym g) (numbers_below w);
-      count = ap length g ∙ length-map w number ∙ length-map pairs (λ p. p.1) ∙ sym (length-map pairs (λ p. p.0)) ∙ ap length keys;
-      at_roots = λ lg next.
-          subst (λ v. AreWeightsAt goldilocks v (powers_at goldilocks (root_of lg) indices) (elements weights)) e
-          (subst (λ is. AreWeightsAt goldilocks y (powers_at goldilocks (root_of lg) is) (elements weights)) keys
-          (subst (AreWeightsAt goldilocks y (powers_at goldilocks (root_of lg) (keys_of pairs))) (sym back) (h lg next)));
-    }
+root_weight_words x total indices weights y pairs x_below rising e keys g h = grind (arith, elements_of_numbers, numbers_below, length-map)
 
 -- the numbers of the weights over points that are powers of a root
 pub power_weight_words : (x total lg : ℕ) (indices weights : List ℕ) (y : F) (p w : List F) → x < P → AreRising total indices → 0 < total → lg ≤ 32 → IsNextPowerOfTwo total (2 ^ lg)

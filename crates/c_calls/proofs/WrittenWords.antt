@@ -14,11 +14,4 @@ length-spelled front words h = length-append (length_spelling (length words)) (b
 pub polynomial_written : (from : ℕ) (front words old part new : List ℕ) → from ≡ length front → from + 8 * length words ≤ length old → front ≡ length_spelling (length words)
     → part ≡ front → new ≡ take from (part ++ drop from old) ++ bytes_of words ++ drop (from + 8 * length words) (part ++ drop from old)
     → StandInFront (polynomial_spelling words) old new
-polynomial_written from front words old part new e l h hp hn =
-    let long : length part ≡ from = ap length hp ∙ sym e in
-    let all : length (polynomial_spelling words) ≡ from + 8 * length words = omega (arith, length-spelled front words h) in (
-      omega (arith, all),
-      hn
-          ∙ ap₂ (λ xs ys. xs ++ bytes_of words ++ ys) (take_at part (drop from old) from long ∙ hp ∙ h) (drop-append-drop from old part (from + 8 * length words) (omega arith) long)
-          ∙ ap (λ n. polynomial_spelling words ++ drop n old) (sym all),
-    )
+polynomial_written from front words old part new e l h hp hn = grind (arith, length-spelled, take_at, drop-append-drop)

@@ -1,5 +1,5 @@
 -- What a test of two lists of truth values says.
-use Rattle.std.proofs.Common.{◌≡◌, ◌∙◌, Bool, true, false, not, List, true≢false, refl, sym}
+use Rattle.std.proofs.Common.{arith, ◌≡◌, ◌∙◌, Bool, true, false, not, List, refl}
 use Rattle.std.specs.Cmp.{booleans_Decides}
 use Rattle.std.specs.Cmp.Lexicographic.{pointwise}
 use Rattle.std.proofs.lemmas.Bool.{not-true, not-false}
@@ -12,6 +12,4 @@ equal-unless_differ a b h = (slice_eq-Decides booleans_Decides a b (pointwise be
 
 -- a test for a difference finds one
 pub different-where_true : (a b : List Bool) → not (pointwise beq a b) ≡ true → a ≡ b → ⊥
-different-where_true a b h e =
-    let equal : pointwise beq a b ≡ true = (slice_eq-Decides booleans_Decides a b (pointwise beq a b) refl).1 e in
-    true≢false (sym equal ∙ not-true (pointwise beq a b) h)
+different-where_true a b h e = grind (arith, slice_eq-Decides, not-true)

@@ -1,5 +1,5 @@
 -- From what is recovered of copies of cells, and counted apart, to the cells and to the work of the caller.
-use Rattle.std.proofs.Common.{◌≡◌, ◌∙◌, ℕ, suc, ◌+◌, ◌-◌, ◌*◌, ◌/◌, ◌^◌, ◌<◌, ◌≤◌, List, Bool, Option, Some, None, Result, Ok, Err, IfOk, IfSome, IfNone, OnOk, OnErr, length, min, subst, sym, arith}
+use Rattle.std.proofs.Common.{◌≡◌, ◌∙◌, ℕ, suc, ◌+◌, ◌-◌, ◌*◌, ◌/◌, ◌^◌, ◌<◌, ◌≤◌, List, Bool, length, min, subst, sym, arith}
 use Rattle.std.proofs.lemmas.List.Elements.{AllZip-get_or, length_all_zip}
 use Rattle.std.proofs.lemmas.Nat.{mul-add-lt}
 use Rattle.std.specs.List.{AllZip}
@@ -10,9 +10,8 @@ use Rattle.math_transforms.specs.DomainValues.{matrix_of}
 use Rattle.math_transforms.specs.Matrices.{MatrixOf}
 use Rattle.math_transforms.proofs.DomainSteps.{column-cell}
 use Rattle.math_transforms.proofs.MatrixRows.{length-column}
-use Rattle.math_transforms.proofs.PowersOfTwo.{power_of_two-same, power_of_two-word}
-use Rattle.math_ntt.specs.AddedWork.{AddsUpTo, HasRoom}
-use Rattle.math_ntt.proofs.AddedWork.{within-half}
+use Rattle.math_transforms.proofs.PowersOfTwo.{power_of_two-word}
+use Rattle.math_ntt.specs.AddedWork.{HasRoom}
 use Rattle.math_ntt.specs.RecoveredRows.{AreRecovered, IsExactWork, IsRefusedWork}
 use Rattle.math_ntt.proofs.RecoveryCounts.{whole-bound, whole-room}
 
@@ -29,12 +28,7 @@ pub record IsNone (z : WorkOf) : Type 0 where
   pub root_products : z.root_products ≡ 0
 
 pub added-within : (b p : ℕ) (z x v w : WorkOf) → IsNone z → AddsWithin b p z x → IsAdded v x w → AddsWithin b p v w
-added-within b p z x v w n h a = record {
-  no_fewer = a.no_fewer;
-  no_more = omega (arith, a.butterflies, h.no_more, n.butterflies);
-  no_fewer_products = a.no_fewer_products;
-  no_more_products = omega (arith, a.root_products, h.no_more_products, n.root_products);
-}
+added-within b p z x v w n h a = grind arith
 
 -- where there is room, all is added
 module _ (lg c : ℕ) (z x v w : WorkOf) (small : lg < 64) (fits : 2 ^ lg * c < 2 ^ 64) (n : IsNone z) (h : AddsWithin (2 ^ lg * lg * (3 * lg + 3 * c + 2)) (128 * 2 ^ lg) z x)
@@ -49,25 +43,10 @@ module _ (lg c : ℕ) (z x v w : WorkOf) (small : lg < 64) (fits : 2 ^ lg * c < 
 
   module _ {A : Type 0} (cells : List A) (m : MatrixOf A) (filled : List Bool) (rows : m.rows ≡ 2 ^ lg) (cols : c ≡ m.cols) where
     pub added-exact : IsExactWork lg (record { matrix = matrix_of (2 ^ lg) c cells; filled = filled }) z x → IsExactWork lg (record { matrix = m; filled = filled }) v w
-    added-exact exact = rw (rows, ← cols) (record {
-      none_or_all = λ o. let (s, t) = exact.none_or_all o in (omega (arith, s, all-butterflies, n.butterflies), omega (arith, t, all-root_products, n.root_products));
-      some = λ i j l. let (s, t) = exact.some i j l in (omega (arith, s, all-butterflies, n.butterflies), omega (arith, t, all-root_products, n.root_products));
-      no_fewer = λ i j. omega (arith, exact.no_fewer i j, all-butterflies, n.butterflies);
-    })
+    added-exact exact = grind (arith, all-butterflies, all-root_products)
 
     pub added-refused : IsRefusedWork lg (record { matrix = matrix_of (2 ^ lg) c cells; filled = filled }) z x → IsRefusedWork lg (record { matrix = m; filled = filled }) v w
-    added-refused refused = rw (rows, ← cols) (record {
-      none_or_all = λ o. let k = refused.none_or_all o in record {
-        no_fewer = a.no_fewer;
-        no_more = omega (arith, k.no_more, all-butterflies, n.butterflies);
-        root_products = omega (arith, k.root_products, all-root_products, n.root_products);
-      };
-      some = λ i j l. let k = refused.some i j l in record {
-        no_more = omega (arith, k.no_more, all-butterflies, n.butterflies);
-        no_more_products = omega (arith, k.no_more_products, all-root_products, n.root_products);
-        in_order = λ begun. omega (arith, k.in_order (omega (arith, begun, all-butterflies, n.butterflies)), all-root_products, n.root_products);
-      };
-    })
+    added-refused refused = grind (arith, all-butterflies, all-root_products)
 
 module _ {A : Type 0} where
   module _ (R : RingOf A) (E : IsEquality R.same) (root : ℕ → A) (lg c : ℕ) (filled : List Bool) (cells copies new : List A) where
@@ -98,69 +77,15 @@ module _ {A : Type 0} where
 
 -- the work of the recoveries until c of m rows are left: of one, of one more, and of all
 pub adds-once : (b p m : ℕ) (v w : WorkOf) → AddsWithin b p v w → AddsWithin ((1 + (m - m)) * b) ((1 + (m - m)) * p) v w
-adds-once b p m v w h = let e : m - m ≡ 0 = omega arith in rw e (record {
-  no_fewer = h.no_fewer;
-  no_more = omega (arith, h.no_more);
-  no_fewer_products = h.no_fewer_products;
-  no_more_products = omega (arith, h.no_more_products);
-})
+adds-once b p m v w h = grind arith
 
 one-more : (t s b : ℕ) → suc t ≤ s → t * b + b ≤ s * b
 one-more t s b l = grind (arith, l)
 
 pub adds-more : (b p m c d : ℕ) (u v w : WorkOf) → d < c → c ≤ m → AddsWithin ((1 + (m - c)) * b) ((1 + (m - c)) * p) u v → AddsWithin b p v w
     → AddsWithin ((1 + (m - d)) * b) ((1 + (m - d)) * p) u w
-adds-more b p m c d u v w l e h k = record {
-  no_fewer = omega (arith, h.no_fewer, k.no_fewer);
-  no_more = omega (arith, h.no_more, k.no_more, one-more (1 + (m - c)) (1 + (m - d)) b (omega (arith, l, e)));
-  no_fewer_products = omega (arith, h.no_fewer_products, k.no_fewer_products);
-  no_more_products = omega (arith, h.no_more_products, k.no_more_products, one-more (1 + (m - c)) (1 + (m - d)) p (omega (arith, l, e)));
-}
-
-no-more : (t s b : ℕ) → t ≤ s → t * b ≤ s * b
-no-more t s b l = grind (arith, l)
+adds-more b p m c d u v w l e h k = grind arith
 
 pub adds-few : (b p m c count : ℕ) (v w : WorkOf) → c ≤ m → m + count ≤ c + c → AddsWithin ((1 + (m - c)) * b) ((1 + (m - c)) * p) v w
     → AddsWithin (((m - count) / 2 + 1) * b) (((m - count) / 2 + 1) * p) v w
-adds-few b p m c count v w l few h =
-    let t : 1 + (m - c) ≤ (m - count) / 2 + 1 = omega (arith, l, few) in
-    record {
-      no_fewer = h.no_fewer;
-      no_more = omega (arith, h.no_more, no-more (1 + (m - c)) ((m - count) / 2 + 1) b t);
-      no_fewer_products = h.no_fewer_products;
-      no_more_products = omega (arith, h.no_more_products, no-more (1 + (m - c)) ((m - count) / 2 + 1) p t);
-    }
-
--- the bound for any lg of which the number of rows is the power
-pub several-at_any : (rows cols lg t : ℕ) (v w : WorkOf) → rows ≡ 2 ^ lg → AddsWithin (t * (2 ^ lg * lg * (3 * lg + 3 * cols + 2))) (t * (128 * 2 ^ lg)) v w
-    → (m : ℕ) → rows ≡ 2 ^ m → AddsUpTo (t * (rows * m * (3 * m + 3 * cols + 2)) / 2) (t * (128 * rows)) v w
-several-at_any rows cols lg t v w e h m f = rw (← power_of_two-same lg m (sym e ∙ f), e) (within-half _ _ v w h)
-
--- what holds at the lg of which a number is the power holds at any
-any-lg : (n lg : ℕ) (P : ℕ → Type 0) → n ≡ 2 ^ lg → P lg → (l : ℕ) → n ≡ 2 ^ l → P l
-any-lg n lg P e h l f = subst P (power_of_two-same lg l (sym e ∙ f)) h
-
-module _ {X E : Type 0} where
-  pub some-at_any : (r : Result (Option X) E) (n lg : ℕ) (P : X → ℕ → Type 0) → n ≡ 2 ^ lg → IfOk r (λ o. IfSome o (λ a. P a lg)) → IfOk r (λ o. IfSome o (λ a. (l : ℕ) → n ≡ 2 ^ l → P a l))
-  some-at_any (Ok (Some a)) n lg P e h = any-lg n lg (P a) e h
-  some-at_any (Ok None) n lg P e h = tt
-  some-at_any (Err _) n lg P e h = tt
-
-  pub some_if-at_any : (r : Result (Option X) E) (n lg : ℕ) (C : X → Type 0) (P : ℕ → Type 0) → n ≡ 2 ^ lg → IfOk r (λ o. IfSome o (λ a. C a → P lg))
-      → IfOk r (λ o. IfSome o (λ a. C a → (l : ℕ) → n ≡ 2 ^ l → P l))
-  some_if-at_any (Ok (Some a)) n lg C P e h = λ c. any-lg n lg P e (h c)
-  some_if-at_any (Ok None) n lg C P e h = tt
-  some_if-at_any (Err _) n lg C P e h = tt
-
-  pub none-at_any : (r : Result (Option X) E) (n lg : ℕ) (P : ℕ → Type 0) → n ≡ 2 ^ lg → IfOk r (λ o. IfNone o (P lg)) → IfOk r (λ o. IfNone o ((l : ℕ) → n ≡ 2 ^ l → P l))
-  none-at_any (Ok (Some _)) n lg P e h = tt
-  none-at_any (Ok None) n lg P e h = any-lg n lg P e h
-  none-at_any (Err _) n lg P e h = tt
-
-  pub ok-at_any : (r : Result X E) (n lg : ℕ) (P : ℕ → Type 0) → n ≡ 2 ^ lg → OnOk r (P lg) → OnOk r ((l : ℕ) → n ≡ 2 ^ l → P l)
-  ok-at_any (Ok _) n lg P e h = any-lg n lg P e h
-  ok-at_any (Err _) n lg P e h = tt
-
-  pub err-at_any : (r : Result X E) (n lg : ℕ) (P : ℕ → Type 0) → n ≡ 2 ^ lg → OnErr r (P lg) → OnErr r ((l : ℕ) → n ≡ 2 ^ l → P l)
-  err-at_any (Ok _) n lg P e h = tt
-  err-at_any (Err _) n lg P e h = any-lg n lg P e h
+adds-few b p m c count v w l few h = grind arith

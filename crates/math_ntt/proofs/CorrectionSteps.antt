@@ -1,5 +1,5 @@
 -- Rows that are dropped because they are wrong for every answer, and what is recovered from the rows that are left.
-use Rattle.std.proofs.Common.{◌≡◌, ◌∙◌, inl, inr, ℕ, ◌+◌, ◌*◌, ◌<◌, ◌≤◌, List, Bool, true, false, not, length, take, get_or, refl, sym, subst, true≢false, arith}
+use Rattle.std.proofs.Common.{◌≡◌, ◌∙◌, inl, inr, ℕ, ◌+◌, ◌*◌, ◌<◌, ◌≤◌, List, Bool, true, false, not, length, take, get_or, sym, subst, arith}
 use Rattle.std.proofs.lemmas.Bool.{cases_Bool, cases_lt, not_from_false, not-true}
 use Rattle.std.proofs.lemmas.List.{get_or_default, get_or_past, get_or-take, length-take}
 use Rattle.std.proofs.lemmas.List.Elements.{All-filter, filter_passes}
@@ -35,11 +35,7 @@ module _ {A : Type 0} (R : RingOf A) (w : A) (e : EvaluationsOf A) (count : ℕ)
         → (k : ℕ) × (k < e.matrix.cols) × ((a : ℕ → List A) → AreWithinRadius R w e count a → ¬ (AgreesAtRow R w e.matrix i k (a k)))
 
   pub dropped-begun : AreDropped e.filled
-  dropped-begun = record {
-    marks = refl;
-    among = λ i t. t;
-    dropped = λ i t f. absurd (true≢false (sym t ∙ f));
-  }
+  dropped-begun = grind arith
 
   dropped-right : (left : List Bool) (a : ℕ → List A) → AreDropped left → (h : AreWithinRadius R w e count a) → AreAmong h.right left
   dropped-right left a d h i t = elim (cases_Bool (get_or left i false)) [
@@ -131,10 +127,7 @@ module _ {A : Type 0} (R : RingOf A) (w : A) (e : EvaluationsOf A) (count : ℕ)
         cut k = take count (column k)
 
         same-cut : (k : ℕ) → k < e.matrix.cols → HaveSameCoefficients R.same R.zero (cut k) (column k)
-        same-cut k l i = elim (cases_lt i count) [
-          | inl b ↦ rw (get_or-take count (column k) i R.zero b) (E.reflexive _)
-          | inr b ↦ rw (get_or_past (cut k) i R.zero (omega (arith, b, length-take count (column k)))) (E.symmetric _ _ (zeros k i l (omega (arith, b))))
-        ]
+        same-cut k l i = grind (arith, cases_lt, get_or-take, get_or_past, length-take)
 
         within : AreWithinRadius R w e count cut
         within = record {

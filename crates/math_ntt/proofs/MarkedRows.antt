@@ -79,9 +79,7 @@ pub place-marked : (bs : List Bool) (j : ℕ) → j < count_true bs → get_or b
 place-marked bs j l = ap (λ i. get_or bs i false) (place-number bs j l) ∙ (filled_place-true bs j l).1
 
 pub rising-places : (bs : List Bool) → IsStrictlyIncreasing (filled_places bs)
-rising-places bs k l =
-    let m : k + 1 < count_true bs = omega (arith, l, length-places bs) in
-    rw (place-number bs k (omega (arith, m)), place-number bs (k + 1) m) (filled_place-rise bs k m)
+rising-places bs k l = grind (arith, length-places, place-number, filled_place-rise)
 
 -- the truth values of bs at the places that cs marks
 pub items-at_places : (bs cs : List Bool) (j : ℕ) → length bs ≡ length cs → j < count_true cs → get_or (filled_items bs cs) j false ≡ get_or bs (get_or (filled_places cs) j 0) false

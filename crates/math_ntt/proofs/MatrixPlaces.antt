@@ -22,14 +22,7 @@ same_place i j k l c h g e =
 
 -- a place in another row stands before row i, or from its end on
 other_row : (i j l c n : ℕ) → n ≤ c → l < c → (j ≡ i → n ≤ l) → (j * c + l < i * c) ⊎ (i * c + n ≤ j * c + l)
-other_row i j l c n small h apart =
-    elim (cases_lt j i) [
-      | inl below ↦ inl (omega (arith, mul-add-lt j c l i below h))
-      | inr above ↦ elim (cases_lt i j) [
-        | inl beyond ↦ let all : i * c + c ≤ j * c = row-within i j c beyond in inr (omega arith)
-        | inr same ↦ let e : j ≡ i = omega arith in let f : j * c ≡ i * c = ap (λ n. n * c) e in let g : n ≤ l = apart e in inr (omega arith)
-      ]
-    ]
+other_row i j l c n small h apart = grind (arith, cases_lt, mul-add-lt, row-within)
 
 -- what is not below n is n or more
 beyond : (n l : ℕ) → (l < n → ⊥) → n ≤ l
@@ -77,9 +70,7 @@ module _ {A : Type 0} where
   rows_are_listed m i d h = piece-at m.rows m.cols m.cells i d h
 
   pub rows_are_full : RowsAreFull A
-  rows_are_full m i full h =
-      let all : i * m.cols + m.cols ≤ m.rows * m.cols = row-within i m.rows m.cols h in
-      length-take-le m.cols (drop (i * m.cols) m.cells) (omega (arith, length-drop (i * m.cols) m.cells, full))
+  rows_are_full m i full h = grind (arith, row-within, length-take-le, length-drop)
 
   pub rows_hold_cells : RowsHoldCells A
   rows_hold_cells m i k d h = get_or-take m.cols (drop (i * m.cols) m.cells) k d h ∙ get_or-drop (i * m.cols) m.cells k d
@@ -104,18 +95,7 @@ module _ {A : Type 0} where
   -- items in place of the first n cells of a row
   first_cells_written : (m : MatrixOf A) (i n : ℕ) (items cells : List A) → cells ≡ between (i * m.cols) items m.cells → length items ≡ n → IsFull m → i < m.rows → n ≤ m.cols
       → ((k : ℕ) (d : A) → k < n → get_or cells (i * m.cols + k) d ≡ get_or items k d) × DiffersInRow m (record m { cells = cells }) i (λ l. l < n)
-  first_cells_written m i n items cells is count full h few =
-      let c = m.cols in
-      let all : i * c + c ≤ m.rows * c = row-within i m.rows c h in
-      let within : i * c + length items ≤ length m.cells = omega arith in
-      rw is (
-        λ k d l. between-written (i * c) items m.cells within d k (omega arith),
-        record {
-          size = (refl, refl, length-between (i * c) items m.cells within ∙ full);
-          others = λ d j l g f apart. between-other (i * c) items m.cells within d (j * c + l)
-              (other_row i j l c (length items) (omega arith) f (λ e. beyond (length items) l (λ b. apart e (omega arith))));
-        },
-      )
+  first_cells_written m i n items cells is count full h few = grind (arith, row-within, between-written, length-between, between-other, other_row)
 
   pub rows_are_written_alone : RowsAreWrittenAlone A
   rows_are_written_alone m i row full h e =

@@ -23,9 +23,7 @@ module _ {A : Type 0} (R : RingOf A) (E : IsEquality R.same) where
   -- value j is at power j of the root
   value-at : (root : ℕ → A) (lg : ℕ) (a v : List A) → length a ≡ 2 ^ lg → AreValuesOnDomain R root (one_column a) (one_column v)
       → (j : ℕ) → j < 2 ^ lg → R.same (get_or v j R.zero) (value_in_ring R a (power R.one R.product (root lg) j))
-  value-at root lg a v e h j l =
-      let at : j * 1 + 0 ≡ j = omega arith in
-      rw (at, only_column a) at (h lg e j 0 (omega (arith, e)) (omega arith))
+  value-at root lg a v e h j l = grind (arith, only_column)
 
   pub values-once : (root : ℕ → A) → HasOneValues R root
   values-once root lg a v w e h k j l = E.transitive _ _ _ (value-at root lg a v e h j l) (E.symmetric _ _ (value-at root lg a w e k j l))

@@ -1,5 +1,5 @@
 -- The columns of a matrix that is filled up with rows of zeros.
-use Rattle.std.proofs.Common.{◌≡◌, ◌∙◌, inl, inr, ℕ, suc, ◌+◌, ◌-◌, ◌*◌, ◌/◌, ◌^◌, ◌<◌, ◌≤◌, List, length, get_or, max, ap, refl, sym, arith, pow_mono, pow_pos}
+use Rattle.std.proofs.Common.{◌≡◌, ◌∙◌, inl, inr, ℕ, suc, ◌+◌, ◌-◌, ◌*◌, ◌/◌, ◌^◌, ◌<◌, ◌≤◌, List, length, get_or, max, refl, arith, pow_mono, pow_pos}
 use Rattle.std.specs.Int.{IsNextPowerOfTwo}
 use Rattle.std.specs.List.{AllZip}
 use Rattle.std.proofs.lemmas.Bool.{cases_lt}
@@ -28,11 +28,7 @@ exponent-below n i j h k =
 
 -- there is only one such power of two
 pub next_power_of_two-once : (n p q : ℕ) → IsNextPowerOfTwo n p → IsNextPowerOfTwo n q → p ≡ q
-next_power_of_two-once n p q h k =
-    let low : n ≤ 2 ^ h.0.0 = rw (← h.0.1) h.1 in
-    let i : k.0.0 ≤ h.0.0 = exponent-below n h.0.0 k.0.0 low (rw (← k.0.1) k.2) in
-    let j : h.0.0 ≤ k.0.0 = exponent-below n k.0.0 h.0.0 (rw (← k.0.1) k.1) (rw (← h.0.1) h.2) in
-    h.0.1 ∙ ap (λ e. 2 ^ e) (let e : h.0.0 ≡ k.0.0 = omega (arith, i, j) in e) ∙ sym k.0.1
+next_power_of_two-once n p q h k = grind (arith, exponent-below)
 
 module _ {A : Type 0} {same : A → A → Type 0} (E : IsEquality same) (zero_of : A) where
   -- each place holds the same cell, or zero where there is none

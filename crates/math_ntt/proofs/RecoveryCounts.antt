@@ -1,17 +1,13 @@
 -- What a recovery counts: the tree, and the transforms.
-use Rattle.std.proofs.Common.{◌≡◌, ℕ, zero, suc, ◌+◌, ◌-◌, ◌*◌, ◌^◌, ◌<◌, ◌≤◌, mul-le-mul, arith}
+use Rattle.std.proofs.Common.{◌≡◌, ℕ, zero, suc, ◌+◌, ◌-◌, ◌*◌, ◌^◌, ◌<◌, ◌≤◌, arith}
 use Rattle.math_transforms.proofs.PowersOfTwo.{power_of_two-word}
 use Rattle.math_transforms.proofs.TreeCounts.{merges-room}
 
 pub transform-room : (lg c : ℕ) → lg < 64 → 2 ^ lg * c < 2 ^ 64 → c * 2 ^ lg * lg ≤ 2 ^ 70
-transform-room lg c h l =
-    let a : c * 2 ^ lg * lg ≤ 2 ^ 64 * 64 = mul-le-mul (let m : c * 2 ^ lg ≤ 2 ^ 64 = omega arith in m) (let m : lg ≤ 64 = omega arith in m) in
-    omega arith
+transform-room lg c h l = grind arith
 
 pub column-room : (lg : ℕ) → lg < 64 → 2 ^ lg * lg ≤ 2 ^ 70
-column-room lg h =
-    let a : 2 ^ lg * lg ≤ 2 ^ 63 * 64 = mul-le-mul (power_of_two-word lg h) (let l : lg ≤ 64 = omega arith in l) in
-    omega arith
+column-room lg h = grind (arith, power_of_two-word)
 
 -- the bound of a whole recovery: of the tree, and of the division
 pub whole-bound : (lg c : ℕ) → 2 ^ lg * lg * (3 * lg - 1) + (3 * c + 3) * 2 ^ lg * lg ≡ 2 ^ lg * lg * (3 * lg + 3 * c + 2)
@@ -25,9 +21,7 @@ whole-bound (suc k) c =
 
 -- all that is added is far below 2^127
 pub whole-room : (lg c : ℕ) → lg < 64 → 2 ^ lg * c < 2 ^ 64 → 2 ^ lg * lg * (3 * lg - 1) + (3 * c + 3) * 2 ^ lg * lg < 2 ^ 100
-whole-room lg c h l =
-    let split : (3 * c + 3) * 2 ^ lg * lg ≡ 3 * (c * 2 ^ lg * lg) + 3 * (2 ^ lg * lg) = omega arith in
-    omega (arith, merges-room lg h, transform-room lg c h l, column-room lg h)
+whole-room lg c h l = grind (arith, merges-room, transform-room, column-room)
 
 -- where some points are filled and some are not, there are two points or more
 pub some_levels : (lg filled missing : ℕ) → filled + missing ≡ 2 ^ lg → 0 < filled → 0 < missing → 0 < lg

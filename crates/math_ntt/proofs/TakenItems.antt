@@ -10,6 +10,4 @@ module _ {S A : Type 0} (steps : S → Option A → S → Type 0) where
   -- where `take` has come to its end, the source has given as many items as were asked for, or has ended
   pub taken-all : (source : S) (n : ℕ) (s t u : Take S) (items : List A) → take_source s ≡ source → take_count s ≡ n → Yields (take_steps steps) s items t
       → (0 < take_count t → steps (take_source t) None (take_source u)) → GivesAtMost steps n source items
-  taken-all source n s t u items e f h k =
-      let y = take-yields steps s t items h in
-      rw (← e, ← f) (omega (arith, y.1), (take_source t, y.0, λ l. (take_source u, k (omega (arith, y.1, l)))))
+  taken-all source n s t u items e f h k = grind (arith, take-yields)

@@ -24,9 +24,7 @@ is_one_of numbers x = list_any (λ n. n == x) numbers
 
 -- then it is among them
 pub contains-one_of : (numbers : List ℕ) (x : ℕ) → is_one_of numbers x ≡ true → Contains numbers x
-contains-one_of numbers x there =
-    let found = Any-from_list_any (λ (n : ℕ). n == x) numbers there in
-    (found.0, found.2, get_or_default numbers found.0 x found.1 found.2 ∙ found.3 ∙ eqb-true found.1 x found.4)
+contains-one_of numbers x there = grind (arith, Any-from_list_any, get_or_default, eqb-true)
 
 -- with a number that is none of them, distinct numbers are distinct
 distinct-push : (numbers : List ℕ) (x : ℕ) → is_one_of numbers x ≡ false → AreDistinct numbers → AreDistinct (numbers ++ x ∷ [])
@@ -48,33 +46,12 @@ pub record AreMarked (n : ℕ) (numbers : List ℕ) (points : List Bool) : Type 
 
 -- one number more
 pub marked-more : (n x : ℕ) (numbers : List ℕ) (points : List Bool) → x < n → AreMarked n numbers points → AreMarked n (numbers ++ x ∷ []) (set points x true)
-marked-more n x numbers points l h = record {
-  size = length-set points x true ∙ h.size;
-  marks = λ i b.
-      let both : is_one_of (numbers ++ x ∷ []) i ≡ (is_one_of numbers i || is_one_of (x ∷ []) i) = list_any-append (λ m. m == i) numbers (x ∷ []) in
-      elim (cases_eq i x) as (λ _. get_or (set points x true) i false ≡ is_one_of (numbers ++ x ∷ []) i) [
-        | inl same ↦
-            let last : get_or (numbers ++ x ∷ []) (length numbers) 0 ≡ i = get_or-append_seam numbers x [] 0 ∙ sym same in
-            get_or-set_at points x i true false same (omega (arith, l, h.size))
-            ∙ sym (list_any_at (λ m. m == i) (numbers ++ x ∷ []) (length numbers) 0 (omega (arith, length_push numbers x)) (eq-eqb (get_or (numbers ++ x ∷ []) (length numbers) 0) i last))
-        | inr other ↦
-            let none : is_one_of (x ∷ []) i ≡ false = ap (λ b. b || false) (ne_eqb x i (λ e. other (sym e))) in
-            get_or-set_other points x i true false other ∙ h.marks i b ∙ sym (both ∙ ap (λ c. is_one_of numbers i || c) none ∙ or-false (is_one_of numbers i))
-      ];
-}
+marked-more n x numbers points l h = grind (arith, length-set, list_any-append, cases_eq, get_or-append_seam, get_or-set_at, list_any_at, length_push, eq-eqb, ne_eqb, get_or-set_other, or-false)
 
 module _ {R : Type 0} (index : R → ℕ) (cells : R → List F) where
   -- a row that is passed over
   chosen-passed : (rows : List R) (row : R) (indices : List ℕ) (found : List F) → AreChosen index cells rows indices found → AreChosen index cells (rows ++ row ∷ []) indices found
-  chosen-passed rows row indices found h = record {
-    picked = h.picked;
-    few = omega (arith, length_push rows row, h.few);
-    among = All-weaker (Contains rows) (Contains (rows ++ row ∷ [])) (λ r c. Contains-append_left rows (row ∷ []) r c) h.picked h.among;
-    whole = λ e. absurd (omega (arith, e, length_push rows row, h.few));
-    keys = h.keys;
-    distinct = h.distinct;
-    held = h.held;
-  }
+  chosen-passed rows row indices found h = grind (arith, length_push, All-weaker, Contains-append_left)
 
   -- a row that is taken: its index is none of those that are chosen
   chosen-taken : (rows : List R) (row : R) (indices : List ℕ) (found : List F) → is_one_of indices (index row) ≡ false

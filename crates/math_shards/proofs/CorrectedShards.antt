@@ -122,9 +122,7 @@ module _ (lg : ℕ) (first : Shard) (shards : List Shard) (e : EvaluationsOf F) 
     total_of = sym (c.numbers 0 first r.some).most ∙ (r.sound 0 first r.some).0.most
 
     pub each_right : All (IsShardOf words first.min first.total) (right_of words shards c)
-    each_right =
-        subst (λ n. All (IsShardOf words n first.total) (right_of words shards c)) least_of
-        (subst (λ t. All (IsShardOf words c.min t) (right_of words shards c)) total_of (right_each words shards c))
+    each_right = grind (arith, least_of, total_of, right_each)
 
     pub width_of : width_for first.min words ≡ length first.cells.items
     width_of = ap (λ n. width_for n words) (sym least_of) ∙ sym (c.numbers 0 first r.some).count ∙ (r.sound 0 first r.some).0.count

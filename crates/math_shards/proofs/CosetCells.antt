@@ -34,11 +34,7 @@ begun-at n from m k elements cells items e l b =
 -- the first row is that of the elements
 pub multiples-first : (elements : List F) (width from c : ℕ) (ratio : F) (cells : List F) → ((k : ℕ) → k < c → get_or cells k nought ≡ get_or elements (from + k) nought)
     → HoldMultiples elements width from c ratio 1 cells
-multiples-first elements width from c ratio cells copied = λ r k a b.
-    let none : r ≡ 0 = omega arith in
-    let place : 0 * c + k ≡ k = omega arith in
-    let at : 0 * width + from + k ≡ from + k = omega arith in
-    rw (none, place, at, raised-none ratio) (ap number (copied k b) ∙ sym (product-one (get_or elements (from + k) nought)))
+multiples-first elements width from c ratio cells copied = grind (arith, raised-none, product-one)
 
 -- a cell of a row of multiples
 pub multiple_at : (elements row : List F) (at m k : ℕ) (factor x : F) → AreMultiples (take m (drop at elements)) factor row → k < m → k < length row → same factor x
@@ -93,6 +89,4 @@ pub coset_valued : (elements : List F) (min width from c lg : ℕ) (ratio : F) (
     → ((k : ℕ) → k < c → (i : ℕ) → same (get_or (column_of nought (matrix_of (2 ^ lg) c cells) k) i nought)
     (product (get_or (column_of nought (matrix_of min width elements) (from + k)) i nought) (raised ratio i)))
     → AreValuesAtPowers goldilocks (root_of lg) (matrix_of (2 ^ lg) c cells) (matrix_of (2 ^ lg) c new) → AreCosetValues (matrix_of min width elements) from c ratio lg new
-coset_valued elements min width from c lg ratio cells new columns values = λ t k a b.
-    values t k a b
-    ∙ dilated_values (raised (root_of lg) t) ratio (column_of nought (matrix_of min width elements) (from + k)) (column_of nought (matrix_of (2 ^ lg) c cells) k) (columns k b)
+coset_valued elements min width from c lg ratio cells new columns values = grind (arith, dilated_values)

@@ -80,11 +80,7 @@ module _ {R : Type 0} (index : R → ℕ) (cells_of : R → List F) (rows : List
       → All (λ row. index row % 2 ^ s ≡ start → HasValuesFrom total m from c (index row) (cells_of row)) rows
       → All (λ row. index row % 2 ^ s < start → HasValuesFrom total m from c (index row) (cells_of row)) rows
       → All (λ row. index row % 2 ^ s < start + 1 → HasValuesFrom total m from c (index row) (cells_of row)) rows
-  coset-more s total start m from c here before = λ k d l less.
-      elim (cases_lt (index (get_or rows k d) % 2 ^ s) start) [
-        | inl b ↦ before k d l b
-        | inr b ↦ here k d l (omega (arith, less, b))
-      ]
+  coset-more s total start m from c here before = grind arith
 
   -- rows whose first values are those of the columns, and the next ones too
   pub values-more : (lg : ℕ) (m : MatrixOf F) (from c : ℕ) → All (λ row. HasFirstValues lg m from (index row) (cells_of row)) rows

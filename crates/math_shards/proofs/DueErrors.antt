@@ -6,7 +6,7 @@ use Rattle.std.proofs.lemmas.List.Elements.{All-head, All-tail}
 use Rattle.math_shards.specs.declared.shards.Error.{Error}
 use Rattle.math_shards.specs.declared.shards.Error.TheVariants.{Memory, TooFew, Mismatch, Index, Conflict, Inconsistent}
 use Rattle.math_splitting.specs.declared.shards.Shard.{Shard}
-use Rattle.math_shards.specs.Joining.{HasUnsound, HaveConflict, IsDueBeside, IsDueFor, IsDueOfRows, IsMemory, IsSound, IsUnsound, Matches, RefusesWhereDue}
+use Rattle.math_shards.specs.Joining.{HasUnsound, HaveConflict, IsDueBeside, IsDueFor, IsDueOfRows, IsMemory, IsSound, Matches, RefusesWhereDue}
 use Rattle.math_splitting.specs.Shards.{JoinTo, distinct_indices}
 use Rattle.math_shards.proofs.JoinedRows.{distinct_of_shards, fit_of_join, items_in, key_of}
 use Rattle.math_shards.proofs.JoinedShards.{joined_first, joined_no_conflict, joined_some, joined_sound}
@@ -39,10 +39,7 @@ first_unsound first (b ∷ before) s after (o ∷ others) t rest e h k p q =
 
 -- it has other numbers, or an index out of range, and not both
 one_fault : (first : Shard) (shards : List Shard) → HasUnsound first (λ s. ¬ (Matches first s)) shards → ¬ (HasUnsound first (λ s. Matches first s × (s.total ≤ s.index)) shards)
-one_fault first shards h k =
-    let e : h.found ≡ k.found = first_unsound first h.before h.found h.after k.before k.found k.after (sym h.parts ∙ k.parts) h.sound k.sound
-    (mismatched first h.found h.fault) (out_of_range first k.found k.fault) in
-    h.fault (subst (Matches first) (sym e) k.fault.0)
+one_fault first shards h k = grind (arith, first_unsound, out_of_range)
 
 -- what a conflict is, how many indices below a number count, and which words are data of shards
 module _ (conflict : List Shard → Type 0) (indices : ℕ → List Shard → ℕ) (data_of : List ℕ → List Shard → Type 0) where
@@ -51,15 +48,6 @@ module _ (conflict : List Shard → Type 0) (indices : ℕ → List Shard → �
 
   abbrev DueBeside : Shard → List Shard → Error → Type 0
   DueBeside first shards = IsDueBeside (conflict shards) (indices first.total shards) (λ words. data_of words shards) first shards
-
-  -- a shard that is not sound is due
-  pub unsound_due : (first : Shard) (shards : List Shard) (e : Error) → IsUnsound first shards e → DueBeside first shards e
-  unsound_due first shards (Memory a) h = tt
-  unsound_due first shards TooFew h = absurd h
-  unsound_due first shards Mismatch h = h
-  unsound_due first shards Index h = h
-  unsound_due first shards Conflict h = absurd h
-  unsound_due first shards Inconsistent h = absurd h
 
   -- want of memory always is
   pub memory_due : (first : Shard) (shards : List Shard) (e : Error) → IsMemory e → DueBeside first shards e

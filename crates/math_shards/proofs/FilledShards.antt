@@ -25,9 +25,7 @@ index_there shards k d l = list_any_at (λ (s : Shard). eqb s.index (get_or shar
 
 -- no number from n on is one, where all are below n
 pub index_past : (n : ℕ) (shards : List Shard) → All (λ s. s.index < n) shards → (i : ℕ) → n ≤ i → has_index shards i ≡ false
-index_past n shards h i l =
-    list_any_none (λ (s : Shard). eqb s.index i) shards
-    (All-weaker (λ (s : Shard). s.index < n) (λ (s : Shard). eqb s.index i ≡ false) (λ s b. ne_eqb s.index i (λ e. omega (arith, b, l, e))) shards h)
+index_past n shards h i l = grind (arith, list_any_none, All-weaker, ne_eqb)
 
 -- the indices of sound shards are below `total`
 pub indices_below : (first : Shard) (shards : List Shard) → All (IsSound first) shards → All (λ s. s.index < first.total) shards

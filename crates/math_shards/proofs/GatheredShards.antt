@@ -55,9 +55,7 @@ index_elsewhere shards n s j l e apart = elim (cases_Bool (s.index == j)) [
 
 -- the index of an earlier shard is among the indices
 index_before : (shards : List Shard) (n p : ℕ) (d : Shard) → p < n → n ≤ length shards → has_index (take n shards) (get_or shards p d).index ≡ true
-index_before shards n p d l m =
-    list_any_at (test (get_or shards p d).index) (take n shards) p d (omega (arith, l, m, length-take-le n shards m))
-    (ap (λ (t : Shard). t.index == (get_or shards p d).index) (get_or-take n shards p d l) ∙ eq-eqb (get_or shards p d).index (get_or shards p d).index refl)
+index_before shards n p d l m = grind (arith, list_any_at, length-take-le, get_or-take, eq-eqb)
 
 module _ (lg width : ℕ) (first : Shard) (shards : List Shard) (domain : first.total ≤ 2 ^ lg) (wide : length first.cells.items ≡ width) (sound : All (IsSound first) shards) where
   below : (p : ℕ) (d : Shard) → p < length shards → (get_or shards p d).index < 2 ^ lg
@@ -68,12 +66,7 @@ module _ (lg width : ℕ) (first : Shard) (shards : List Shard) (domain : first.
 
   -- no shard yet, and no row that is filled
   pub holds_none : (e : EvaluationsOf F) → IsOfSize e.matrix (2 ^ lg) width → e.filled ≡ replicate (2 ^ lg) false → HoldsFirst lg width shards 0 e
-  holds_none e size filled = record {
-    size = size;
-    places = rw filled (length-replicate (2 ^ lg) false);
-    marks = λ j l. rw filled (get_or-replicate (2 ^ lg) j false false l);
-    cells = λ p d l. absurd (omega (arith, l));
-  }
+  holds_none e size filled = grind (arith, length-replicate, get_or-replicate)
 
   -- one shard more
   pub holds_more : (n : ℕ) (s : Shard) (e f : EvaluationsOf F) → HoldsFirst lg width shards n e → n < length shards → s ≡ get_or shards n s
@@ -114,21 +107,11 @@ module _ (lg width : ℕ) (first : Shard) (shards : List Shard) (domain : first.
   -- the row of an earlier shard holds its cells
   row_at : (n : ℕ) (e : EvaluationsOf F) → HoldsFirst lg width shards n e → n ≤ length shards → (p : ℕ) (d : Shard) → p < n
       → AllZip same (row_of e.matrix (get_or shards p d).index) (get_or shards p d).cells.items
-  row_at n e h m p d l =
-      let row : ℕ = (get_or shards p d).index in
-      let there : p < length shards = omega (arith, l, m) in
-      let count : length (row_of e.matrix row) ≡ e.matrix.cols = rows_are_full e.matrix row (rw (h.size.0, h.size.1) h.size.2) (omega (arith, h.size.0, below p d there)) in
-      same_by_items width (row_of e.matrix row) (get_or shards p d).cells.items (count ∙ h.size.1) (full p d there)
-      (λ k t. ap (λ x. x.value) (rows_hold_cells e.matrix row k nought (omega (arith, h.size.1, t))) ∙ h.cells p d l k t)
+  row_at n e h m p d l = grind (arith, rows_are_full, same_by_items, rows_hold_cells)
 
   -- all shards
   pub holds_all : (e : EvaluationsOf F) → HoldsFirst lg width shards (length shards) e → HoldsShards lg width shards e
-  holds_all e h = record {
-    size = h.size;
-    places = h.places;
-    marks = λ j l. h.marks j l ∙ ap (λ ss. has_index ss j) (take_all (length shards) shards (omega arith));
-    cells = row_at (length shards) e h (omega arith);
-  }
+  holds_all e h = grind (arith, take_all, row_at)
 
   -- a shard whose row is filled with other cells has the index of an earlier one
   pub conflict_at : (n : ℕ) (s : Shard) (e : EvaluationsOf F) → HoldsFirst lg width shards n e → n < length shards → s ≡ get_or shards n s

@@ -26,9 +26,7 @@ use Rattle.math_splitting.proofs.LaidOutData.{rows_are_whole}
 
 -- elements of data are in rows of the width that these need
 pub width_of_data : (words : List ℕ) (min width : ℕ) (elements : List F) → 1 ≤ min → length elements ≡ min * width → AreDataOf words min elements → width ≡ width_for min words
-width_of_data words min width elements some size h =
-    let all : min * width ≡ min * width_for min words = sym size ∙ ap length h.packed ∙ rows_are_whole min words some in
-    sym (mul-div_cancel_left width (omega (arith, some))) ∙ ap (λ n. n / min) all ∙ mul-div_cancel_left (width_for min words) (omega (arith, some))
+width_of_data words min width elements some size h = grind (arith, rows_are_whole, mul-div_cancel_left)
 
 -- and are the cells of the rows that the data fill
 pub rows_of_data : (words : List ℕ) (min width : ℕ) (elements : List F) → 1 ≤ min → length elements ≡ min * width → AreDataOf words min elements → matrix_of min width elements ≡ rows_for min words
@@ -211,24 +209,10 @@ module _ {R : Type 0} (index : R → ℕ) (cells : R → List F) (words : List �
 
   -- and the rows have the values of their columns
   pub values_of_fit : All (λ row. HasValuesOf layout.lg (matrix_of layout.min layout.width elements) (index row) (cells row)) rows
-  values_of_fit =
-      subst (λ (m : MatrixOf F). All (λ (row : R). HasValuesOf layout.lg m (index row) (cells row)) rows) (sym (rows_of_data words layout.min layout.width elements layout.some of.size data_of_fit))
-      (fit.values layout.lg (next_of layout))
+  values_of_fit = grind (arith, rows_of_data, data_of_fit, next_of)
 
 -- rows that have the values of the columns of the elements of data fit the data
 pub rows_fit : {R : Type 0} (index : R → ℕ) (cells : R → List F) (words : List ℕ) (layout : Layout) (elements : List F) (rows : List R) → AreRowsOf index cells layout rows
     → AreCoefficientsOf index cells layout rows elements → AreDataOf words layout.min elements
     → All (λ row. HasValuesOf layout.lg (matrix_of layout.min layout.width elements) (index row) (cells row)) rows → DoRowsFit index cells words layout.min layout.total rows
-rows_fit {R} index cells words layout elements rows held of h values = record {
-  some = layout.some;
-  within = layout.within;
-  short = layout.short;
-  each_word = h.each_word;
-  few = h.few;
-  enough = of.enough;
-  below = held.below;
-  count = λ i r l. held.count i r l ∙ width_of_data words layout.min layout.width elements layout.some of.size h;
-  values = λ lg next.
-      subst (λ n. All (λ (row : R). HasValuesOf n (rows_for layout.min words) (index row) (cells row)) rows) (lg-only layout.total layout.lg lg (omega (arith, layout.some, layout.within)) (next_of layout) next)
-      (values_of_data index cells words layout.min layout.width layout.lg elements rows layout.some of.size h values);
-}
+rows_fit {R} index cells words layout elements rows held of h values = grind (arith, width_of_data, lg-only, next_of, values_of_data)

@@ -1,9 +1,8 @@
 -- Shards of some data: they are sound, no two of them are in conflict, and enough of them are there.
-use Rattle.std.proofs.Common.{◌≡◌, ℕ, ◌<◌, ◌^◌, List, [], ◌∷◌, length, get_or, sym, ◌∙◌, ap, subst, arith}
+use Rattle.std.proofs.Common.{◌≡◌, ℕ, ◌<◌, ◌^◌, List, [], ◌∷◌, length, sym, ◌∙◌, ap, subst, arith}
 use Rattle.std.specs.Int.{IsNextPowerOfTwo}
 use Rattle.std.specs.List.{All, AllZip}
 use Rattle.std.proofs.lemmas.List.Elements.{All-head, All-weaker}
-use Rattle.math_fields.specs.declared.goldilocks.F.{F}
 use Rattle.math_fields.specs.Elements.{number, residue, same}
 use Rattle.math_transforms.specs.Matrices.{column_of}
 use Rattle.math_splitting.specs.declared.shards.Shard.{Shard}
@@ -13,7 +12,7 @@ use Rattle.math_splitting.specs.Shards.{ChosenShardsJoin, IsSameAsOne, IsShardOf
 use Rattle.math_shards.proofs.FilledShards.{no_indices}
 use Rattle.math_splitting.proofs.LeastDomains.{domain_of}
 use Rattle.math_values.proofs.ElementRing.{same_are_equal}
-use Rattle.math_splitting.proofs.SameCells.{nought, same_by_items}
+use Rattle.math_splitting.proofs.SameCells.{same_by_items}
 
 -- shards of one index for the same data have same cells
 pub same_shards : (words : List ℕ) (min total lg : ℕ) (s t : Shard) → IsNextPowerOfTwo total (2 ^ lg) → IsShardOf words min total s → IsShardOf words min total t → s.index ≡ t.index
@@ -37,18 +36,7 @@ joined_numbers words shards j min total e f = subst (λ n. All (IsShardOf words 
 
 -- each of them has the numbers of each other
 pub joined_sound : (words : List ℕ) (shards : List Shard) (j : JoinTo words shards) (first : Shard) → IsShardOf words j.min j.total first → All (IsSound first) shards
-joined_sound words shards j first f =
-    All-weaker (IsShardOf words j.min j.total) (IsSound first)
-    (λ s h. (
-      record {
-        least = h.least ∙ sym f.least;
-        most = h.most ∙ sym f.most;
-        count = h.count ∙ sym f.count;
-        some = omega (arith, h.least, j.some);
-        within = omega (arith, h.least, h.most, j.within);
-      },
-      omega (arith, h.index, h.most),
-    )) shards j.each
+joined_sound words shards j first f = grind arith
 
 -- and no two of one index have unequal cells
 pub joined_no_conflict : (words : List ℕ) (shards : List Shard) → JoinTo words shards → ¬ (HaveConflict shards)
@@ -63,15 +51,7 @@ joined_no_conflict words shards j conflict =
 
 -- a shard that is the same as one of the data is one of them
 pub shard_of_same : (words : List ℕ) (min total : ℕ) (s t : Shard) → AreSameShards s t → IsShardOf words min total s → IsShardOf words min total t
-shard_of_same words min total s t h of =
-    let cells : s.cells.items ≡ t.cells.items = same_are_equal s.cells.items t.cells.items h.cells in record {
-      index = omega (arith, of.index, h.index);
-      least = sym h.least ∙ of.least;
-      most = sym h.most ∙ of.most;
-      count = sym (ap length cells) ∙ of.count;
-      values = λ lg k next l. subst (λ (xs : List F). same (get_or xs k nought) (value_at_index lg (column_of nought (rows_for min words) k) t.index)) cells
-          (subst (λ (i : ℕ). same (get_or s.cells.items k nought) (value_at_index lg (column_of nought (rows_for min words) k) i)) h.index (of.values lg k next l));
-    }
+shard_of_same words min total s t h of = grind (arith, same_are_equal)
 
 -- shards that are the same as some of those of the data join to the data, where enough are there
 pub chosen_join : ChosenShardsJoin

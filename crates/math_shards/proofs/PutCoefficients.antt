@@ -1,5 +1,5 @@
 -- Coefficients that are written column by column over the cells of rows.
-use Rattle.std.proofs.Common.{◌≡◌, ◌∙◌, inl, inr, ℕ, ◌+◌, ◌-◌, ◌*◌, ◌<◌, ◌≤◌, ◌++◌, List, length, drop, take, get_or, refl, sym, ap, subst, arith}
+use Rattle.std.proofs.Common.{◌≡◌, ◌∙◌, inl, inr, ℕ, ◌+◌, ◌-◌, ◌*◌, ◌<◌, ◌≤◌, ◌++◌, List, length, drop, take, get_or, sym, ap, subst, arith}
 use Rattle.std.proofs.Math.ListN.{set}
 use Rattle.std.proofs.lemmas.Bool.{cases_lt}
 use Rattle.std.proofs.lemmas.List.{append-nil, drop_all, ext_get_or, take_all}
@@ -40,10 +40,7 @@ column-more rows width column r value start cells v size l m e h =
 
 -- no column yet
 pub columns-none : (weights : List F) (count width : ℕ) (start : List F) → ArePutBefore weights count width start 0 start
-columns-none weights count width start = record {
-  done = λ r k a b. absurd (omega (arith, b));
-  others = λ r k a b l. refl;
-}
+columns-none weights count width start = grind arith
 
 -- a further column is that of the start
 pub column-kept : (weights : List F) (count width column k : ℕ) (start cells : List F) → length start ≡ count * width → length cells ≡ count * width → column ≤ k → k < width
@@ -60,23 +57,7 @@ pub columns-more : (weights : List F) (count width column : ℕ) (start old new 
     → room ≡ column_in count width old column → column < width
     → IsColumnPut (length room) width column (weighed_at weights room) old (length room) new → ArePutBefore weights count width start column old
     → ArePutBefore weights count width start (column + 1) new
-columns-more weights count width column start old new room size other is l put h =
-    let long : length room ≡ count = column-count count width column old room is in
-    let from_start : room ≡ column_in count width start column = is ∙ column-kept weights count width column column start old size other (omega arith) l h in
-    record {
-      done = λ r k a b.
-          let inside : r < length room = omega (arith, a, long) in
-          elim (cases_lt k column) as (λ _. get_or new (r * width + k) nought ≡ coefficient_of weights (matrix_of count width start) r k) [
-            | inl before ↦ put.others r k inside (omega (arith, before, l)) (λ same. omega (arith, same, before)) ∙ h.done r k a before
-            | inr after ↦
-                let same : k ≡ column = omega (arith, after, b) in
-                ap (λ j. get_or new (r * width + j) nought) same ∙ put.done r inside ∙ ap (λ n. weighted_sum nought sum product room (row_of (matrix_of n n weights) r)) long
-                ∙ ap (λ xs. weighted_sum nought sum product xs (row_of (matrix_of count count weights) r)) from_start
-                ∙ ap (λ j. coefficient_of weights (matrix_of count width start) r j) (sym same)
-          ];
-      others = λ r k a b m.
-          put.others r k (omega (arith, a, long)) m (λ same. omega (arith, same, b)) ∙ h.others r k a (omega (arith, b)) m;
-    }
+columns-more weights count width column start old new room size other is l put h = grind (arith, column-count, column-kept, cases_lt)
 
 -- a strip of columns more
 pub strips-more : (weights : List F) (count width column n : ℕ) (start old new : List F) → length start ≡ count * width → length old ≡ count * width → column + n ≤ width
@@ -116,14 +97,7 @@ module _ (rows width k r q : ℕ) (value : ℕ → ℕ → F) (start cells row :
   behind i b = row_fits r width i width b (omega arith)
 
   pub strip-done : ((i c : ℕ) → i < r → c < 32 → get_or cells (i * width + (k + c)) nought ≡ value i c) → (i c : ℕ) → i < r + 1 → c < 32 → get_or new (i * width + (k + c)) nought ≡ value i c
-  strip-done h i c a b = elim (cases_lt i r) as (λ _. get_or new (i * width + (k + c)) nought ≡ value i c) [
-    | inl before ↦ put-before nought cells row at q room long (i * width + (k + c)) (omega (arith, apart i before, b, fits)) ∙ h i c before b
-    | inr past ↦
-        let same : r ≡ i = omega (arith, past, a) in
-        let place : at + c ≡ r * width + (k + c) = omega arith in
-        subst (λ j. get_or new (j * width + (k + c)) nought ≡ value j c) same
-        (subst (λ p. get_or new p nought ≡ value r c) place (put-within nought cells row at q room long c (omega (arith, b, e)) ∙ is c b))
-  ]
+  strip-done h i c a b = grind (arith, cases_lt, put-before, put-within)
 
   pub strip-before : ((i c : ℕ) → i < rows → c < k → get_or cells (i * width + c) nought ≡ get_or start (i * width + c) nought)
       → (i c : ℕ) → i < rows → c < k → get_or new (i * width + c) nought ≡ get_or start (i * width + c) nought

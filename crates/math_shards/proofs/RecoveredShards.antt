@@ -1,5 +1,5 @@
 -- Polynomials that are recovered from shards: where they are those of data, the shards are of the data, and the other way round.
-use Rattle.std.proofs.Common.{◌≡◌, ℕ, ◌*◌, ◌<◌, ◌≤◌, ◌^◌, List, Bool, false, length, get_or, sym, ◌∙◌, ap, ap₂, subst, arith}
+use Rattle.std.proofs.Common.{◌≡◌, ℕ, ◌*◌, ◌<◌, ◌≤◌, ◌^◌, List, Bool, false, length, get_or, sym, ◌∙◌, subst, arith}
 use Rattle.std.specs.List.{AllZip}
 use Rattle.std.proofs.lemmas.List.{get_or_past}
 use Rattle.std.proofs.lemmas.List.Elements.{AllZip-get_or}
@@ -11,9 +11,8 @@ use Rattle.math_theory.proofs.recovery.CarriedRecovery.{fits_once-same}
 use Rattle.math_fields.specs.declared.goldilocks.F.{F}
 use Rattle.math_fields.specs.ElementLaws.{equality, group, commutes, ring}
 use Rattle.math_fields.specs.ElementRootLaws.{field, roots}
-use Rattle.math_fields.specs.Elements.{number, residue, same, sum, product, root_of}
+use Rattle.math_fields.specs.Elements.{residue, same, sum, product, root_of}
 use Rattle.math_ntt.specs.Evaluations.{EvaluationsOf}
-use Rattle.math_ntt.specs.MatrixPlaces.{IsFull}
 use Rattle.math_transforms.specs.Matrices.{column_of, row_of}
 use Rattle.math_ntt.proofs.MatrixPlaces.{columns_hold_cells, rows_are_full, rows_hold_cells}
 use Rattle.math_splitting.specs.declared.shards.Shard.{Shard}
@@ -30,12 +29,7 @@ FitsCells lg cells filled p = Fits same nought sum product (residue 1) (root_of 
 pub fits_shards : (lg : ℕ) (shards : List Shard) (cells : List F) (filled : List Bool) (p : List F) → length p ≤ count_true filled
     → ((i : ℕ) → i < length cells → get_or filled i false ≡ has_index shards i)
     → ((s : Shard) (k : ℕ) → k < length shards → get_or shards k s ≡ s → same (value_at_index lg p s.index) (get_or cells s.index nought)) → FitsCells lg cells filled p
-fits_shards lg shards cells filled p few marks values = record {
-  agrees = λ j l t.
-      let found = index_found shards j (sym (marks j l) ∙ t) in
-      subst (λ i. same (value_at_index lg p i) (get_or cells i nought)) found.4 (values found.1 found.0 found.2 found.3);
-  zero_from = λ i l. ap number (get_or_past p i nought (omega (arith, few, l)));
-}
+fits_shards lg shards cells filled p few marks values = grind (arith, index_found, get_or_past)
 
 -- two that fit have the same coefficients
 pub same_fits : (lg : ℕ) → lg ≤ 32 → (cells : List F) (filled : List Bool) → length cells ≡ 2 ^ lg → length filled ≡ 2 ^ lg → (p q : List F) → FitsCells lg cells filled p → FitsCells lg cells filled q
@@ -50,14 +44,8 @@ module _ (lg width : ℕ) (shards : List Shard) (e : EvaluationsOf F) (holds : H
   row_is_shard = subst (λ (t : Shard). AllZip same (row_of e.matrix t.index) t.cells.items) is (holds.cells at s in_shards)
 
   length-row : length (row_of e.matrix s.index) ≡ width
-  length-row =
-      let full : IsFull e.matrix = holds.size.2 ∙ sym (ap₂ (λ x y. x * y) holds.size.0 holds.size.1) in
-      rows_are_full e.matrix s.index full (omega (arith, below, holds.size.0)) ∙ holds.size.1
+  length-row = grind (arith, rows_are_full)
 
   -- the cell of the shard stands in the row of its index
   pub cell_of_shard : (k : ℕ) → k < width → same (get_or (column_of nought e.matrix k) s.index nought) (get_or s.cells.items k nought)
-  cell_of_shard k l =
-      let inside : k < e.matrix.cols = omega (arith, l, holds.size.1) in
-      ap number (columns_hold_cells e.matrix s.index k nought nought (omega (arith, below, holds.size.0)) inside)
-      ∙ sym (ap number (rows_hold_cells e.matrix s.index k nought inside))
-      ∙ AllZip-get_or same (row_of e.matrix s.index) s.cells.items k nought nought row_is_shard (omega (arith, l, length-row))
+  cell_of_shard k l = grind (arith, columns_hold_cells, rows_hold_cells, AllZip-get_or, row_is_shard, length-row)

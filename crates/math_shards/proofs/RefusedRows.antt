@@ -1,9 +1,9 @@
 -- Rows that fit no data: whether two of one index are unequal, and how many indices are distinct.
-use Rattle.std.proofs.Common.{◌≡◌, ◌∙◌, inl, inr, ℕ, ◌+◌, ◌<◌, ◌≤◌, List, length, get_or, set, replicate, refl, sym, ap, subst, arith}
+use Rattle.std.proofs.Common.{◌≡◌, ◌∙◌, inl, inr, ℕ, ◌+◌, ◌<◌, ◌≤◌, List, length, get_or, set, refl, sym, ap, subst, arith}
 use Rattle.std.specs.List.{All, AllZip, Contains}
 use Rattle.std.specs.List.Sorted.{IsStrictlyIncreasing}
 use Rattle.std.proofs.lemmas.Bool.{cases_eq, cases_lt}
-use Rattle.std.proofs.lemmas.List.{get_or-replicate, get_or-set_other, get_or-set_same, get_or_default, length-replicate, length-set}
+use Rattle.std.proofs.lemmas.List.{get_or-set_other, get_or-set_same, get_or_default, length-set}
 use Rattle.math_fields.specs.declared.goldilocks.F.{F}
 use Rattle.math_fields.specs.Elements.{same}
 use Rattle.math_shards.specs.Joining.{ArePlacesByIndex, HaveUnequalCells}
@@ -14,17 +14,6 @@ itself : (xs : List F) → AllZip same xs xs
 itself xs = same_by_items (length xs) xs xs refl refl (λ i b. refl)
 
 module _ {R : Type 0} (index : R → ℕ) (cells : R → List F) (indices : List ℕ) (rows : List R) where
-  -- no row yet, and no place that is that of a row
-  pub places-none : (places : List ℕ) → places ≡ replicate (length indices) (length rows) → ArePlacesByIndex index cells indices rows 0 places
-  places-none places e =
-      let long : length places ≡ length indices = ap length e ∙ length-replicate (length indices) (length rows) in
-      record {
-        size = long;
-        of_index = λ p d l b. absurd (omega (arith, b, ap (λ xs. get_or xs p 0) e ∙ get_or-replicate (length indices) p (length rows) 0 l));
-        there = λ k p d l b is. absurd (omega (arith, l));
-        equal = λ k p d l b is. absurd (omega (arith, l));
-      }
-
   module _ (rising : IsStrictlyIncreasing indices) (i : ℕ) (row : R) (places : List ℕ) (h : ArePlacesByIndex index cells indices rows i places) (l : i < length rows)
       (is : row ≡ get_or rows i row) (p : ℕ) (inside : p < length indices) (at : get_or indices p 0 ≡ index row) where
     row_is : (d : R) → get_or rows i d ≡ row
@@ -71,20 +60,7 @@ module _ {R : Type 0} (index : R → ℕ) (cells : R → List F) (indices : List
 
       -- a row that has the cells of one of its index
       pub places-known : AllZip same (cells first) (cells row) → ArePlacesByIndex index cells indices rows (i + 1) places
-      places-known equal = record {
-        size = h.size;
-        of_index = h.of_index;
-        there = λ k q d b m e. elim (cases_lt k i) as (λ _. get_or places q 0 < length rows) [
-          | inl early ↦ h.there k q d early m e
-          | inr late ↦ omega (arith, known, ap (λ x. get_or places x 0) (last_place k q d b late m e))
-        ];
-        equal = λ k q d b m e. elim (cases_lt k i) as (λ _. AllZip same (cells (get_or rows (get_or places q 0) d)) (cells (get_or rows k d))) [
-          | inl early ↦ h.equal k q d early m e
-          | inr late ↦
-              let now : get_or rows (get_or places q 0) d ≡ first = ap (λ x. get_or rows (get_or places x 0) d) (last_place k q d b late m e) ∙ first_is d in
-              subst (λ r. AllZip same (cells r) (cells (get_or rows k d))) (sym now) (subst (λ r. AllZip same (cells first) (cells r)) (sym (last_is k d b late)) equal)
-        ];
-      }
+      places-known equal = grind (arith, cases_lt, last_place, first_is, last_is)
 
       -- a row that has other cells
       pub unequal_at : ¬ (AllZip same (cells first) (cells row)) → HaveUnequalCells index cells rows

@@ -1,5 +1,5 @@
 -- Elements that the words to which they unpack pack to again: all are below 2^63, and the last has no more bits than are left for it.
-use Rattle.std.proofs.Common.{◌≡◌, ◌∙◌, inl, inr, ℕ, zero, suc, ◌+◌, ◌-◌, ◌*◌, ◌%◌, ◌^◌, ◌<◌, ◌≤◌, List, ◌∷◌, ◌++◌, length, map, take, drop, get_or, replicate, sym, ap, ap₂, subst, arith, lit<, append-nil, mod-eq_of_lt}
+use Rattle.std.proofs.Common.{◌≡◌, ◌∙◌, inl, inr, ℕ, zero, suc, ◌+◌, ◌-◌, ◌*◌, ◌%◌, ◌^◌, ◌<◌, ◌≤◌, List, ◌∷◌, ◌++◌, length, map, take, drop, get_or, replicate, sym, ap, ap₂, arith, lit<, append-nil, mod-eq_of_lt}
 use Rattle.std.proofs.Math.ListN.{get_or-map}
 use Rattle.std.proofs.Math.Seq.{take-add}
 use Rattle.std.specs.Int.{div_ceil}
@@ -88,18 +88,4 @@ packed_below words e k most few =
 -- elements of which all but the last are below 2^63, and the last has no more bits than are left, are those that the first words pack to
 pub repacked_below : (elements : List F) (n filled : ℕ) → filled ≡ n + 1 + div_ceil (n + 1) 63 → filled ≤ length elements
     → All (λ x. Elements.number x < 2 ^ 63) (take (filled - 1) elements) → Elements.number (get_or elements (filled - 1) nought) < 2 ^ (n % 63 + 1) → AreRepacked elements n filled
-repacked_below elements n filled count within below last k l =
-    let room : 64 * (n + 1) ≤ 63 * length elements = omega (arith, count, within) in
-    elim (cases_lt k (filled - 1)) [
-      | inl early ↦
-          let there : k < length (take (filled - 1) elements) = omega (arith, early, within, length-take (filled - 1) elements) in
-          let small : Elements.number (get_or elements k nought) < 2 ^ 63 =
-          subst (λ (x : F). Elements.number x < 2 ^ 63) (get_or-take (filled - 1) elements k nought early) (below k nought there) in
-          sym (ap Elements.number (repacked_element elements n k room (omega (arith, count, early)) small (λ g. absurd (omega (arith, g, count, early)))))
-      | inr late ↦
-          let at : k ≡ filled - 1 = omega (arith, late, l) in
-          let left : 64 * (n + 1) - 63 * (filled - 1) ≡ n % 63 + 1 = omega (arith, count) in
-          let few : n % 63 + 1 ≤ 63 = omega arith in
-          let small : Elements.number (get_or elements (filled - 1) nought) < 2 ^ 63 = omega (arith, last, pow-le-pow_right {n = 2} (lit< tt) few) in
-          rw at (sym (ap Elements.number (repacked_element elements n (filled - 1) room (omega (arith, count)) small (λ _. rw left last))))
-    ]
+repacked_below elements n filled count within below last k l = grind (arith, cases_lt, length-take, get_or-take, repacked_element, pow-le-pow_right)

@@ -40,11 +40,7 @@ count-more p q (x ∷ xs) (suc k) d l h f t =
 
 -- one of some numbers is one of these and a further one
 one-of-more : (x : ℕ) (xs : List ℕ) (i : ℕ) → is_one_of xs i ≡ true → is_one_of (x ∷ xs) i ≡ true
-one-of-more x xs i there = or-kept (x == i) (is_one_of xs i) there
-  where
-    or-kept : (a b : Bool) → b ≡ true → (a || b) ≡ true
-    or-kept true b e = refl
-    or-kept false b e = e
+one-of-more x xs i there = grind arith
 
 -- of distinct numbers below n as many are distinct as there are
 pub distinct-count : (n : ℕ) (numbers : List ℕ) → AreDistinct numbers → All (λ i. i < n) numbers → length numbers ≤ distinct_among n numbers

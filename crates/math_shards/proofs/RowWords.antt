@@ -10,7 +10,7 @@ use Rattle.math_fields.specs.Elements.{number, residue, same}
 use Rattle.math_fields.proofs.ElementNumbers.{same_number}
 use Rattle.math_transforms.proofs.PlaceByPlace.{AllZip-next}
 use Rattle.math_transforms.proofs.WrittenRows.{part-read}
-use Rattle.math_splitting.proofs.SameCells.{nought, same_by_items}
+use Rattle.math_splitting.proofs.SameCells.{same_by_items}
 
 -- the number of an item in its place
 pub number_at : {A : Type 0} (f : A → ℕ) (xs : List A) (i : ℕ) (x : A) → i < length xs → x ≡ get_or xs i x → f x ≡ get_or (map f xs) i 0
@@ -19,10 +19,7 @@ number_at f xs i x l e = ap f e ∙ sym (get_or-map f xs i x 0 l)
 -- and of one in a part
 pub number_in : {A : Type 0} (f : A → ℕ) (xs : List A) (from n i : ℕ) (x : A) → i < n → from + i < length xs → x ≡ get_or (take n (drop from xs)) i x
     → f x ≡ get_or (take n (drop from (map f xs))) i 0
-number_in f xs from n i x l b e =
-    let part = take n (drop from xs) in
-    number_at f part i x (omega (arith, l, b, length-take n (drop from xs), length-drop from xs)) e
-    ∙ ap (λ ys. get_or ys i 0) (sym (ap (take n) (drop-map f from xs) ∙ take-map f n (drop from xs)))
+number_in f xs from n i x l b e = grind (arith, number_at, length-take, length-drop, drop-map, take-map)
 
 -- the element of one word more
 pub words-more : (words : List ℕ) (i : ℕ) (old items new : List F) (x : F) → i < length words → number x ≡ get_or words i 0 % P → items ≡ old ++ map residue (take i words)
@@ -35,23 +32,9 @@ words-more words i old items new x l e h p =
 
 -- the element of a word is that of its place
 pub element_at : (words : List ℕ) (from n i : ℕ) (y : F) → i < n → from + i < length words → number y ≡ get_or (take n (drop from words)) i 0 % P → y ≡ get_or (drop from (map residue words)) i y
-element_at words from n i y l b e =
-    same_number y (residue (get_or words (from + i) 0)) (e ∙ ap (λ w. w % P) (part-read 0 words from n i l))
-    ∙ sym (get_or-drop from (map residue words) i y ∙ get_or-map residue words (from + i) 0 y b)
+element_at words from n i y l b e = grind (arith, same_number, part-read, get_or-drop, get_or-map)
 
 -- with one item more, lists are same so far where they were, and these items are
 pub equal-more : (xs ys : List F) (i : ℕ) (x y : F) (b c : Bool) → i < length xs → i < length ys → x ≡ get_or xs i x → y ≡ get_or ys i y
     → (b ≡ true ↔ AllZip same (take i xs) (take i ys)) → (c ≡ true ↔ same x y) → (b && c) ≡ true ↔ AllZip same (take (i + 1) xs) (take (i + 1) ys)
-equal-more xs ys i x y b c l m e f so_far here = (
-  λ h. let both = and_parts b c h in AllZip-next same xs ys i x y l e m f (so_far.0 both.0) (here.0 both.1),
-  λ h.
-      let at : (k : ℕ) → k < i + 1 → same (get_or xs k nought) (get_or ys k nought) =
-      λ k t. sym (ap number (get_or-take (i + 1) xs k nought t))
-      ∙ AllZip-get_or same (take (i + 1) xs) (take (i + 1) ys) k nought nought h (omega (arith, t, length-take-le (i + 1) xs (omega (arith, l))))
-      ∙ ap number (get_or-take (i + 1) ys k nought t) in
-      let before : AllZip same (take i xs) (take i ys) =
-      same_by_items i (take i xs) (take i ys) (length-take-le i xs (omega (arith, l))) (length-take-le i ys (omega (arith, m)))
-      (λ k t. ap number (get_or-take i xs k nought t) ∙ at k (omega (arith, t)) ∙ sym (ap number (get_or-take i ys k nought t))) in
-      let last : same x y = ap number (e ∙ get_or_default xs i x nought l) ∙ at i (omega arith) ∙ sym (ap number (f ∙ get_or_default ys i y nought m)) in
-      and_from b c (so_far.1 before) (here.1 last),
-)
+equal-more xs ys i x y b c l m e f so_far here = grind (arith, and_parts, AllZip-next, get_or-take, AllZip-get_or, length-take-le, same_by_items, get_or_default, and_from)

@@ -1,5 +1,5 @@
 -- Shards of settled indices: no two of them are in conflict, and their cells stand in the rows of their indices.
-use Rattle.std.proofs.Common.{◌≡◌, ℕ, ◌+◌, ◌<◌, ◌≤◌, ◌^◌, ◌||◌, inl, inr, List, [], ◌∷◌, Bool, true, false, not, eqb, length, get_or, refl, sym, ◌∙◌, ap, subst}
+use Rattle.std.proofs.Common.{arith, ◌≡◌, ℕ, ◌+◌, ◌<◌, ◌≤◌, ◌^◌, ◌||◌, inl, inr, List, [], ◌∷◌, Bool, true, false, not, eqb, length, get_or, refl, sym, ◌∙◌, ap, subst}
 use Rattle.std.specs.List.{All, AllZip, Contains}
 use Rattle.std.proofs.lemmas.Bool.{and_from, and_parts, both_ways, cases_Bool, eq-eqb, eqb-false, eqb-true, false≢true, not-true, or_cases, true_from_ne_false, true≢false}
 use Rattle.std.proofs.lemmas.List.Elements.{All-contains_itself, All-filter, filter_passes}
@@ -30,11 +30,7 @@ abbrev pub agrees : Shard → Shard → Bool
 agrees s t = not (eqb t.index s.index) || are_same t.cells.items s.cells.items
 
 agrees-cells : (s t : Shard) → agrees s t ≡ true → t.index ≡ s.index → AllZip same t.cells.items s.cells.items
-agrees-cells s t h e =
-    elim (or_cases (not (eqb t.index s.index)) (are_same t.cells.items s.cells.items) h) as (λ _. AllZip same t.cells.items s.cells.items) [
-      | inl other ↦ absurd (eqb-false t.index s.index (not-true (eqb t.index s.index) other) e)
-      | inr cells ↦ (are_same-decides t.cells.items s.cells.items).0 cells
-    ]
+agrees-cells s t h e = grind (arith, or_cases, eqb-false, not-true, are_same-decides)
 
 -- each shard with the index of a settled one has its cells
 pub settled_cells : (shards : List Shard) (s t : Shard) → is_settled shards s ≡ true → Contains shards t → t.index ≡ s.index → AllZip same t.cells.items s.cells.items

@@ -36,13 +36,7 @@ same_cells_at rows q m h k e columns (suc c) f n l =
 
 -- so matrices of one size whose columns are the same polynomials are same
 pub same_by_columns : (r c : ℕ) (q m : MatrixOf F) → IsOfSize q r c → IsOfSize m r c → HaveSamePolynomials same nought q m → AreSameMatrices same q m
-same_by_columns r c q m size other columns =
-    let full : IsFull q = size.2 ∙ sym (ap₂ (λ x y. x * y) size.0 size.1) in
-    let whole : IsFull m = other.2 ∙ sym (ap₂ (λ x y. x * y) other.0 other.1) in (
-      size.0 ∙ sym other.0,
-      size.1 ∙ sym other.1,
-      same_by_items (r * c) q.cells m.cells size.2 other.2 (λ i l. same_cells_at r q m full whole (size.1 ∙ sym other.1) columns c other.1 i l),
-    )
+same_by_columns r c q m size other columns = grind (arith, same_by_items, same_cells_at)
 
 -- and the first cells of a matrix whose columns are the polynomials of data are those of the rows
 pub cells_of_recovered : (words : List ℕ) (min r width : ℕ) (q : MatrixOf F) → 1 ≤ min → min ≤ r → IsOfSize q r width → ArePolynomialsOf words min q

@@ -29,7 +29,4 @@ unsound_at first P shards i s l e sound fault = record {
 -- sound shards are rows of the layout that the first one says
 pub rows_of_sound : (first : Shard) (shards : List Shard) (layout : Layout) → layout.total ≡ first.total → layout.width ≡ length first.cells.items → All (IsSound first) shards
     → AreRowsOf (λ (s : Shard). s.index) (λ s. s.cells.items) layout shards
-rows_of_sound first shards layout total wide sound = record {
-  below = λ k d l. omega (arith, (sound k d l).1, (sound k d l).0.most, total);
-  count = λ k d l. (sound k d l).0.count ∙ sym wide;
-}
+rows_of_sound first shards layout total wide sound = grind arith

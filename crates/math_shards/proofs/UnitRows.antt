@@ -7,10 +7,9 @@ use Rattle.math_fields.specs.Elements.{number, residue, same}
 use Rattle.math_fields.proofs.ElementNumbers.{same_number}
 use Rattle.math_ntt.proofs.MatrixPlaces.{cells_are_written_alone}
 use Rattle.math_transforms.specs.DomainValues.{matrix_of}
-use Rattle.math_restoring.specs.Restored.{HaveCellsAsValues}
 use Rattle.math_splitting.proofs.SameCells.{nought}
 use Rattle.math_splitting.proofs.StripColumns.{zeros-behind}
-use Rattle.math_shards.specs.Weights.{AreUnitRows, AreWeightsOf}
+use Rattle.math_shards.specs.Weights.{AreUnitRows}
 
 -- zeros alone
 pub units-none : (n k : ℕ) (z : F) (cells : List F) → same z nought → cells ≡ replicate k z → AreUnitRows n 0 cells
@@ -34,12 +33,3 @@ units-more n i one cells size l e h =
       ];
       zeros = λ t k a b apart. ap number (w.1.others nought t k a b (λ q r. apart (q ∙ sym r))) ∙ h.zeros t k a b apart;
     }
-
--- the coefficients of polynomials that have the units as their values are the weights
-pub weights_of_units : (lg : ℕ) (indices : List ℕ) (units weights : List F) → length weights ≡ length indices * length indices → AreUnitRows (length indices) (length indices) units
-    → HaveCellsAsValues lg indices (length indices) units weights → AreWeightsOf lg indices weights
-weights_of_units lg indices units weights size are have = record {
-  size = size;
-  one_at = λ i l. have i i l l ∙ are.ones i l;
-  zero_at = λ i t l m apart. have t i m l ∙ are.zeros t i m l (λ e. apart (sym e));
-}

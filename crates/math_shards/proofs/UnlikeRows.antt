@@ -41,12 +41,7 @@ positions_gathered P shards n positions all h = record {
 -- what holds of the same shards has the same positions
 positions_alike : (P Q : Shard → Type 0) (shards : List Shard) (positions : List ℕ) → ((i : ℕ) (s : Shard) → i < length shards → get_or shards i s ≡ s → (P s → Q s) × (Q s → P s))
     → ArePositionsWithout P shards positions → ArePositionsWithout Q shards positions
-positions_alike P Q shards positions both h = record {
-  rising = h.rising;
-  below = h.below;
-  differ = λ k d l s is q. h.differ k d l s is ((both (get_or positions k d) s (h.below k d l) is).1 q);
-  agree = λ i s l is n. (both i s l is).0 (h.agree i s l is n);
-}
+positions_alike P Q shards positions both h = grind arith
 
 module _ (lg : ℕ) (first : Shard) (shards : List Shard) (e : EvaluationsOf F) (r : AreSettledRows lg first shards e) (q : MatrixOf F) (wrong : List ℕ)
     (h : IsCorrected goldilocks (root_of lg) e first.min q wrong) (words : List ℕ) (same_as : ArePolynomialsOf words first.min q) (v : MatrixOf F) (size : IsOfSize v q.rows q.cols)

@@ -9,12 +9,11 @@ use Rattle.std.proofs.lemmas.List.{ext_get_or, get_or_append_left, get_or_defaul
 use Rattle.std.proofs.lemmas.List.Elements.{All-drop, All-take}
 use Rattle.std.proofs.lemmas.Nat.{or_comm, or_mod, or_shifted, pow_pos, shr_below}
 use Rattle.math_numbers.specs.Bits as Bits
-use Rattle.math_numbers.specs.Bits.{bits, joined, piece_count}
+use Rattle.math_numbers.specs.Bits.{bits, joined}
 use Rattle.math_numbers.proofs.BitLists.{append_below, bits-append, bits-mod, joined-are_bits, length-joined}
-use Rattle.math_numbers.proofs.BitPieces.{piece_count-enough}
 use Rattle.math_fields.specs.declared.goldilocks.F.{F}
 use Rattle.math_fields.specs.Elements.{number, same}
-use Rattle.math_fields.specs.Packing.{element_bits, elements_of, words_of}
+use Rattle.math_fields.specs.Packing.{elements_of, words_of}
 use Rattle.math_fields.proofs.BitFronts.{drop-bits, number-take-bits, pieces_below}
 use Rattle.math_fields.proofs.ElementNumbers.{same_number}
 use Rattle.math_fields.proofs.Packing.{length-words_of}
@@ -23,7 +22,7 @@ use Rattle.math_shards.specs.Fitting.{AreDataOf}
 use Rattle.math_splitting.specs.Shards.{counted, elements_for, width_for, with_zeros}
 use Rattle.math_shards.specs.Unpacking.{AreRepacked, AreUnpacked, first_words, word_between}
 use Rattle.math_shards.proofs.JoinedRows.{width_of_data}
-use Rattle.math_splitting.proofs.LaidOutData.{rounded_up, zeros_alone}
+use Rattle.math_splitting.proofs.LaidOutData.{zeros_alone}
 use Rattle.math_shards.proofs.PackedData.{data_stand}
 use Rattle.math_splitting.proofs.PackedWords.{counted-behind, cut_at, from_between}
 use Rattle.math_shards.proofs.RepackedElements.{packed_below}
@@ -126,17 +125,11 @@ enough_words elements n few = omega (arith, few, length-words_of elements)
 
 -- each word that elements unpack to is below 2^64
 words_below : (elements : List F) → All (λ word. word < 2 ^ 64) (words_of elements)
-words_below elements =
-    let bs : List ℕ = element_bits elements in
-    pieces_below 64 (piece_count 64 (length bs)) bs (joined-are_bits 63 (map number elements))
+words_below elements = grind (arith, pieces_below, joined-are_bits)
 
 -- rows of the width that n elements need have room for them
 filled_within : (n min width size : ℕ) → 1 ≤ min → div_ceil n min ≡ width → size ≡ min * width → n ≤ size
-filled_within n min width size some wide e =
-    let count : piece_count min n ≡ width = sym (rounded_up n min some) ∙ wide in
-    let enough : n ≤ min * piece_count min n = piece_count-enough min n some in
-    let all : min * piece_count min n ≡ min * width = ap (λ m. min * m) count in
-    omega (arith, enough, all, e)
+filled_within n min width size some wide e = grind arith
 
 -- where the first word says how many words follow, the first elements are what it and these pack to, and the others are zero, the elements are those of data
 pub data_of_repacked : (elements : List F) (n filled min width : ℕ) → 1 ≤ min → length elements ≡ min * width → n < 2 ^ 64 → n ≡ get_or (words_of elements) 0 0

@@ -65,9 +65,4 @@ module _ {A : Type 0} (R : CommutativeRing A) where
   pub value-at_place : (x : A) (xs : List A) (rows : List (List A)) (t : ℕ) → HaveLength (length xs) rows → t < length xs → value_of_column x rows t ≡ R.one
       → ((i : ℕ) → i < length xs → i ≢ t → value_of_column x rows i ≡ R.zero)
       → OverRing.value R x (map (λ row. OverRing.weighted_sum R xs row) rows) ≡ get_or xs t R.zero
-  value-at_place x xs rows t h l e z =
-      let n = length xs in
-      let count : length (values_of_columns x rows n) ≡ n = values-count x rows n in
-      value-of_sums x xs rows h
-      ∙ weighted_sum-one_at R t xs (values_of_columns x rows n) (omega (arith, l, count)) (values-at x rows n t l ∙ e)
-      (λ i b apart. let inside : i < n = omega (arith, b, count) in values-at x rows n i inside ∙ z i inside apart)
+  value-at_place x xs rows t h l e z = grind (arith, values-count, value-of_sums, weighted_sum-one_at, values-at)

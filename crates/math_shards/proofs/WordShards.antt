@@ -67,17 +67,7 @@ shards_more min total indices cells cols i shards s count l below index least mo
 -- the shards of all rows
 pub shards_all : (min total : ℕ) (indices cells : List ℕ) (cols i : ℕ) (shards : List Shard) → length cells ≡ length indices * cols → length indices ≤ i
     → AreSoFar min total indices cells cols i shards → i ≡ length indices → AreWordShards min total indices cells shards
-shards_all min total indices cells cols i shards count all h e =
-    let keys : map (λ (s : Shard). s.index) shards ≡ indices = h.keys ∙ take_all i indices all in
-    let many : length indices ≡ length shards = sym (ap length keys) ∙ length-map shards (λ (s : Shard). s.index) in
-    let whole : length cells ≤ i * cols = rw e (omega (arith, count)) in
-    record {
-      keys = keys;
-      least = h.least;
-      most = h.most;
-      count = λ k d l. count ∙ ap (λ n. n * cols) many ∙ ap (λ w. length shards * w) (sym (h.count k d l));
-      rows = h.rows ∙ take_all (i * cols) cells whole;
-    }
+shards_all min total indices cells cols i shards count all h e = grind (arith, take_all, length-map)
 
 -- Rows of words as shards: a vector lends its place to those of their cells.
 module _ {R : Type 0} (some : Vec R) (min total cols : ℕ) (small : cols < 2 ^ 63) where
@@ -176,16 +166,12 @@ rows_wide row_words n cols cells rows e words = λ k d l.
 -- Rows of words, each with its index, and the shards that they are.
 module _ {R : Type 0} (some : Vec R) (min total cols : ℕ) (small : cols < 2 ^ 63) where
   wide_first : (n : ℕ) (cells : List ℕ) → length cells ≡ suc n * cols → length (elements (take cols cells)) ≡ cols
-  wide_first n cells e =
-      let more : suc n * cols ≡ cols + n * cols = omega arith in
-      length-map (take cols cells) residue ∙ length-take-le cols cells (omega (arith, e, more))
+  wide_first n cells e = grind (arith, length-map, length-take-le)
 
   -- the shards beside a first one that is as wide as the rows, and has these numbers
   module _ (first : Shard) (least : first.min ≡ min) (most : first.total ≡ total) (wide : length first.cells.items ≡ cols) (some_min : 1 ≤ min) (within : min ≤ total) where
     matches_of : (indices cells : List ℕ) → length cells ≡ length indices * cols → All (Matches first) (word_shards some min total cols small indices cells)
-    matches_of indices cells e k d l =
-        let of = each_of some min total cols small indices cells e k d l in
-        record { least = of.0 ∙ sym least; most = of.1 ∙ sym most; count = of.2 ∙ sym wide; some = omega (arith, of.0, some_min); within = omega (arith, of.0, of.1, within) }
+    matches_of indices cells e k d l = grind (arith, each_of)
 
     -- the first index that is out of range
     first_past : (indices cells : List ℕ) → length cells ≡ length indices * cols → ¬ (All (λ n. n < total) indices)

@@ -13,24 +13,10 @@ use Rattle.math_theory.proofs.rings.Normal.{◌⊕◌, ◌⊗◌, minus, 𝟙, v
 
 -- more cells than one row has are more than one row
 pub some-level : (lg c n : ℕ) → n ≡ 2 ^ lg * c → c < n → 0 < lg
-some-level lg c n size more =
-    elim (cases_lt 0 lg) [
-      | inl l ↦ l
-      | inr z ↦
-          let none : lg ≡ 0 = omega (arith, z) in
-          let row : 2 ^ lg * c ≡ c = ap (λ i. 2 ^ i * c) none ∙ omega arith in
-          absurd (omega (arith, row, size, more))
-    ]
+some-level lg c n size more = grind arith
 
 pub some-columns : (lg c n : ℕ) → n ≡ 2 ^ lg * c → c < n → 0 < c
-some-columns lg c n size more =
-    elim (cases_lt 0 c) [
-      | inl l ↦ l
-      | inr z ↦
-          let none : c ≡ 0 = omega (arith, z) in
-          let row : 2 ^ lg * c ≡ 0 = ap (λ i. 2 ^ lg * i) none ∙ omega arith in
-          absurd (omega (arith, row, size, more))
-    ]
+some-columns lg c n size more = grind arith
 
 -- and no more cells than one row has are one row, or none
 pub one_level : (lg c n : ℕ) → n ≡ 2 ^ lg * c → n ≤ c → 0 < c → lg ≡ 0

@@ -12,7 +12,6 @@ use Rattle.std.proofs.lemmas.List.Sums.{count_by-le-length, sum_by-append, sum_b
 use Rattle.std.proofs.lemmas.Nat.{one_shl, ones_cat, or_lt, pow_below, pow_pos}
 use Rattle.std.proofs.lemmas.Nat.Bits.{ones_shr}
 use Rattle.std.proofs.lemmas.Slice.Eq.{slice_eq-Decides}
-use Rattle.std.specs.Cmp.{booleans_Decides}
 use Rattle.std.specs.Cmp.Lexicographic.{pointwise}
 use mathlib.Core.Bool.{beq}
 use Rattle.std.proofs.lemmas.Option.{slice_get-get_or}
@@ -66,9 +65,7 @@ place_of lg index h =
 
 module _ (lg : ℕ) (words : List ℕ) (whole : IsBitmap lg words) where
   pub length-truth_values : length (truth_values lg words) ≡ 2 ^ lg
-  length-truth_values =
-      length-map (joined (points_a_word lg) words) is_one ∙ length-joined (points_a_word lg) words
-      ∙ ap (λ t. points_a_word lg * t) whole.whole ∙ all_points lg
+  length-truth_values = grind (arith, length-map, length-joined, all_points)
 
   module _ (index : ℕ) (within : index < length (truth_values lg words)) where
     below : index < 2 ^ lg
@@ -204,18 +201,11 @@ count_true-words lg words whole = count_true-joined (points_a_word lg) words who
 -- a test of two lists of words is the test of their truth values
 pub equal_words : (l m : ℕ) (a b : List ℕ) → IsBitmap l a → IsBitmap m b → (r : Bool) → l ≡ m → r ≡ pointwise ◌==◌ a b
     → r ≡ pointwise beq (truth_values l a) (truth_values m b)
-equal_words l m a b f g r e h =
-    let words = slice_eq-Decides Decides-eqb a b r h in
-    let values = slice_eq-Decides booleans_Decides (truth_values l a) (truth_values m b) (pointwise beq (truth_values l a) (truth_values m b)) refl in
-    same_tests r (pointwise beq (truth_values l a) (truth_values m b))
-    (λ t. values.1 (ap₂ truth_values e (words.0 t)))
-    (λ t. words.1 (words_by_truth_values l a b f (subst (λ n. IsBitmap n b) (sym e) g) (values.0 t ∙ ap (λ n. truth_values n b) (sym e))))
+equal_words l m a b f g r e h = grind (arith, slice_eq-Decides, Decides-eqb, same_tests, words_by_truth_values)
 
 -- bitmaps of other sizes have other truth values
 pub unequal_sizes : (l m : ℕ) (a b : List ℕ) → IsBitmap l a → IsBitmap m b → (l ≡ m → ⊥) → pointwise beq (truth_values l a) (truth_values m b) ≡ false
-unequal_sizes l m a b f g differ =
-    let values = slice_eq-Decides booleans_Decides (truth_values l a) (truth_values m b) (pointwise beq (truth_values l a) (truth_values m b)) refl in
-    false_from_ne_true (pointwise beq (truth_values l a) (truth_values m b)) (λ t. differ (lg_by_truth_values l m a b f g (values.0 t)))
+unequal_sizes l m a b f g differ = grind (arith, slice_eq-Decides, false_from_ne_true, lg_by_truth_values)
 
 -- the highest word shifted to the number of points
 pub shifted_word : (lg few : ℕ) → few ≡ min lg 6

@@ -1,7 +1,7 @@
 -- Pairs of cells that are combined, one column after the other.
-use Rattle.std.proofs.Common.{◌≡◌, ◌≢◌, ◌∙◌, inl, inr, ℕ, ◌+◌, ◌*◌, ◌<◌, Bool, true, false, eqb, not, List, length, get_or, set, subst, refl, arith}
+use Rattle.std.proofs.Common.{◌≡◌, ◌≢◌, ◌∙◌, ℕ, ◌+◌, ◌*◌, ◌<◌, Bool, true, false, eqb, not, List, length, get_or, set, refl, arith}
 use Rattle.std.specs.Prelude.{IsTrue}
-use Rattle.std.proofs.lemmas.Bool.{cases_lt, eq-eqb, ne_eqb}
+use Rattle.std.proofs.lemmas.Bool.{eq-eqb, ne_eqb}
 use Rattle.std.proofs.lemmas.List.{get_or-set_same, get_or-set_other, length-set}
 use Rattle.math_theory.specs.Laws.{IsEquality, IsGroup, IsProduct, IsRing}
 use Rattle.math_base.specs.Members.{RingOf}
@@ -55,29 +55,12 @@ module _ {A : Type 0} (R : RingOf A) where
 
     -- and then the next column
     column-more : (n : ℕ) (old mid new : List A) → n < c → AreCombinedBelow R forward w c n old mid → IsColumnCombined n mid new → AreCombinedBelow R forward w c (n + 1) old new
-    column-more n old mid new l h k = record {
-      combined = λ p b. elim (cases_lt p n) as (λ _. IsCombined R forward w (at old p) (at old (c + p)) (at new p) (at new (c + p))) [
-        | inl before ↦ rw (k.others p (omega arith) (omega arith), k.others (c + p) (omega arith) (omega arith)) (h.combined p before)
-        | inr past ↦
-            let same : n ≡ p = omega (arith, past, b) in
-            let was = h.kept n (omega arith) l in
-            subst (λ p. IsCombined R forward w (at old p) (at old (c + p)) (at new p) (at new (c + p))) same (rw (← was.0, ← was.1) k.combined)
-      ];
-      kept = λ p b m.
-          let was = h.kept p (omega (arith, b)) m in
-          (k.others p (omega arith) (omega arith) ∙ was.0, k.others (c + p) (omega arith) (omega arith) ∙ was.1);
-    }
+    column-more n old mid new l h k = grind arith
 
     -- one column, of which both cells are written
     combined-column : (p : ℕ) (old : List A) (a b x y : A) → p < c → length old ≡ 2 * c → a ≡ at old p → b ≡ at old (c + p) → IsCombined R forward w a b x y
         → IsColumnCombined p old (set (set old p x) (c + p) y)
-    combined-column p old a b x y l long is_a is_b h =
-        let low : at (set (set old p x) (c + p) y) p ≡ x = get_or-set_other (set old p x) (c + p) p y R.zero (omega arith) ∙ get_or-set_same old p x R.zero (omega arith) in
-        let high : at (set (set old p x) (c + p) y) (c + p) ≡ y = get_or-set_same (set old p x) (c + p) y R.zero (omega (arith, length-set old p x)) in
-        record {
-          combined = rw (← is_a, ← is_b, low, high) h;
-          others = λ i m n. get_or-set_other (set old p x) (c + p) i y R.zero n ∙ get_or-set_other old p i x R.zero m;
-        }
+    combined-column p old a b x y l long is_a is_b h = grind (arith, get_or-set_other, get_or-set_same, length-set)
 
     -- and so with the next column, of which both cells are written
     pub combined-more : (n : ℕ) (old mid : List A) (x y : A) → n < c → length mid ≡ 2 * c → AreCombinedBelow R forward w c n old mid → (a b : A) → a ≡ at mid n → b ≡ at mid (c + n) → IsCombined R forward w a b x y

@@ -20,6 +20,4 @@ module _ {A : Type 0} (same : A → A → Type 0) (zero_of : A) where
 
   -- with no items each cell is zero
   pub filled-zero : (items cells : List A) (k : ℕ) → items ≡ [] → k < length cells → AreFilledUp same zero_of items cells → is_zero (get_or cells k zero_of)
-  filled-zero items cells k e l h =
-      let all : cells ≡ h.0 = rw e at h.1 in
-      rw all (h.2 k zero_of (rw all at l))
+  filled-zero items cells k e l h = grind arith

@@ -133,10 +133,7 @@ module _ {K : Type 0} (C : CommutativeRing K) where
   row-value lg c k x p none l = ap (λ i. at x (column i c k p)) (ap (λ i. 2 ^ i) none) ∙ one_row c k x p l
 
   pub row-values : (roots : List K) (lg place c : ℕ) (cells : List K) → lg ≡ 0 → AreValuesBelow (plain C) roots lg place c cells cells
-  row-values roots lg place c cells none = λ t k b l.
-      let one : 2 ^ lg ≡ 1 = ap (λ i. 2 ^ i) none in
-      let here : t * c + k ≡ k = let z : t ≡ 0 = omega (arith, b, one) in ap (λ i. i * c + k) z ∙ omega arith in
-      ap (λ i. get_or cells i C.zero) here ∙ sym (row-value lg c k (class_at (plain C) roots (2 ^ lg * place + t)) cells none l)
+  row-values roots lg place c cells none = grind (arith, row-value)
 
   -- at one x, as `AreMultiplesBelow` at all
   abbrev pub AreMultiplesAt : K → List K → ℕ → ℕ → ℕ → List K → List K → Type 0

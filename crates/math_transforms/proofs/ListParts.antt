@@ -1,5 +1,5 @@
 -- Parts of s items of a list, which are changed one after the other.
-use Rattle.std.proofs.Common.{◌≡◌, ◌∙◌, inl, inr, ℕ, ◌+◌, ◌*◌, ◌-◌, ◌<◌, ◌≤◌, List, ◌++◌, length, take, drop, get_or, refl, sym, ap, ap₂, arith}
+use Rattle.std.proofs.Common.{◌≡◌, ◌∙◌, inl, inr, ℕ, ◌+◌, ◌*◌, ◌-◌, ◌<◌, ◌≤◌, List, ◌++◌, length, take, drop, get_or, sym, ap, ap₂, arith}
 use Rattle.std.proofs.Math.Seq.{drop-append_seam, drop-drop, take-add, take-append_seam}
 use Rattle.std.proofs.lemmas.Bool.{cases_lt}
 use Rattle.std.proofs.lemmas.List.{drop-append-le, length-drop, length-take-le, take-append-drop, take-append-le, take_all}
@@ -26,9 +26,7 @@ module _ {A : Type 0} (s : ℕ) where
   first-part xs = let none : 0 ≡ 0 * s = omega arith in ap (λ i. take s (drop i xs)) none
 
   pub two-parts : (xs : List A) → length xs ≡ 2 * s → xs ≡ part 0 xs ++ part 1 xs
-  two-parts xs long =
-      let one : s ≡ 1 * s = omega arith in
-      sym (take-append-drop s xs) ∙ ap₂ (λ x y. x ++ y) (first-part xs) (ap (λ i. drop i xs) one ∙ sym (last-part 1 xs (omega (arith, long))))
+  two-parts xs long = grind (arith, take-append-drop, first-part, last-part)
 
   pub four-parts : (xs : List A) → length xs ≡ 4 * s → xs ≡ (part 0 xs ++ part 1 xs) ++ (part 2 xs ++ part 3 xs)
   four-parts xs long =
@@ -45,9 +43,6 @@ module _ {A : Type 0} (s : ℕ) where
   pub record ArePartsDone (Q : ℕ → List A → List A → Type 0) (n : ℕ) (old now : List A) : Type 0 where
     pub done : (k : ℕ) → k < n → Q k (part k old) (part k now)
     pub rest : drop (n * s) now ≡ drop (n * s) old
-
-  pub none-done : (Q : ℕ → List A → List A → Type 0) (old : List A) → ArePartsDone Q 0 old old
-  none-done Q old = record { done = λ k l. absurd (omega (arith, l)); rest = refl }
 
   -- one part more
   module _ (Q : ℕ → List A → List A → Type 0) (old now row : List A) (k from n : ℕ) (at : from ≡ k * s) (count : n ≡ s) (within : from + s ≤ length now) (long : length row ≡ s) where
@@ -99,6 +94,4 @@ module _ {A : Type 0} (s : ℕ) where
 
 -- the items of a list from one place on, up to another one
 pub slice-size : {A : Type 0} (from s : ℕ) (xs : List A) → from + s ≤ length xs → length (take (from + s - from) (drop from xs)) ≡ s
-slice-size from s xs l =
-    let size : from + s - from ≡ s = omega arith in
-    rw size (length-take-le s (drop from xs) (omega (arith, l, length-drop from xs)))
+slice-size from s xs l = grind (arith, length-take-le, length-drop)

@@ -1,5 +1,5 @@
 -- The rows and columns of a matrix, and the places of its cells.
-use Rattle.std.proofs.Common.{◌≡◌, ◌∙◌, inl, inr, ℕ, zero, suc, ◌+◌, ◌*◌, ◌<◌, ◌≤◌, List, [], ◌++◌, length, take, drop, get_or, ap, refl, sym, arith}
+use Rattle.std.proofs.Common.{◌≡◌, ◌∙◌, inl, inr, ℕ, zero, suc, ◌+◌, ◌*◌, ◌<◌, ◌≤◌, List, [], ◌++◌, length, take, drop, get_or, ap, refl, arith}
 use Rattle.std.proofs.lemmas.Bool.{cases_lt}
 use Rattle.std.proofs.lemmas.List.{get_or-map, length-map, get_or_append_left, get_or-append-add, get_or-take, get_or-drop, get_or_past, drop-drop}
 use Rattle.std.proofs.lemmas.Nat.{mul-add-lt, mul-le}
@@ -28,17 +28,7 @@ module _ {A : Type 0} where
 
   -- coefficient i of column k is the cell in row i, also past the last row, where there is none
   pub cell-of_column : (d : A) (m : MatrixOf A) (k i : ℕ) → k < m.cols → length m.cells ≡ m.rows * m.cols → get_or (column_of d m k) i d ≡ cell_of d m i k
-  cell-of_column d m k i l e =
-      elim (cases_lt i m.rows) [
-        | inl within ↦
-            column-at d m k i d within
-            ∙ get_or-take m.cols (drop (i * m.cols) m.cells) k d l
-            ∙ get_or-drop (i * m.cols) m.cells k d
-        | inr past ↦
-            let cells : m.rows * m.cols ≤ i * m.cols = mul-le m.rows m.cols i m.cols (omega (arith, past)) (omega arith) in
-            get_or_past (column_of d m k) i d (rw (length-column d m k) (omega (arith, past)))
-            ∙ sym (get_or_past m.cells (i * m.cols + k) d (rw e (omega (arith, cells))))
-      ]
+  cell-of_column d m k i l e = grind (arith, cases_lt, column-at, get_or-take, get_or-drop, mul-le, get_or_past, length-column)
 
   -- what holds of each cell of the rows so far, and of a further row
   pub each-cell-next : (d : A) (P : ℕ → ℕ → A → Type 0) (c i : ℕ) (cells row : List A) → length cells ≡ i * c → length row ≡ c

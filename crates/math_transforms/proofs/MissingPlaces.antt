@@ -129,10 +129,7 @@ pub count_false-within : (start stride : ℕ) (filled : List Bool) (n : ℕ) →
 count_false-within start stride filled n = omega (arith, count_both (every start stride n filled), length-every start stride filled n)
 
 pub place-within : (start stride count total j : ℕ) → start < stride → count * stride ≡ total → j < count → start + j * stride < total
-place-within start stride count total j s e l =
-    let more : suc j * stride ≤ count * stride = grind arith in
-    let one : suc j * stride ≡ j * stride + stride = grind arith in
-    omega arith
+place-within start stride count total j s e l = grind arith
 
 module _ (start stride : ℕ) (filled : List Bool) (n : ℕ) where
   abbrev places : ℕ → List Bool

@@ -1,5 +1,5 @@
 -- What holds at the one lg of a number of rows.
-use Rattle.std.proofs.Common.{◌≡◌, ◌∙◌, inl, inr, ℕ, suc, ◌*◌, ◌^◌, ◌<◌, ◌≤◌, List, sym, ap, subst, pow_mono, pow_pos, arith}
+use Rattle.std.proofs.Common.{◌≡◌, ◌∙◌, ℕ, suc, ◌*◌, ◌^◌, ◌<◌, ◌≤◌, List, pow_mono, pow_pos, arith}
 use Rattle.std.proofs.lemmas.Bool.{cases_lt}
 use Rattle.math_theory.proofs.domains.RootOrders.{power_of_two-suc}
 use Rattle.math_base.specs.Members.{RingOf}
@@ -10,24 +10,12 @@ power-apart : (i j : ℕ) → i < j → 2 ^ i < 2 ^ j
 power-apart i j h = let up : 2 ^ suc i ≤ 2 ^ j = pow_mono h in omega (arith, up, power_of_two-suc i, pow_pos i)
 
 pub power-once : (i j : ℕ) → 2 ^ i ≡ 2 ^ j → i ≡ j
-power-once i j e =
-    elim (cases_lt i j) [
-      | inl l ↦ absurd (omega (arith, e, power-apart i j l))
-      | inr l ↦
-          elim (cases_lt j i) [
-            | inl m ↦ absurd (omega (arith, e, power-apart j i m))
-            | inr m ↦ omega (arith, l, m)
-          ]
-    ]
+power-once i j e = grind (arith, cases_lt, power-apart)
 
 module _ {A : Type 0} where
   pub count-on_domain : (m s : MatrixOf A) → m ≡ s → (i lg : ℕ) → m.rows ≡ 2 ^ i → s.rows ≡ 2 ^ lg → m.cols * 2 ^ i * i ≡ s.cols * s.rows * lg
-  count-on_domain m s e i lg h k =
-      let once : i ≡ lg = power-once i lg (sym h ∙ ap (λ (x : MatrixOf A). x.rows) e ∙ k) in
-      ap (λ x. m.cols * x * i) (sym h) ∙ ap (λ x. m.cols * m.rows * x) once ∙ ap (λ (x : MatrixOf A). x.cols * x.rows * lg) e
+  count-on_domain m s e i lg h k = grind (arith, power-once)
 
   pub values-on_domain : (R : RingOf A) (root : ℕ → A) (rows cols i : ℕ) (cells : List A) (v w : MatrixOf A) → rows ≡ 2 ^ i
       → w.cols ≡ v.cols → w.cells ≡ v.cells → AreValuesAtPowers R (root i) (matrix_of (2 ^ i) cols cells) v → AreValuesOnDomain R root (matrix_of rows cols cells) w
-  values-on_domain R root rows cols i cells v w e f g h lg k =
-      let once : i ≡ lg = power-once i lg (sym e ∙ k) in
-      rw (f, g) (subst (λ n. AreValuesAtPowers R (root n) (matrix_of rows cols cells) v) once (subst (λ r. AreValuesAtPowers R (root i) (matrix_of r cols cells) v) (sym e) h))
+  values-on_domain R root rows cols i cells v w e f g h lg k = grind (arith, power-once)

@@ -77,14 +77,7 @@ not_below n a b p h k l =
 
 -- there is one such lg
 pub lg-only : (n a b : ℕ) → 0 < n → IsNextPowerOfTwo n (2 ^ a) → IsNextPowerOfTwo n (2 ^ b) → a ≡ b
-lg-only n a b p h k =
-    elim (cases_eq a b) [
-      | inl e ↦ e
-      | inr o ↦ elim (cases_lt a b) [
-        | inl l ↦ absurd (not_below n a b p h.1 k.2 l)
-        | inr m ↦ absurd (not_below n b a p k.1 h.2 (omega (arith, o)))
-      ]
-    ]
+lg-only n a b p h k = grind (arith, cases_eq, cases_lt, not_below)
 
 pub lg-of_total : (n : ℕ) → 0 < n → n < 4294967296 → IsNextPowerOfTwo n (2 ^ (32 - count_leading_zeros 32 (n - 1)))
 lg-of_total n p l =
@@ -113,15 +106,7 @@ append-of_none xs (y ∷ ys) z = absurd (omega (arith, z))
 -- the pairs that are put away have the first keys and values; where one list is at its end, both are
 pub parts-all : {K A : Type 0} (keys : List K) (values : List A) (pairs : List (K × A)) (more_keys : List K) (more_values : List A) → length values ≡ length keys
     → keys_of pairs ++ more_keys ≡ keys → values_of pairs ++ more_values ≡ values → (length more_keys ≡ 0) ⊎ (length more_values ≡ 0) → (keys_of pairs ≡ keys) × (values_of pairs ≡ values)
-parts-all keys values pairs more_keys more_values n k v ends =
-    let a : length (keys_of pairs) + length more_keys ≡ length keys = sym (length-append (keys_of pairs) more_keys) ∙ ap length k in
-    let b : length (values_of pairs) + length more_values ≡ length values = sym (length-append (values_of pairs) more_values) ∙ ap length v in
-    let c : length (keys_of pairs) ≡ length (values_of pairs) = length-map pairs (λ p. p.0) ∙ sym (length-map pairs (λ p. p.1)) in
-    let both : (length more_keys ≡ 0) × (length more_values ≡ 0) = elim ends [
-      | inl e ↦ (e, omega arith)
-      | inr e ↦ (omega arith, e)
-    ] in
-    (sym (append-of_none (keys_of pairs) more_keys both.0) ∙ k, sym (append-of_none (values_of pairs) more_values both.1) ∙ v)
+parts-all keys values pairs more_keys more_values n k v ends = grind (arith, length-append, length-map, append-of_none)
 
 pub read : (filled : List Bool) (i : ℕ) (b : Bool) → slice_get filled i ≡ Some b → get_or filled i false ≡ b
 read [] i b e = cc
@@ -133,10 +118,7 @@ pub length-places : (filled : List Bool) → length (filled_places filled) ≡ c
 length-places filled = length-filled_items (range_with_len 0 (length filled)) filled (sym (length-range_with_len 0 (length filled)))
 
 pub place-number : (filled : List Bool) (k : ℕ) → k < count_true filled → get_or (filled_places filled) k 0 ≡ filled_place filled k
-place-number filled k l =
-    filled_items-place (range_with_len 0 (length filled)) filled k 0 (sym (length-range_with_len 0 (length filled))) l
-    ∙ get_or-range_with_len 0 (length filled) (filled_place filled k) 0 (filled_place-true filled k l).0
-    ∙ (let e : 0 + filled_place filled k ≡ filled_place filled k = omega arith in e)
+place-number filled k l = grind (arith, filled_items-place, length-range_with_len, get_or-range_with_len, filled_place, filled_place-true)
 
 pub places-below : (filled : List Bool) → All (λ place. place < length filled) (filled_places filled)
 places-below filled k d l =

@@ -66,7 +66,4 @@ reversed-word lg i small below =
 
 -- the row of that number is within 2^lg rows of c cells
 pub reversed-row_within : (lg i c n row : ℕ) → n ≡ 2 ^ lg * c → row ≡ bit_reversed lg i → row * c + c ≤ n
-reversed-row_within lg i c n row count e =
-    let up : (row + 1) * c ≤ 2 ^ lg * c = mul-le (row + 1) c (2 ^ lg) c (omega (arith, e, bit_reversed-below lg i)) (omega arith) in
-    let next : (row + 1) * c ≡ row * c + c = omega arith in
-    omega (arith, up, next, count)
+reversed-row_within lg i c n row count e = grind (arith, mul-le, bit_reversed-below)

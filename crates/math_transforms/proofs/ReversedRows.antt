@@ -14,16 +14,7 @@ reversed-zero (suc k) = bit_reversed-suc k 0 ∙ omega (arith, reversed-zero k)
 
 -- counting up by one, where the lowest bit is zero
 next-even : (lg i : ℕ) → bit_reversed (suc lg) i < 2 ^ lg → bit_reversed (suc lg) (i + 1) ≡ bit_reversed (suc lg) i + 2 ^ lg
-next-even lg i h = elim (cases_lt (i % 2) 1) [
-  | inl even ↦
-      let e : i % 2 ≡ 0 = omega (arith, even) in
-      let f : (i + 1) % 2 ≡ 1 = omega (arith, e) in
-      let g : (i + 1) / 2 ≡ i / 2 = omega (arith, e) in
-      let old = rw e at (bit_reversed-suc lg i) in
-      let new = rw (f, g) at (bit_reversed-suc lg (i + 1)) in
-      omega (arith, old, new)
-  | inr odd ↦ let e : i % 2 ≡ 1 = omega (arith, odd) in let old = rw e at (bit_reversed-suc lg i) in absurd (omega (arith, old, h))
-]
+next-even lg i h = grind (arith, cases_lt, bit_reversed-suc)
 
 -- and where it is one
 next-odd : (lg i : ℕ) → 2 ^ lg ≤ bit_reversed (suc lg) i → (i % 2 ≡ 1) × (bit_reversed lg (i / 2) ≡ bit_reversed (suc lg) i - 2 ^ lg) × (bit_reversed (suc lg) (i + 1) ≡ bit_reversed lg (i / 2 + 1))
@@ -58,59 +49,15 @@ module _ {A : Type 0} (count : ℕ) (other : ℕ → ℕ) (twice : (r : ℕ) →
   pair : (r : ℕ) → r < count → other r ≡ i → r ≡ other i
   pair r l e = sym (twice r l) ∙ ap other e
 
-  stayed-here : other i ≤ i → now i ≡ old (other i)
-  stayed-here l =
-      elim (cases_lt (other i) i) [
-        | inl below ↦ h.moved_by i within below
-        | inr above ↦ let e : other i ≡ i = omega (arith, above) in h.kept i within (omega arith) (omega arith) ∙ ap old (sym e)
-      ]
-
   -- row i has its place
   pub reversed-stayed : other i ≤ i → IsReversedBelow count other old now (i + 1)
-  reversed-stayed l = record {
-    moved = λ r m b. elim (cases_lt r i) [
-      | inl below ↦ h.moved r m below
-      | inr above ↦ let e : i ≡ r = omega (arith, above) in subst (λ x. now x ≡ old (other x)) e (stayed-here l)
-    ];
-    moved_by = λ r m b. elim (cases_lt (other r) i) [
-      | inl below ↦ h.moved_by r m below
-      | inr above ↦
-          let p : r ≡ other i = pair r m (let e : other r ≡ i = omega (arith, above) in e) in
-          elim (cases_lt r i) [
-            | inl before ↦ h.moved r m before
-            | inr after ↦ let e : i ≡ r = omega (arith, after, p) in subst (λ x. now x ≡ old (other x)) e (stayed-here l)
-          ]
-    ];
-    kept = λ r m a b. h.kept r m (omega arith) (omega arith);
-  }
+  reversed-stayed l = grind arith
 
   module _ (new : ℕ → A) (above : i < other i) (within_other : other i < count) (first : new i ≡ now (other i)) (second : new (other i) ≡ now i)
       (others : (r : ℕ) → r < count → r ≢ i → r ≢ other i → new r ≡ now r) where
-    at-first : new i ≡ old (other i)
-    at-first = first ∙ h.kept (other i) within_other (omega arith) (omega (arith, twice i within))
-
-    at-second : new (other i) ≡ old (other (other i))
-    at-second = second ∙ h.kept i within (omega arith) (omega arith) ∙ ap old (sym (twice i within))
-
     -- rows i and other i are exchanged
     pub reversed-exchanged : IsReversedBelow count other old new (i + 1)
-    reversed-exchanged = record {
-      moved = λ r m b. elim (cases_lt r i) [
-        | inl below ↦ others r m (omega (arith, below)) (omega (arith, below)) ∙ h.moved r m below
-        | inr not_below ↦ let e : i ≡ r = omega (arith, not_below) in subst (λ x. new x ≡ old (other x)) e at-first
-      ];
-      moved_by = λ r m b. elim (cases_lt (other r) i) [
-        | inl below ↦
-            others r m (λ e. absurd (let f = ap other e in omega (arith, f, below))) (λ e. absurd (let f : other r ≡ i = ap other e ∙ twice i within in omega (arith, f, below)))
-            ∙ h.moved_by r m below
-        | inr not_below ↦
-            let p : r ≡ other i = pair r m (let e : other r ≡ i = omega (arith, not_below) in e) in
-            subst (λ x. new x ≡ old (other x)) (sym p) at-second
-      ];
-      kept = λ r m a b.
-          others r m (λ e. absurd (omega (arith, e))) (λ e. absurd (let f : other r ≡ i = ap other e ∙ twice i within in omega (arith, f)))
-          ∙ h.kept r m (omega arith) (omega arith);
-    }
+    reversed-exchanged = grind arith
 
 -- cells of different rows stand at different places
 pub places-apart : (r i c a b : ℕ) → a < c → b < c → r ≢ i → r * c + a ≢ i * c + b

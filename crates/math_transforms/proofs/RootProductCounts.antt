@@ -21,24 +21,8 @@ within-filled x start v w e h = omega (arith, triangle-rises v w e)
 
 -- there is room for the next, with at most 256 points
 pub room-next : (x start l v bound : ℕ) → v < 256 → l ≡ v + 1 → 2 * x ≡ 2 * start + v * (v + 1) → start + 2 ^ 16 < bound → x + l < bound
-room-next x start l v bound e f h k =
-    let few : v * (v + 1) ≤ 255 * 256 = mul-le-mul (let a : v ≤ 255 = omega arith in a) (let b : v + 1 ≤ 256 = omega arith in b) in
-    omega arith
-
--- at most 128 a point, where not all of at most 256 points are missing
-pub within-points : (y start v n : ℕ) → v < n → n ≤ 256 → 2 * y ≤ 2 * start + v * (v + 1) → y ≤ start + 128 * n
-within-points y start v n l h k =
-    let few : v * (v + 1) ≤ 255 * n = mul-le-mul (let a : v ≤ 255 = omega arith in a) (let b : v + 1 ≤ n = omega arith in b) in
-    omega arith
-
-pub none-missing : (x v : ℕ) → v ≡ 0 → 2 * x ≡ 2 * x + v * (v + 1)
-none-missing x v e = rw e (omega arith)
+room-next x start l v bound e f h k = grind arith
 
 pub chunk-bounded : (u v : WorkOf) (m n : ℕ) → m < n → n ≤ 256 → v.butterflies ≡ u.butterflies → u.root_products ≤ v.root_products
     → 2 * v.root_products ≤ 2 * u.root_products + m * (m + 1) → AddsWithin 0 (128 * n) u v
-chunk-bounded u v m n l h b f k = record {
-  no_fewer = omega (arith, b);
-  no_more = omega (arith, b);
-  no_fewer_products = f;
-  no_more_products = within-points v.root_products u.root_products m n l h k;
-}
+chunk-bounded u v m n l h b f k = grind arith

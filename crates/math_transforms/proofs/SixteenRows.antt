@@ -1,6 +1,6 @@
 -- Rows by sixteens: those whose numbers have the same bits, but for the two highest and the two lowest.
 use Rattle.std.proofs.Common.{◌≡◌, ◌≢◌, ◌∙◌, ℕ, zero, suc, ◌+◌, ◌-◌, ◌*◌, ◌/◌, ◌%◌, ◌^◌, ◌<◌, ◌≤◌, reverse, refl, sym, ap, arith}
-use Rattle.std.proofs.Math.Nat.{mod-lt, div-add-mod'}
+use Rattle.std.proofs.Math.Nat.{div-add-mod'}
 use Rattle.std.proofs.lemmas.Nat.{div-mul-add, mod-mul-add, div_below, mul-le, pow_pos}
 use Rattle.math_numbers.specs.Bits.{bits-zero, number}
 use Rattle.math_theory.specs.BitReversal.{bit_reversed}
@@ -45,35 +45,19 @@ module _ (k : ℕ) where
   low-below n h = omega (arith, h)
 
   pub row_at-below : (n : ℕ) → n < 16 * 2 ^ k → row_at n < 16 * 2 ^ k
-  row_at-below n h =
-      let high : n % 16 / 4 * (4 * 2 ^ k) ≤ 3 * (4 * 2 ^ k) = mul-le (n % 16 / 4) (4 * 2 ^ k) 3 (4 * 2 ^ k) (omega arith) (omega arith) in
-      omega (arith, low-below n h, high)
+  row_at-below n h = grind arith
 
   by_four : (a : ℕ) → a * (4 * 2 ^ k) ≡ 4 * (a * 2 ^ k)
   by_four a = omega arith
 
   pub turn_of-row : (n : ℕ) → n < 16 * 2 ^ k → turn_of (row_at n) ≡ n
-  turn_of-row n h =
-      let high = div-mul-add (n % 16 / 4) (4 * 2 ^ k) (4 * (n / 16) + n % 4) (low-below n h) in
-      let low = mod-mul-add (n % 16 / 4) (4 * 2 ^ k) (4 * (n / 16) + n % 4) (low-below n h) in
-      let lowest : row_at n % 4 ≡ n % 4 = omega (arith, by_four (n % 16 / 4)) in
-      rw (high, low, lowest) (omega arith)
+  turn_of-row n h = grind (arith, div-mul-add, low-below, mod-mul-add, by_four)
 
   pub turn_of-below : (r : ℕ) → r < 16 * 2 ^ k → turn_of r < 16 * 2 ^ k
-  turn_of-below r h =
-      let quarter : 0 < 4 * 2 ^ k = omega (arith, pow_pos k) in
-      let high : r / (4 * 2 ^ k) < 4 = div_below r (4 * 2 ^ k) 4 quarter (omega (arith, h)) in
-      let low : r % (4 * 2 ^ k) < 4 * 2 ^ k = mod-lt r quarter in
-      omega (arith, high, low)
+  turn_of-below r h = grind arith
 
   pub row_at-turn : (r : ℕ) → r < 16 * 2 ^ k → row_at (turn_of r) ≡ r
-  row_at-turn r h =
-      let quarter : 0 < 4 * 2 ^ k = omega (arith, pow_pos k) in
-      let high : r / (4 * 2 ^ k) < 4 = div_below r (4 * 2 ^ k) 4 quarter (omega (arith, h)) in
-      let whole : r / (4 * 2 ^ k) * (4 * 2 ^ k) + r % (4 * 2 ^ k) ≡ r = div-add-mod' r (4 * 2 ^ k) in
-      let lowest : r % 4 ≡ r % (4 * 2 ^ k) % 4 = omega (arith, whole, by_four (r / (4 * 2 ^ k))) in
-      let highest : turn_of r % 16 / 4 ≡ r / (4 * 2 ^ k) = omega (arith, high) in
-      omega (arith, high, whole, lowest, ap (λ a. a * (4 * 2 ^ k)) highest)
+  row_at-turn r h = grind (arith, pow_pos, div_below, div-add-mod', by_four)
 
   partner-high : (n : ℕ) → partner n / 16 ≡ bit_reversed k (n / 16)
   partner-high n = let below : bit_reversed 4 (n % 16) < 16 = bit_reversed-below 4 (n % 16) in omega (arith, below)
@@ -146,27 +130,16 @@ module _ (lg middle other t u quarter : ℕ) (many : 4 ≤ lg) (quarter_is : qua
   quarter-rows = quarter_is ∙ (sixteens lg many).quarter
 
   partner-is : partner (lg - 4) visit ≡ 16 * other + u
-  partner-is =
-      let between : visit / 16 ≡ middle = omega (arith, few) in
-      let four : visit % 16 ≡ t = omega (arith, few) in
-      rw (between, four, other_is, u_is) refl
+  partner-is = grind arith
 
   here-is : row_at (lg - 4) visit ≡ here
-  here-is =
-      let high : visit % 16 / 4 ≡ t / 4 = omega (arith, few) in
-      let between : visit / 16 ≡ middle = omega (arith, few) in
-      let low : visit % 4 ≡ t % 4 = omega (arith, few) in
-      rw (quarter-rows, high, between, low) refl
+  here-is = grind (arith, quarter-rows)
 
   pub opposite-few : u < 16
   opposite-few = let below : bit_reversed 4 t < 16 = bit_reversed-below 4 t in omega (arith, u_is, below)
 
   there-is : row_at (lg - 4) (partner (lg - 4) visit) ≡ there
-  there-is =
-      let high : (16 * other + u) % 16 / 4 ≡ u / 4 = omega (arith, opposite-few) in
-      let between : (16 * other + u) / 16 ≡ other = omega (arith, opposite-few) in
-      let low : (16 * other + u) % 4 ≡ u % 4 = omega (arith, opposite-few) in
-      rw (partner-is, quarter-rows, high, between, low) refl
+  there-is = grind (arith, opposite-few, partner-is, quarter-rows)
 
   pub here-below : here < 2 ^ lg
   here-below = rw (← here-is, (sixteens lg many).rows) (row_at-below (lg - 4) visit visit-below)
@@ -178,9 +151,7 @@ module _ (lg middle other t u quarter : ℕ) (many : 4 ≤ lg) (quarter_is : qua
   same_turn m n l k e = sym (turn_of-row (lg - 4) m l) ∙ ap (turn_of (lg - 4)) e ∙ turn_of-row (lg - 4) n k
 
   pub here-apart : visit < 16 * other + u → here ≢ there
-  here-apart l e =
-      let same : visit ≡ partner (lg - 4) visit = same_turn visit (partner (lg - 4) visit) visit-below (partner-below (lg - 4) visit) (here-is ∙ e ∙ sym there-is) in
-      absurd (omega (arith, l, same ∙ partner-is))
+  here-apart l e = grind (arith, same_turn, visit-below, partner-below, here-is, there-is, partner-is)
 
   module _ {A : Type 0} (old now : ℕ → A) (h : IsReversedBelow (16 * 2 ^ (lg - 4)) (partner (lg - 4)) (λ n. old (row_at (lg - 4) n)) (λ n. now (row_at (lg - 4) n)) visit) where
     pub turn-stayed : 16 * other + u ≤ visit → IsReversedBelow (16 * 2 ^ (lg - 4)) (partner (lg - 4)) (λ n. old (row_at (lg - 4) n)) (λ n. now (row_at (lg - 4) n)) (visit + 1)

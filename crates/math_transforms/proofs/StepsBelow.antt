@@ -123,25 +123,12 @@ module _ {A : Type 0} (R : RingOf A) (E : IsEquality R.same) (G : IsGroup R.same
     -- cells of the parts that are combined or turned
     combined-parts : (forward : Bool) (w : A) (old new : List A) → AreCombined R forward w s old new → (j : ℕ) → j < s
         → IsCombined R forward w (entry R (part s 0 old) j) (entry R (part s 1 old) j) (entry R (part s 0 new) j) (entry R (part s 1 new) j)
-    combined-parts forward w old new h j l =
-        let item = λ (k at : ℕ) (is : at ≡ k * s + j) (xs : List A). part-item s R.zero k j at xs is l in
-        rw (item 0 j (omega arith) old, item 1 (s + j) (omega arith) old, item 0 j (omega arith) new, item 1 (s + j) (omega arith) new) (h.combined j l)
+    combined-parts forward w old new h j l = grind (arith, part-item)
 
     turned-parts : (forward : Bool) (e f g : A) (old new : List A) → AreTurned R forward e f g s old new → (j : ℕ) → j < s
         → IsTurned R forward e f g (entry R (part s 0 old) j) (entry R (part s 1 old) j) (entry R (part s 2 old) j) (entry R (part s 3 old) j)
         (entry R (part s 0 new) j) (entry R (part s 1 new) j) (entry R (part s 2 new) j) (entry R (part s 3 new) j)
-    turned-parts forward e f g old new h j l =
-        let item = λ (k at : ℕ) (is : at ≡ k * s + j) (xs : List A). part-item s R.zero k j at xs is l in
-        rw (
-          item 0 j (omega arith) old,
-          item 1 (s + j) (omega arith) old,
-          item 2 (2 * s + j) refl old,
-          item 3 (3 * s + j) refl old,
-          item 0 j (omega arith) new,
-          item 1 (s + j) (omega arith) new,
-          item 2 (2 * s + j) refl new,
-          item 3 (3 * s + j) refl new,
-        ) (h.turned j l)
+    turned-parts forward e f g old new h j l = grind (arith, part-item)
 
   module _ (lg place : ℕ) (square : 1 < lg → R.same (R.product turn turn) (R.negative R.one)) (one : 1 ≤ place) (within : 2 ^ lg * (place + 1) ≤ 2 * length roots) where
     -- all parts, of s cells, after or before a step of so many levels

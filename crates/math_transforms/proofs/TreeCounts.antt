@@ -7,20 +7,10 @@ pub within-part : (b p c q : ℕ) (u v : WorkOf) → b ≤ c → p ≤ q → Add
 within-part b p c q u v l m h = record { no_fewer = h.no_fewer; no_more = omega (arith, h.no_more); no_fewer_products = h.no_fewer_products; no_more_products = omega (arith, h.no_more_products) }
 
 pub within-then : (b p c q : ℕ) (u v w : WorkOf) → AddsWithin b p u v → AddsWithin c q v w → AddsWithin (b + c) (p + q) u w
-within-then b p c q u v w h k = record {
-  no_fewer = omega (arith, h.no_fewer, k.no_fewer);
-  no_more = omega (arith, h.no_more, k.no_more);
-  no_fewer_products = omega (arith, h.no_fewer_products, k.no_fewer_products);
-  no_more_products = omega (arith, h.no_more_products, k.no_more_products);
-}
+within-then b p c q u v w h k = grind arith
 
 pub within-transforms : (b p n : ℕ) (u v w : WorkOf) → AddsWithin b p u v → AddsAtMost n v w → AddsWithin (b + n) p u w
-within-transforms b p n u v w h k = record {
-  no_fewer = omega (arith, h.no_fewer, k.no_fewer);
-  no_more = omega (arith, h.no_more, k.no_more);
-  no_fewer_products = omega (arith, h.no_fewer_products, k.root_products);
-  no_more_products = omega (arith, h.no_more_products, k.root_products);
-}
+within-transforms b p n u v w h k = grind arith
 
 merges-by : (k p : ℕ) → 2 * p * (k + 2) * (3 * k + 5) ≡ p * (k + 1) * (3 * k + 2) + p * (k + 1) * (3 * k + 2) + 3 * (2 * p) * (k + 2) + 2 * p * (3 * k + 2)
 merges-by k p = omega arith

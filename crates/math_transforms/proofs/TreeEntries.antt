@@ -34,16 +34,10 @@ reversed-above d b l = let e : 1 * 2 ^ d + b ≡ 2 ^ d + b = omega arith in omeg
 
 -- the bits of twice a number, and of one more
 pub reversed-twice : (d b : ℕ) → bit_reversed (suc d) (2 * b) ≡ bit_reversed d b
-reversed-twice d b =
-    let low : 2 * b % 2 ≡ 0 = omega arith in
-    let half : 2 * b / 2 ≡ b = omega arith in
-    bit_reversed-suc d (2 * b) ∙ rw (low, half) (omega arith)
+reversed-twice d b = grind (arith, bit_reversed-suc)
 
 pub reversed-twice_more : (d b : ℕ) → bit_reversed (suc d) (2 * b + 1) ≡ 2 ^ d + bit_reversed d b
-reversed-twice_more d b =
-    let low : (2 * b + 1) % 2 ≡ 1 = omega arith in
-    let half : (2 * b + 1) / 2 ≡ b = omega arith in
-    bit_reversed-suc d (2 * b + 1) ∙ rw (low, half) (omega arith)
+reversed-twice_more d b = grind (arith, bit_reversed-suc)
 
 -- each place but the first is in a level
 pub level-of : (lg j : ℕ) → 1 ≤ j → j < 2 ^ lg → (d b : ℕ) × (d < lg) × (b < 2 ^ d) × (2 ^ d + b ≡ j)
@@ -55,10 +49,7 @@ level-of (suc lg) j h l = elim (cases_lt j (2 ^ lg)) [
 
 -- a place below 2^lg is in one of lg levels
 pub level-within : (lg d b : ℕ) → 2 ^ d + b < 2 ^ lg → d < lg
-level-within lg d b l = elim (cases_lt d lg) [
-  | inl h ↦ h
-  | inr h ↦ absurd (omega (arith, l, power_of_two-rises lg d h))
-]
+level-within lg d b l = grind (arith, cases_lt, power_of_two-rises)
 
 module _ {A : Type 0} (R : RingOf A) (E : IsEquality R.same) (G : IsGroup R.same R.zero R.sum R.negative) (P : IsProduct R.same R.product) (L : IsRing R.same R.sum R.product R.one)
     (root : ℕ → A) where
@@ -70,9 +61,6 @@ module _ {A : Type 0} (R : RingOf A) (E : IsEquality R.same) (G : IsGroup R.same
     pub count : length tree ≡ 2 ^ l
     pub first : 2 ≤ lg → R.same (entry R tree 0) (root 2)
     pub entries : (d b : ℕ) → d < l → b < 2 ^ d → R.same (entry R tree (2 ^ d + b)) (power R.one R.product (root (suc d)) (bit_reversed d b))
-
-  pub levels-none : (x : A) (lg : ℕ) → (2 ≤ lg → R.same x (root 2)) → AreLevels lg 0 (x ∷ [])
-  levels-none x lg h = record { count = refl; first = h; entries = λ d b l m. absurd (omega (arith, l)) }
 
   pub levels-one : (x y : A) (lg : ℕ) → (2 ≤ lg → R.same x (root 2)) → R.same y R.one → AreLevels lg 1 (x ∷ y ∷ [])
   levels-one x y lg h k = record {

@@ -1,5 +1,5 @@
 -- Levels added to a tree of square roots, and levels that are scaled.
-use Rattle.std.proofs.Common.{◌≡◌, ◌≢◌, ◌∙◌, inl, inr, ℕ, suc, ◌+◌, ◌-◌, ◌^◌, ◌<◌, ◌≤◌, List, [], ◌∷◌, ◌++◌, length, take, drop, get_or, refl, sym, ap, ap₂, length-append, length-drop, pow_pos, arith}
+use Rattle.std.proofs.Common.{◌≡◌, ◌≢◌, ◌∙◌, inl, inr, ℕ, suc, ◌+◌, ◌-◌, ◌^◌, ◌<◌, ◌≤◌, List, [], ◌∷◌, ◌++◌, length, take, drop, get_or, sym, ap, ap₂, length-append, length-drop, pow_pos, arith}
 use Rattle.std.proofs.lemmas.Bool.{cases_lt}
 use Rattle.std.proofs.lemmas.List.{get_or_append_left, get_or-append-add, get_or-drop, get_or-take, length-take-le}
 use Rattle.math_theory.specs.Laws.{IsEquality, IsGroup, IsProduct, IsRing}
@@ -12,7 +12,7 @@ use Rattle.math_theory.proofs.domains.RootOrders.{power_of_two-suc}
 use Rattle.math_theory.proofs.rings.PowerLaws.{power-add, power-one, power-product}
 use Rattle.math_base.specs.Members.{RingOf}
 use Rattle.math_transforms.specs.RootTrees.{entry}
-use Rattle.math_transforms.specs.TreeLevels.{AddsLevel, AddsMade, AreLevelsScaled}
+use Rattle.math_transforms.specs.TreeLevels.{AddsMade, AreLevelsScaled}
 use Rattle.math_transforms.proofs.PowersOfTwo.{power_of_two-double, power_of_two-rises}
 
 module _ {A : Type 0} (R : RingOf A) where
@@ -34,18 +34,6 @@ module _ {A : Type 0} (R : RingOf A) where
         ];
       }
 
-  -- copies of the last level, and then its products with the root
-  pub level-added : (n : ℕ) (root : A) (old mid new : List A) → length old ≡ n + n → AddsMade R (λ x. x) n n old mid → AddsMade R (λ x. R.product x root) n n mid new
-      → AddsLevel R n root old new
-  level-added n root old mid new count low high = record {
-    count = omega (arith, low.count, high.count);
-    kept = λ p l. high.kept p (omega (arith, l, low.count)) ∙ low.kept p l;
-    low = λ i l. rw (high.kept (length old + i) (omega (arith, l, low.count))) (low.added i l);
-    high = λ i l.
-        let place : length old + (n + i) ≡ length mid + i = omega (arith, low.count) in
-        rw (place, ← low.kept (n + i) (omega (arith, l, count))) (high.added i l);
-  }
-
 module _ {A : Type 0} (R : RingOf A) (E : IsEquality R.same) (G : IsGroup R.same R.zero R.sum R.negative) (P : IsProduct R.same R.product) (L : IsRing R.same R.sum R.product R.one) where
   abbrev C : CommutativeRing (Class E)
   C = ring_of_classes E G P L
@@ -55,10 +43,6 @@ module _ {A : Type 0} (R : RingOf A) (E : IsEquality R.same) (G : IsGroup R.same
   square-power start square n m h e =
       sym (power-class E G P L square n) ∙ ap (λ x. OverRing.power C x n) (class_same E _ _ h) ∙ power-product C (class E start) (class E start) n
       ∙ sym (power-add C (class E start) n n) ∙ ap (OverRing.power C (class E start)) (sym e) ∙ power-class E G P L start m
-
-  -- no level is scaled
-  pub scaled-none : (start : A) (lg : ℕ) (old : List A) → lg ≡ 0 → AreLevelsScaled R start lg old old
-  scaled-none start lg old e = record { first = refl; entries = λ d b l m. absurd (omega (arith, e, l)) }
 
   -- the last level is scaled by the start, and the others by its square
   pub scaled-more : (start square : A) (lg half : ℕ) (old below level new_below new_level : List A) → lg ≢ 0 → half ≡ 2 ^ (lg - 1) → length old ≡ 2 ^ lg

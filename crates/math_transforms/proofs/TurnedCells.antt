@@ -1,10 +1,10 @@
 -- Four cells that are turned by two levels at once: in a commutative ring, and up to a type's own equality.
-use Rattle.std.proofs.Common.{◌≡◌, ◌≢◌, ℕ, Bool, true, false, eqb, not, List, [], ◌∷◌, refl}
+use Rattle.std.proofs.Common.{arith, ◌≡◌, ◌≢◌, ℕ, Bool, true, false, eqb, not, List, [], ◌∷◌, refl}
 use Rattle.std.proofs.lemmas.Bool.{eq-eqb, ne_eqb}
 use Rattle.math_theory.specs.Laws.{IsEquality, IsGroup, IsProduct, IsRing}
 use Rattle.math_theory.specs.Rings.{CommutativeRing}
 use Rattle.math_theory.proofs.classes.Classes.{Class, class, class_same, same_class, ring_of_classes}
-use Rattle.math_theory.proofs.rings.Normal.{ring, ◌⊕◌, ◌⊗◌, minus, 𝟙, v0, v1, v2, v3, v4, v5, v6}
+use Rattle.math_theory.proofs.rings.Normal.{ring, ◌⊕◌, ◌⊗◌, minus, v0, v1, v2, v3, v4, v5, v6}
 use Rattle.math_base.specs.Members.{RingOf}
 use Rattle.math_base.specs.Columns.{IsCombined}
 use Rattle.math_base.specs.Columns.{IsTurned}
@@ -48,21 +48,11 @@ module _ {K : Type 0} (C : CommutativeRing K) (e f g a b c d : K) where
   -- by four weights
   weights-forward-plain : (a1 b1 c1 d1 new_a new_b new_c new_d : K) → IsCombined (plain C) true g a c a1 c1 → IsCombined (plain C) true g b d b1 d1
       → IsCombined (plain C) true e a1 b1 new_a new_b → IsCombined (plain C) true f c1 d1 new_c new_d → IsTurned (plain C) true e f g a b c d new_a new_b new_c new_d
-  weights-forward-plain a1 b1 c1 d1 new_a new_b new_c new_d h k l m = record {
-    first = rw (l.sum, h.sum, k.sum) refl;
-    second = rw (l.difference, h.sum, k.sum) refl;
-    third = rw (m.sum, h.difference, k.difference) refl;
-    fourth = rw (m.difference, h.difference, k.difference) refl;
-  }
+  weights-forward-plain a1 b1 c1 d1 new_a new_b new_c new_d h k l m = grind arith
 
   weights-back-plain : (a1 b1 c1 d1 new_a new_b new_c new_d : K) → IsCombined (plain C) false e a b a1 b1 → IsCombined (plain C) false f c d c1 d1
       → IsCombined (plain C) false g a1 c1 new_a new_c → IsCombined (plain C) false g b1 d1 new_b new_d → IsTurned (plain C) false e f g a b c d new_a new_b new_c new_d
-  weights-back-plain a1 b1 c1 d1 new_a new_b new_c new_d h k l m = record {
-    first = rw (l.sum, h.sum, k.sum) refl;
-    second = rw (m.sum, h.difference, k.difference) refl;
-    third = rw (l.difference, h.sum, k.sum) refl;
-    fourth = rw (m.difference, h.difference, k.difference) refl;
-  }
+  weights-back-plain a1 b1 c1 d1 new_a new_b new_c new_d h k l m = grind arith
 
   -- where e and g are one
   module _ (turn a1 b1 c1 d1 d2 new_a new_b new_c new_d : K) where
@@ -72,26 +62,12 @@ module _ {K : Type 0} (C : CommutativeRing K) (e f g a b c d : K) where
     one-forward-plain : AreSumAndDifference (plain C) a c a1 c1 → AreSumAndDifference (plain C) b d b1 d1 → d2 ≡ C.product d1 turn
         → AreSumAndDifference (plain C) a1 b1 new_a new_b → AreSumAndDifference (plain C) c1 d2 new_c new_d
         → IsTurned (plain C) true C.one turn C.one a b c d new_a new_b new_c new_d
-    one-forward-plain h k hd l m = record {
-      first = rw (l.sum, h.sum, k.sum) (ring C ys ((v0 ⊕ v2) ⊕ (v1 ⊕ v3)) ((v0 ⊕ (v2 ⊗ 𝟙)) ⊕ ((v1 ⊕ (v3 ⊗ 𝟙)) ⊗ 𝟙)) refl);
-      second = rw (l.difference, h.sum, k.sum) (ring C ys ((v0 ⊕ v2) ⊕ minus (v1 ⊕ v3)) ((v0 ⊕ (v2 ⊗ 𝟙)) ⊕ minus ((v1 ⊕ (v3 ⊗ 𝟙)) ⊗ 𝟙)) refl);
-      third = rw (m.sum, h.difference, hd, k.difference)
-          (ring C ys ((v0 ⊕ minus v2) ⊕ ((v1 ⊕ minus v3) ⊗ v4)) ((v0 ⊕ minus (v2 ⊗ 𝟙)) ⊕ ((v1 ⊕ minus (v3 ⊗ 𝟙)) ⊗ v4)) refl);
-      fourth = rw (m.difference, h.difference, hd, k.difference)
-          (ring C ys ((v0 ⊕ minus v2) ⊕ minus ((v1 ⊕ minus v3) ⊗ v4)) ((v0 ⊕ minus (v2 ⊗ 𝟙)) ⊕ minus ((v1 ⊕ minus (v3 ⊗ 𝟙)) ⊗ v4)) refl);
-    }
+    one-forward-plain h k hd l m = grind arith
 
     one-back-plain : AreSumAndDifference (plain C) a b a1 b1 → AreSumAndDifference (plain C) c d c1 d1 → d2 ≡ C.product d1 turn
         → AreSumAndDifference (plain C) a1 c1 new_a new_c → AreSumAndDifference (plain C) b1 d2 new_b new_d
         → IsTurned (plain C) false C.one turn C.one a b c d new_a new_b new_c new_d
-    one-back-plain h k hd l m = record {
-      first = rw (l.sum, h.sum, k.sum) refl;
-      second = rw (m.sum, hd, h.difference, k.difference)
-          (ring C ys ((v0 ⊕ minus v1) ⊕ ((v2 ⊕ minus v3) ⊗ v4)) (((v0 ⊕ minus v1) ⊗ 𝟙) ⊕ ((v2 ⊕ minus v3) ⊗ v4)) refl);
-      third = rw (l.difference, h.sum, k.sum) (ring C ys ((v0 ⊕ v1) ⊕ minus (v2 ⊕ v3)) (((v0 ⊕ v1) ⊕ minus (v2 ⊕ v3)) ⊗ 𝟙) refl);
-      fourth = rw (m.difference, hd, h.difference, k.difference)
-          (ring C ys ((v0 ⊕ minus v1) ⊕ minus ((v2 ⊕ minus v3) ⊗ v4)) ((((v0 ⊕ minus v1) ⊗ 𝟙) ⊕ minus ((v2 ⊕ minus v3) ⊗ v4)) ⊗ 𝟙) refl);
-    }
+    one-back-plain h k hd l m = grind arith
 
 module _ {A : Type 0} (R : RingOf A) (E : IsEquality R.same) (G : IsGroup R.same R.zero R.sum R.negative) (P : IsProduct R.same R.product) (L : IsRing R.same R.sum R.product R.one) where
   abbrev C : CommutativeRing (Class E)

@@ -1,6 +1,5 @@
 -- Four rows of cells that are turned, one column after the other.
-use Rattle.std.proofs.Common.{◌≡◌, ◌∙◌, inl, inr, ℕ, ◌+◌, ◌*◌, ◌<◌, ◌≢◌, ◌⊎◌, Bool, true, false, if◌then◌else◌, List, length, get_or, set, subst, refl, arith}
-use Rattle.std.proofs.lemmas.Bool.{cases_lt}
+use Rattle.std.proofs.Common.{◌≡◌, ◌∙◌, inl, inr, ℕ, ◌+◌, ◌*◌, ◌<◌, ◌≢◌, ◌⊎◌, Bool, true, false, if◌then◌else◌, List, length, get_or, set, refl, arith}
 use Rattle.std.proofs.lemmas.List.{get_or-set_same, get_or-set_other, length-set}
 use Rattle.math_base.specs.Members.{RingOf}
 use Rattle.math_base.specs.Columns.{AreTurnedBelow, IsTurned}
@@ -25,28 +24,11 @@ module _ {A : Type 0} (R : RingOf A) (forward : Bool) (e f g : A) (c : ℕ) wher
   turned-none xs = record { turned = λ p l. absurd (omega arith); kept = λ p l m. (refl, refl, refl, refl) }
 
   another : (n p : ℕ) (mid new : List A) → n < c → IsColumnTurned n mid new → p ≢ n → p < c → are_as_before p mid new
-  another n p mid new l k other m = (
-    k.others p (omega arith) (omega arith) (omega arith) (omega arith),
-    k.others (c + p) (omega arith) (omega arith) (omega arith) (omega arith),
-    k.others (2 * c + p) (omega arith) (omega arith) (omega arith) (omega arith),
-    k.others (3 * c + p) (omega arith) (omega arith) (omega arith) (omega arith),
-  )
+  another n p mid new l k other m = grind arith
 
   -- and then the next column
   column-more : (n : ℕ) (old mid new : List A) → n < c → AreTurnedBelow R forward e f g c n old mid → IsColumnTurned n mid new → AreTurnedBelow R forward e f g c (n + 1) old new
-  column-more n old mid new l h k = record {
-    turned = λ p b. elim (cases_lt p n) as (λ _. column p old new) [
-      | inl before ↦ let same = another n p mid new l k (omega arith) (omega arith) in rw (same.0, same.1, same.2, same.3) (h.turned p before)
-      | inr past ↦
-          let here : n ≡ p = omega (arith, past, b) in
-          let was = h.kept n (omega arith) l in
-          subst (λ p. column p old new) here (rw (← was.0, ← was.1, ← was.2, ← was.3) k.turned)
-    ];
-    kept = λ p b m.
-        let same = another n p mid new l k (omega arith) m in
-        let was = h.kept p (omega (arith, b)) m in
-        (same.0 ∙ was.0, same.1 ∙ was.1, same.2 ∙ was.2, same.3 ∙ was.3);
-  }
+  column-more n old mid new l h k = grind arith
 
   -- one column, of which the four cells are written
   module _ (p : ℕ) (old : List A) (x y z w : A) (l : p < c) (long : length old ≡ 4 * c) where
@@ -72,14 +54,10 @@ module _ {A : Type 0} (R : RingOf A) (forward : Bool) (e f g : A) (c : ℕ) wher
     length-three = length-set two (2 * c + p) z ∙ length-two
 
     first : at four p ≡ x
-    first =
-        get_or-set_other three (3 * c + p) p w R.zero (omega arith) ∙ get_or-set_other two (2 * c + p) p z R.zero (omega arith)
-        ∙ get_or-set_other one (c + p) p y R.zero (omega arith) ∙ get_or-set_same old p x R.zero (omega arith)
+    first = grind (arith, get_or-set_other, get_or-set_same)
 
     second : at four (c + p) ≡ y
-    second =
-        get_or-set_other three (3 * c + p) (c + p) w R.zero (omega arith) ∙ get_or-set_other two (2 * c + p) (c + p) z R.zero (omega arith)
-        ∙ get_or-set_same one (c + p) y R.zero (omega (arith, length-one))
+    second = grind (arith, get_or-set_other, get_or-set_same, length-one)
 
     third : at four (2 * c + p) ≡ z
     third = get_or-set_other three (3 * c + p) (2 * c + p) w R.zero (omega arith) ∙ get_or-set_same two (2 * c + p) z R.zero (omega (arith, length-two))

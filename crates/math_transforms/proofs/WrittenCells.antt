@@ -1,5 +1,5 @@
 -- Items that are written over some cells of a list.
-use Rattle.std.proofs.Common.{◌≡◌, ◌∙◌, ℕ, ◌+◌, ◌*◌, ◌<◌, ◌≤◌, List, ◌++◌, length, take, drop, ap, arith}
+use Rattle.std.proofs.Common.{◌≡◌, ◌∙◌, ℕ, ◌+◌, ◌*◌, ◌<◌, ◌≤◌, List, ◌++◌, length, take, drop, arith}
 use Rattle.std.proofs.lemmas.List.{drop-drop, length-append, length-take-le, length-drop}
 use Rattle.math_base.proofs.WholeWrites.{take-written}
 
@@ -11,19 +11,4 @@ row-within i rows cols l = grind (arith, l)
 pub cells-between : {A : Type 0} (n from : ℕ) (cells items : List A) → n ≡ length cells → from + length items ≤ length cells
     → take n ((take from cells ++ (items ++ drop (length items) (drop from cells))) ++ drop (length (take from cells ++ (items ++ drop (length items) (drop from cells)))) cells)
     ≡ take from cells ++ (items ++ drop (from + length items) cells)
-cells-between n from cells items e within =
-    let rest : drop (length items) (drop from cells) ≡ drop (from + length items) cells = drop-drop (length items) from cells in
-    let before : length (take from cells) ≡ from = length-take-le from cells (omega (arith, within)) in
-    let put = take from cells ++ (items ++ drop (length items) (drop from cells)) in
-    let whole : length put ≡ length cells =
-    omega (
-      arith,
-      length-append (take from cells) (items ++ drop (length items) (drop from cells)),
-      length-append items
-          (drop (length items) (drop from cells)),
-      before,
-      ap length rest,
-      length-drop (from + length items) cells,
-      within,
-    ) in
-    take-written n cells put e whole ∙ ap (λ xs. take from cells ++ (items ++ xs)) rest
+cells-between n from cells items e within = grind (arith, drop-drop, length-take-le, length-append, length-drop, take-written)

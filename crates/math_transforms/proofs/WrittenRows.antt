@@ -1,5 +1,5 @@
 -- Cells and rows of cells that are written one after the other.
-use Rattle.std.proofs.Common.{◌≡◌, ◌∙◌, inl, inr, ℕ, ◌+◌, ◌*◌, ◌-◌, ◌<◌, ◌≤◌, List, ◌++◌, length, take, drop, get_or, refl, sym, ap, arith}
+use Rattle.std.proofs.Common.{◌≡◌, ◌∙◌, ℕ, ◌+◌, ◌*◌, ◌-◌, ◌<◌, ◌≤◌, List, ◌++◌, length, take, drop, get_or, sym, ap, arith}
 use Rattle.std.proofs.Math.ListN.{set}
 use Rattle.std.proofs.lemmas.Bool.{cases_eq, cases_lt}
 use Rattle.std.proofs.lemmas.Grind.{get_or-set_at}
@@ -9,11 +9,7 @@ use Rattle.std.proofs.lemmas.Nat.{mul-add-lt}
 module _ {A : Type 0} (d : A) (P : ℕ → A → Type 0) (initial cells : List A) (i : ℕ) (x : A) where
   -- what holds of the cells so far, and of one cell more that is written
   pub written-done : i < length cells → ((k : ℕ) → k < i → P k (get_or cells k d)) → P i x → (k : ℕ) → k < i + 1 → P k (get_or (set cells i x) k d)
-  written-done l h here k m =
-      elim (cases_eq k i) [
-        | inl e ↦ rw (e, get_or-set_at cells i i x d refl l) here
-        | inr o ↦ rw (get_or-set_other cells i k x d o) (h k (omega (arith, o)))
-      ]
+  written-done l h here k m = grind (arith, cases_eq, get_or-set_at, get_or-set_other)
 
   -- the cells after it are as they were
   pub written-rest : ((k : ℕ) → i ≤ k → get_or cells k d ≡ get_or initial k d) → (k : ℕ) → i + 1 ≤ k → get_or (set cells i x) k d ≡ get_or initial k d
@@ -63,14 +59,8 @@ module _ {A : Type 0} (d : A) (P : ℕ → ℕ → A → Type 0) (initial cells 
 
   -- what holds of the rows so far, and of this one
   pub row-done : ((j k : ℕ) → j < i → k < c → P j k (get_or cells (j * c + k) d)) → ((k : ℕ) → k < c → P i k (get_or row k d)) → (j k : ℕ) → j < i + 1 → k < c → P j k (get_or new (j * c + k) d)
-  row-done h here j k l m =
-      elim (cases_lt j i) [
-        | inl b ↦ rw (put-before d cells row (i * c) n inside long (j * c + k) (omega (arith, mul-add-lt j c k i b m))) (h j k b m)
-        | inr b ↦ let q : j ≡ i = omega arith in rw (q, put-within d cells row (i * c) n inside long k (omega (arith, e))) (here k m)
-      ]
+  row-done h here j k l m = grind (arith, cases_lt, put-before, mul-add-lt, put-within)
 
   -- the rows after it are as they were
   pub row-rest : ((j : ℕ) → i * c ≤ j → get_or cells j d ≡ get_or initial j d) → (j : ℕ) → (i + 1) * c ≤ j → get_or new j d ≡ get_or initial j d
-  row-rest h j l =
-      let up : (i + 1) * c ≡ i * c + c = grind arith in
-      put-after d cells row (i * c) n inside long j (omega (arith, up, e, l)) ∙ h j (omega (arith, up, l))
+  row-rest h j l = grind (arith, put-after)

@@ -1,12 +1,10 @@
-use Rattle.std.proofs.Common.{◌∙◌, ◌*◌, sym, ap, refl}
+use Rattle.std.proofs.Common.{arith, ◌∙◌, ◌*◌, sym}
 use Rattle.shard_blocks.specs.BlockWords.{words_of_bytes}
 use Rattle.c_calls.proofs.WordShards.{numbers_of_all, words_of_split}
 use Rattle.c_calls.proofs.blocks.write_shards.Goals as goal
 
 pub split_block_rows-requires-clause-size : goal.split_block_rows-requires-clause-size
-split_block_rows-requires-clause-size c =
-    let size = c.requires.size in
-    size.2 ∙ ap (λ n. c.args.total * n) (size.1.count c.args.block.now refl)
+split_block_rows-requires-clause-size c = grind arith
 
 pub returns-clause-ok : goal.returns-clause-ok
 returns-clause-ok c =

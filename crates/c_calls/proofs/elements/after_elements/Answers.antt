@@ -1,7 +1,6 @@
-use Rattle.std.proofs.Common.{◌∙◌, [], ◌∷◌, ◌++◌, length-append, sym, ap₂, arith}
+use Rattle.std.proofs.Common.{◌∙◌, [], ◌∷◌, ◌++◌, length-append, arith}
 use Rattle.std.specs.Int.{to_be_bytes, w64}
 use Rattle.std.proofs.lemmas.Result.{err_from_is_err_and}
-use Rattle.math_codec.specs.Lists.{scan_items}
 use Rattle.math_codec.proofs.ItemScan.{item_read, item_fails, items_done, item_taken}
 use Rattle.math_fields.specs.Elements.{number}
 use Rattle.math_fields.specs.ElementEncoding.{scan_element}
@@ -9,15 +8,10 @@ use Rattle.c_calls.proofs.ReadWords.{elements_pushed, words_scanned}
 use Rattle.c_calls.proofs.elements.after_elements.Goals as goal
 
 pub returns-in-Some-clause-exact : goal.returns-in-Some-clause-exact
-returns-in-Some-clause-exact c =
-    let read = c.in-Some.ensures in
-    ap₂ (λ n bytes. scan_items scan_element n bytes) (sym read.1) read.3 ∙ words_scanned read.0 c.in-Some.rest.now read.2
+returns-in-Some-clause-exact c = grind (arith, words_scanned)
 
 pub returns-in_err-_element-clause-exact : goal.returns-in_err-_element-clause-exact
-returns-in_err-_element-clause-exact c =
-    let loop = c.loop in
-    let p = err_from_is_err_and c.from_residual.result c.from_residual.ensures.1 in
-    rw (p.1, p.2) (item_fails _ scan_element c.args.count loop.counter loop.rest.now _ c.loop-test.true c.in_err-_element.ensures.exact loop.invariant.exact)
+returns-in_err-_element-clause-exact c = grind (arith, err_from_is_err_and, item_fails)
 
 pub loop-preserved : goal.loop-preserved
 loop-preserved c =

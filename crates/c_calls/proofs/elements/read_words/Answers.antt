@@ -34,9 +34,4 @@ returns-then-words-eq1 c = λ items below e.
     c.as_chunks.ensures.front below e
 
 pub returns-else-words-eq1 : goal.returns-else-words-eq1
-returns-else-words-eq1 c = λ items below e.
-    let words = c.loop-pair.words in
-    let i : ℕ = 2 * c.loop-pair.pair in
-    let all : length words ≤ i = omega (arith, c.loop-pair-test.false, c.loop-pair.auto.words, c.if-words-eq1.false) in
-    all_read i words items c.args.bytes.now c.as_chunks.result.0.now all (omega (arith, all, c.requires, c.as_chunks.ensures.front_len, c.loop-pair.auto.words)) c.loop-pair.invariant
-    c.as_chunks.ensures.front below e
+returns-else-words-eq1 c = grind (arith, all_read)

@@ -4,16 +4,10 @@ use Rattle.c_calls.proofs.WrittenWords.{length-spelled, polynomial_written}
 use Rattle.c_calls.proofs.polynomials.encode.Goals as goal
 
 pub returns-then-n-out-clause-none : goal.returns-then-n-out-clause-none
-returns-then-n-out-clause-none c =
-    let words = c.args.coefficients.now in
-    let front : c.write_len.new.out.items ≡ length_spelling (length words) = c.in_ok-write_len.ensures.ok ∙ ap (λ xs. xs ++ length_spelling (length words)) c.new-front.ensures.items in
-    omega (arith, length-spelled c.write_len.new.out.items words front, c.len-from.ensures, c.write_len.new.out.ok, c.if-n-out.true)
+returns-then-n-out-clause-none c = grind (arith, length-spelled)
 
 pub returns-clause-some : goal.returns-clause-some
-returns-clause-some c =
-    let words = c.args.coefficients.now in
-    let front : c.write_len.new.out.items ≡ length_spelling (length words) = c.in_ok-write_len.ensures.ok ∙ ap (λ xs. xs ++ length_spelling (length words)) c.new-front.ensures.items in
-    omega (arith, length-spelled c.write_len.new.out.items words front, c.len-from.ensures, c.write_len.new.out.ok)
+returns-clause-some c = grind (arith, length-spelled)
 
 pub returns-clause-written : goal.returns-clause-written
 returns-clause-written c =

@@ -1,13 +1,11 @@
-use Rattle.std.proofs.Common.{◌≡◌, ◌∙◌, ap, ap₂}
+use Rattle.std.proofs.Common.{arith, ◌≡◌, ◌∙◌, ap, ap₂}
 use Rattle.math_transforms.specs.DomainValues.{matrix_of}
 use Rattle.c_calls.specs.WordElements.{numbers}
 use Rattle.c_calls.proofs.WordMatrices.{has_domain, values_of_words}
 use Rattle.c_calls.proofs.rows.evaluate.Goals as goal
 
 pub evaluate-requires : goal.evaluate-requires
-evaluate-requires c = record {
-  domain = has_domain c.args.lg c.from_matrix-polynomials.result.rows c.requires.small (ap (λ m. m.rows) (c.from_matrix-polynomials.ensures ∙ c.matrix_of-matrix.ensures) ∙ c.power_of_two.ensures);
-}
+evaluate-requires c = grind (arith, has_domain)
 
 pub returns-clause-ok : goal.returns-clause-ok
 returns-clause-ok c =

@@ -1,13 +1,11 @@
-use Rattle.std.proofs.Common.{◌≡◌, ◌∙◌, ◌^◌, ap, ap₂, replicate, true}
+use Rattle.std.proofs.Common.{arith, ◌≡◌, ◌∙◌, ◌^◌, ap, ap₂, replicate, true}
 use Rattle.math_transforms.specs.DomainValues.{matrix_of}
 use Rattle.c_calls.specs.WordElements.{numbers}
 use Rattle.c_calls.proofs.WordMatrices.{has_domain, coefficients_of_words}
 use Rattle.c_calls.proofs.rows.interpolate.Goals as goal
 
 pub recover-requires : goal.recover-requires
-recover-requires c = record {
-  domain = has_domain c.args.lg c.from_parts-values.result.matrix.rows c.requires.small (ap (λ m. m.rows) (c.from_parts-values.ensures.matrix ∙ c.matrix_of-matrix.ensures) ∙ c.power_of_two.ensures);
-}
+recover-requires c = grind (arith, has_domain)
 
 pub returns-clause-ok : goal.returns-clause-ok
 returns-clause-ok c =

@@ -1,4 +1,4 @@
-use Rattle.std.proofs.Common.{◌≡◌, ◌∙◌, length, ap}
+use Rattle.std.proofs.Common.{arith, ◌≡◌, ◌∙◌, length, ap}
 use Rattle.math_ntt.specs.Evaluations.{EvaluationsOf}
 use Rattle.math_fields.specs.declared.goldilocks.F.{F}
 use Rattle.c_calls.specs.WordElements.{numbers}
@@ -8,11 +8,7 @@ use Rattle.c_calls.proofs.WordMatrices.{has_domain}
 use Rattle.c_calls.proofs.rows.recover.Goals as goal
 
 pub recover-requires : goal.recover-requires
-recover-requires c =
-    let filled = c.args.filled.now in
-    record {
-      domain = has_domain filled.lg c.from_parts-values.result.matrix.rows filled.small (ap (λ m. m.rows) (c.from_parts-values.ensures.matrix ∙ c.matrix_of-matrix.ensures) ∙ filled.rows);
-    }
+recover-requires c = grind (arith, has_domain)
 
 pub returns-clause-ok : goal.returns-clause-ok
 returns-clause-ok c =

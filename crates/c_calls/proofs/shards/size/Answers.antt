@@ -1,13 +1,9 @@
-use Rattle.std.proofs.Common.{◌≡◌, ◌*◌, sym, ap, arith}
+use Rattle.std.proofs.Common.{◌≡◌, ◌*◌, ap, arith}
 use Rattle.c_calls.proofs.WordShards.{only_size}
 use Rattle.c_calls.proofs.shards.size.Goals as goal
 
 pub returns-in-Some-clause-some : goal.returns-in-Some-clause-some
-returns-in-Some-clause-some c = record {
-  few = omega arith;
-  count = λ xs e. sym (c.shard_width-cells.ensures xs e);
-  room = omega (arith, c.in-Some.ensures, c.if-all-lt-WORDS.true);
-}
+returns-in-Some-clause-some c = grind arith
 
 pub returns-in_default-clause-none : goal.returns-in_default-clause-none
 returns-in_default-clause-none c = λ n h.

@@ -1,11 +1,9 @@
-use Rattle.std.proofs.Common.{◌∙◌, ◌*◌, sym, ap, refl}
+use Rattle.std.proofs.Common.{arith, ◌∙◌, ◌*◌, sym}
 use Rattle.c_calls.proofs.WordShards.{words_of_split, numbers_of_all}
 use Rattle.c_calls.proofs.shards.write_shards.Goals as goal
 
 pub split_rows-requires-clause-size : goal.split_rows-requires-clause-size
-split_rows-requires-clause-size c =
-    let size = c.requires.size in
-    size.2 ∙ ap (λ n. c.args.total * n) (size.1.count c.args.words.now refl)
+split_rows-requires-clause-size c = grind arith
 
 pub returns-clause-ok : goal.returns-clause-ok
 returns-clause-ok c =

@@ -11,10 +11,7 @@ returns-in_err-verify-clause-due c =
     rw (q.1, q.2) (inr (c.deref.result.now, lie, (c.in_err-verify.ensures.due).2))
 
 pub returns-in_err-verify-clause-others : goal.returns-in_err-verify-clause-others
-returns-in_err-verify-clause-others c =
-    let q = err_from_is_err_and c.from_residual-in_err-verify.result c.from_residual-in_err-verify.ensures.1 in
-    let lie : AreRowsOf c.args.held.now c.deref.result.now = subst (AreRowsOf c.args.held.now) (sym c.deref.ensures.value) c.in_ok-rows.ensures in
-    rw (q.1, q.2) (not-of-sizes c.args.held.now c.deref.result.now [] c.in_err-verify.field-0.0 lie (c.in_err-verify.ensures.due).2)
+returns-in_err-verify-clause-others c = grind (arith, err_from_is_err_and, not-of-sizes)
 
 pub returns-then-branch-clause-ok : goal.returns-then-branch-clause-ok
 returns-then-branch-clause-ok c =

@@ -1,14 +1,11 @@
-use Rattle.std.proofs.Common.{sym, subst}
+use Rattle.std.proofs.Common.{arith, sym, subst}
 use Rattle.std.proofs.lemmas.Result.{err_from_is_err_and}
 use Rattle.c_calls.specs.SystematicRows.{AreRowsOf}
 use Rattle.c_calls.proofs.SystematicRows.{not-of-decoded}
 use Rattle.c_calls.proofs.systematic.write_block.Goals as goal
 
 pub returns-in_err-decode-clause-others : goal.returns-in_err-decode-clause-others
-returns-in_err-decode-clause-others c =
-    let q = err_from_is_err_and c.from_residual-in_err-decode.result c.from_residual-in_err-decode.ensures.1 in
-    let lie : AreRowsOf c.args.held.now c.deref.result.now = subst (AreRowsOf c.args.held.now) (sym c.deref.ensures.value) c.in_ok-rows.ensures in
-    rw (q.1, q.2) (not-of-decoded c.args.held.now c.deref.result.now c.in_err-decode.field-0.0 lie c.in_err-decode.ensures.due)
+returns-in_err-decode-clause-others c = grind (arith, err_from_is_err_and, not-of-decoded)
 
 pub returns-clause-ok : goal.returns-clause-ok
 returns-clause-ok c =

@@ -7,10 +7,7 @@ use Rattle.c_calls.proofs.SystematicRows.{not-of-corrected}
 use Rattle.c_calls.proofs.systematic.write_corrected_rows.Goals as goal
 
 pub returns-in_err-found-clause-others : goal.returns-in_err-found-clause-others
-returns-in_err-found-clause-others c =
-    let q = err_from_is_err_and c.from_residual-in_err-found.result c.from_residual-in_err-found.ensures.1 in
-    let lie : AreRowsOf c.args.held.now c.deref.result.now = subst (AreRowsOf c.args.held.now) (sym c.deref.ensures.value) c.in_ok-rows.ensures in
-    rw (q.1, q.2) (not-of-corrected c.args.held.now c.deref.result.now c.args.wanted.now c.in_err-found.field-0.0 lie c.in_err-found.ensures.due)
+returns-in_err-found-clause-others c = grind (arith, err_from_is_err_and, not-of-corrected)
 
 pub returns-in_default-clause-due : goal.returns-in_default-clause-due
 returns-in_default-clause-due c =
@@ -20,25 +17,13 @@ returns-in_default-clause-due c =
     inr (c.deref.result.now, lie, inr (refl, record { asked = found.asked; enough = found.enough; none = none }))
 
 pub slice_bounds-copy_from_slice-end : goal.slice_bounds-copy_from_slice-end
-slice_bounds-copy_from_slice-end c =
-    let lie : AreRowsOf c.args.held.now c.deref.result.now = subst (AreRowsOf c.args.held.now) (sym c.deref.ensures.value) c.in_ok-rows.ensures in
-    let some = rw c.in-Some.is at c.in_ok-found.ensures.some in
-    let few = rising_few c.in-Some.found.items (length c.deref.result.now) some.1.left_out.rising some.1.left_out.below in
-    omega (arith, c.len-many.ensures, c.requires.room, lie.count, few)
+slice_bounds-copy_from_slice-end c = grind (arith, rising_few)
 
 pub slice_bounds-copy_from_slice-end-2 : goal.slice_bounds-copy_from_slice-end-2
-slice_bounds-copy_from_slice-end-2 c =
-    let lie : AreRowsOf c.args.held.now c.deref.result.now = subst (AreRowsOf c.args.held.now) (sym c.deref.ensures.value) c.in_ok-rows.ensures in
-    let some = rw c.in-Some.is at c.in_ok-found.ensures.some in
-    let few = rising_few c.in-Some.found.items (length c.deref.result.now) some.1.left_out.rising some.1.left_out.below in
-    omega (arith, length-take c.len-many.result c.args.left_out.now, c.len-many.ensures, c.requires.room, lie.count, few)
+slice_bounds-copy_from_slice-end-2 c = grind (arith, rising_few, length-take)
 
 pub copy_from_slice-requires : goal.copy_from_slice-requires
-copy_from_slice-requires c =
-    let lie : AreRowsOf c.args.held.now c.deref.result.now = subst (AreRowsOf c.args.held.now) (sym c.deref.ensures.value) c.in_ok-rows.ensures in
-    let some = rw c.in-Some.is at c.in_ok-found.ensures.some in
-    let few = rising_few c.in-Some.found.items (length c.deref.result.now) some.1.left_out.rising some.1.left_out.below in
-    rw c.deref-2.ensures.value (omega (arith, length-take c.len-many.result c.args.left_out.now, c.len-many.ensures, c.requires.room, lie.count, few))
+copy_from_slice-requires c = grind (arith, rising_few, length-take)
 
 pub returns-clause-ok : goal.returns-clause-ok
 returns-clause-ok c =

@@ -1,4 +1,4 @@
-use Rattle.std.proofs.Common.{inr, sym, subst}
+use Rattle.std.proofs.Common.{arith, inr, sym, subst}
 use Rattle.std.proofs.lemmas.Result.{err_from_is_err_and}
 use Rattle.c_calls.specs.SystematicRows.{AreRowsOf}
 use Rattle.c_calls.proofs.SystematicRows.{not-of-sizes}
@@ -11,10 +11,7 @@ returns-in_err-rebuild-clause-due c =
     rw (q.1, q.2) (inr (c.deref.result.now, lie, c.in_err-rebuild.ensures.due))
 
 pub returns-in_err-rebuild-clause-others : goal.returns-in_err-rebuild-clause-others
-returns-in_err-rebuild-clause-others c =
-    let q = err_from_is_err_and c.from_residual-in_err-rebuild.result c.from_residual-in_err-rebuild.ensures.1 in
-    let lie : AreRowsOf c.args.held.now c.deref.result.now = subst (AreRowsOf c.args.held.now) (sym c.deref.ensures.value) c.in_ok-rows.ensures in
-    rw (q.1, q.2) (not-of-sizes c.args.held.now c.deref.result.now c.args.wanted.now c.in_err-rebuild.field-0.0 lie c.in_err-rebuild.ensures.due)
+returns-in_err-rebuild-clause-others c = grind (arith, err_from_is_err_and, not-of-sizes)
 
 pub returns-clause-ok : goal.returns-clause-ok
 returns-clause-ok c =

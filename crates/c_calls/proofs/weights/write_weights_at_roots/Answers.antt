@@ -1,14 +1,11 @@
 use Rattle.c_calls.proofs.weights.write_weights_at_roots.Goals as goal
-use Rattle.std.proofs.Common.{◌∙◌, ℕ, List, length, sym, ap, subst}
+use Rattle.std.proofs.Common.{arith, ◌∙◌, ℕ, List, sym, ap, subst}
 use Rattle.std.proofs.lemmas.List.{length-map}
-use Rattle.math_fields.specs.Elements.{number}
 use Rattle.c_calls.specs.WordElements.{numbers}
 use Rattle.c_calls.specs.WordWeights.{AreWordWeightsAtRoots}
 
 pub write_numbers-requires : goal.write_numbers-requires
-write_numbers-requires c =
-    let weights = c.in_ok-found.found.items in
-    c.requires.count ∙ sym c.in_ok-found.ensures.count ∙ length-map weights number ∙ ap length (sym c.deref.ensures.value)
+write_numbers-requires c = grind (arith, length-map)
 
 pub returns-clause-ok : goal.returns-clause-ok
 returns-clause-ok c =

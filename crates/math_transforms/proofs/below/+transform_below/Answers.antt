@@ -3,7 +3,7 @@ use borrow.Author.Rules.{scaled_fits≤}
 use Rattle.math_base.proofs.Members.{ring_members}
 use Rattle.math_transforms.proofs.BelowSteps.{no-steps}
 use Rattle.math_transforms.proofs.Levels.{adds-exactly, adds-part, adds-then, adds-twice}
-use Rattle.math_transforms.proofs.ListParts.{none-done, one-done, slice-size}
+use Rattle.math_transforms.proofs.ListParts.{one-done, slice-size}
 use Rattle.math_transforms.proofs.StepsBelow.{cut, few-done, part-points, step-done}
 use Rattle.math_transforms.proofs.below.+transform_below.Goals as goal
 
@@ -35,11 +35,7 @@ pub step-requires-clause-some : goal.step-requires-clause-some
 step-requires-clause-some g t c = rw (c.transform_sixteen-at_once.ensures.kept c.if-at_once.false) c.if-count-cols.false
 
 pub step-requires-clause-room : goal.step-requires-clause-room
-step-requires-clause-room g t c =
-    let p = c.args.points.now in
-    let w = cut p.lg c.levels_of-levels.result c.levels_before-first.result (2 ^ c.levels_of-levels.result) (2 ^ (p.lg - c.levels_of-levels.result)) p.place c.args.cols (length p.roots.now) (length c.args.cells.now) c.levels_of-levels.ensures.few c.if-points-le2.false c.levels_before-first.ensures.most refl refl c.requires.points.within c.requires.size in
-    let same : c.transform_sixteen-at_once.new.cells ≡ c.args.cells.now = c.transform_sixteen-at_once.ensures.kept c.if-at_once.false in
-    omega (arith, w.total, ap (λ xs. c.levels_before-first.result * length xs) same, c.requires.room, c.transform_sixteen-at_once.ensures.none_counted c.if-at_once.false)
+step-requires-clause-room g t c = grind arith
 
 pub returns-in_err-step-clause-bounded : goal.returns-in_err-step-clause-bounded
 returns-in_err-step-clause-bounded g t c =
@@ -51,9 +47,7 @@ returns-in_err-step-clause-bounded g t c =
     adds-twice (c.levels_before-first.result * length c.args.cells.now) _ _ _ (omega (arith, w.total)) counted products
 
 pub returns-in_err-step-clause-refused : goal.returns-in_err-step-clause-refused
-returns-in_err-step-clause-refused g t c =
-    let more : c.args.work.now.butterflies < c.step.new.work.butterflies = omega (arith, c.in_err-step.ensures.refused, c.transform_sixteen-at_once.ensures.none_counted c.if-at_once.false) in
-    search rules
+returns-in_err-step-clause-refused g t c = grind arith
 
 pub overflow_mul-part : goal.overflow_mul-part
 overflow_mul-part g t c =
@@ -63,11 +57,7 @@ overflow_mul-part g t c =
     search rules
 
 pub loop-k-init : goal.loop-k-init
-loop-k-init g t c =
-    let same : c.transform_sixteen-at_once.new.cells ≡ c.args.cells.now = c.transform_sixteen-at_once.ensures.kept c.if-at_once.false in
-    let counted : 2 * c.step.new.work.butterflies ≡ 2 * c.args.work.now.butterflies + c.levels_before-first.result * length c.args.cells.now = omega (arith, c.step.ensures.counted, ap (λ xs. c.levels_before-first.result * length xs) same, c.transform_sixteen-at_once.ensures.none_counted c.if-at_once.false) in
-    let products : c.step.new.work.root_products ≡ c.args.work.now.root_products = c.step.ensures.root_products ∙ c.transform_sixteen-at_once.ensures.root_products in
-    record { parts = none-done _ _ _; butterflies = omega (arith, counted); root_products = products }
+loop-k-init g t c = grind arith
 
 pub overflow_mul-place : goal.overflow_mul-place
 overflow_mul-place g t c =
@@ -210,14 +200,10 @@ pub step-requires-2-clause-deep : goal.step-requires-2-clause-deep
 step-requires-2-clause-deep g t c = omega (arith, c.levels_of-levels.ensures.few, c.if-points-le2.false)
 
 pub step-requires-2-clause-size : goal.step-requires-2-clause-size
-step-requires-2-clause-size g t c =
-    let long : length c.loop-k.cells ≡ length c.args.cells.now = c.loop-k.auto.cells ∙ c.step.auto.rows ∙ ap length (c.transform_sixteen-at_once.ensures.kept c.if-at_once.false) in
-    long ∙ c.requires.size
+step-requires-2-clause-size g t c = grind arith
 
 pub step-requires-2-clause-some : goal.step-requires-2-clause-some
-step-requires-2-clause-some g t c =
-    let long : length c.loop-k.cells ≡ length c.args.cells.now = c.loop-k.auto.cells ∙ c.step.auto.rows ∙ ap length (c.transform_sixteen-at_once.ensures.kept c.if-at_once.false) in
-    rw long c.if-count-cols.false
+step-requires-2-clause-some g t c = grind arith
 
 pub step-requires-2-clause-room : goal.step-requires-2-clause-room
 step-requires-2-clause-room g t c =
@@ -229,9 +215,7 @@ step-requires-2-clause-room g t c =
     omega (arith, c.loop-k.invariant.butterflies, done, rest, w.total, c.requires.room)
 
 pub returns-in_err-step-2-clause-refused : goal.returns-in_err-step-2-clause-refused
-returns-in_err-step-2-clause-refused g t c =
-    let more : c.args.work.now.butterflies < c.step-2.new.work.butterflies = omega (arith, c.loop-k.invariant.butterflies, c.in_err-step-2.ensures.refused) in
-    search rules
+returns-in_err-step-2-clause-refused g t c = grind arith
 
 pub returns-in_err-step-2-clause-bounded : goal.returns-in_err-step-2-clause-bounded
 returns-in_err-step-2-clause-bounded g t c =

@@ -55,12 +55,7 @@ returns-then-levels-eq1-clause-counted g c =
     omega (arith, w.cells, w.count, c.combine_rows_at.ensures.counted)
 
 pub returns-then-levels-eq1-clause-stepped : goal.returns-then-levels-eq1-clause-stepped
-returns-then-levels-eq1-clause-stepped g c =
-    record {
-      none = λ z. absurd (omega (arith, z, c.if-levels-eq1.true));
-      one = λ z. rw c.size_of.ensures at c.in_ok-combine_rows_at.ensures.combined;
-      two = λ z. absurd (omega (arith, z, c.if-levels-eq1.true));
-    }
+returns-then-levels-eq1-clause-stepped g c = grind arith
 
 pub turn_rows_at-requires-clause-two : goal.turn_rows_at-requires-clause-two
 turn_rows_at-requires-clause-two g c = omega (arith, c.requires.few, c.requires.deep, c.if-levels-eq0.false, c.if-levels-eq1.false)
@@ -103,9 +98,4 @@ returns-clause-counted g c =
     omega (arith, w.cells, w.count, c.turn_rows_at.ensures.counted)
 
 pub returns-clause-stepped : goal.returns-clause-stepped
-returns-clause-stepped g c =
-    record {
-      none = λ z. absurd (omega (arith, z, c.if-levels-eq0.false));
-      one = λ z. absurd (omega (arith, z, c.if-levels-eq1.false));
-      two = λ z. rw c.size_of.ensures at c.in_ok-turn_rows_at.ensures.turned;
-    }
+returns-clause-stepped g c = grind arith

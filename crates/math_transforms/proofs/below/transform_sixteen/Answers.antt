@@ -1,6 +1,5 @@
 use Rattle.std.proofs.Common.{◌≡◌, ◌∙◌, ◌+◌, ◌*◌, ◌^◌, length, not, eqb, ap, arith}
 use Rattle.math_base.proofs.Members.{ring_members}
-use Rattle.math_transforms.proofs.BelowSteps.{all-steps}
 use Rattle.math_transforms.proofs.StepsBelow.{sixteen-done}
 use Rattle.math_transforms.proofs.below.transform_sixteen.Goals as goal
 
@@ -14,16 +13,10 @@ pub turn_sixteen_rows-done-requires-clause-size : goal.turn_sixteen_rows-done-re
 turn_sixteen_rows-done-requires-clause-size g c = c.requires.size ∙ ap (λ i. 2 ^ i * c.args.cols) c.if-points-ne4.false
 
 pub turn_sixteen_rows-done-requires-clause-inside : goal.turn_sixteen_rows-done-requires-clause-inside
-turn_sixteen_rows-done-requires-clause-inside g c =
-    let p = c.args.points.now in
-    let rows : 2 ^ p.lg * (p.place + 1) ≡ 16 * (p.place + 1) = ap (λ i. 2 ^ i * (p.place + 1)) c.if-points-ne4.false in
-    omega (arith, rows, c.requires.points.within)
+turn_sixteen_rows-done-requires-clause-inside g c = grind arith
 
 pub returns-then-done-clause-counted : goal.returns-then-done-clause-counted
-returns-then-done-clause-counted g c = λ t.
-    let p = c.args.points.now in
-    let four : p.lg * length c.args.cells.now ≡ 4 * length c.args.cells.now = ap (λ i. i * length c.args.cells.now) c.if-points-ne4.false in
-    omega (arith, four, all-steps p.lg c.args.cols (length c.args.cells.now) c.requires.size, c.add_butterflies.ensures.butterflies, c.add_butterflies-then-done.ensures.butterflies, c.turn_sixteen_rows-done.auto.rows)
+returns-then-done-clause-counted g c = grind arith
 
 pub returns-then-done-clause-done : goal.returns-then-done-clause-done
 returns-then-done-clause-done g c = λ t.

@@ -1,4 +1,4 @@
-use Rattle.std.proofs.Common.{◌≡◌, ◌∙◌, ◌*◌, ◌<◌, ◌^◌, length, rules, arith}
+use Rattle.std.proofs.Common.{◌≡◌, ◌∙◌, ◌*◌, ◌<◌, ◌^◌, length, arith}
 use Rattle.math_base.proofs.Members.{ring_members}
 use Rattle.math_transforms.proofs.BelowSteps.{one_level, some-columns, some-level}
 use Rattle.math_transforms.proofs.SomeCells.{some-cells}
@@ -25,19 +25,7 @@ returns-then-count-cols-clause-values g c = λ j k l b.
     many many c.in_ok-interpolate_multiples.ensures.values (λ p l. scaled-by_one F.Object.equality F.Additive.group F.Multiplicative.commutes F.Ring.ring _) j k l b
 
 pub returns-in_err-factor-clause-refused : goal.returns-in_err-factor-clause-refused
-returns-in_err-factor-clause-refused g c =
-    let many : length c.interpolate_multiples.new.cells ≡ 2 ^ c.args.lg * c.args.cols = c.interpolate_multiples.auto.cells ∙ c.requires.size in
-    let some = some-columns c.args.lg c.args.cols (length c.interpolate_multiples.new.cells) many c.if-count-cols.false in
-    let high = some-level c.args.lg c.args.cols (length c.interpolate_multiples.new.cells) many c.if-count-cols.false in
-    let more : c.args.work.now.butterflies < c.interpolate_multiples.new.work.butterflies =
-    omega (arith, some-cells c.args.cols c.args.lg (omega (arith, some)) (omega (arith, high)), c.in_ok-interpolate_multiples.ensures.counted) in
-    search rules
+returns-in_err-factor-clause-refused g c = grind (arith, some-columns, some-level, some-cells)
 
 pub returns-in_err-multiply_row-clause-refused : goal.returns-in_err-multiply_row-clause-refused
-returns-in_err-multiply_row-clause-refused g c =
-    let many : length c.interpolate_multiples.new.cells ≡ 2 ^ c.args.lg * c.args.cols = c.interpolate_multiples.auto.cells ∙ c.requires.size in
-    let some = some-columns c.args.lg c.args.cols (length c.interpolate_multiples.new.cells) many c.if-count-cols.false in
-    let high = some-level c.args.lg c.args.cols (length c.interpolate_multiples.new.cells) many c.if-count-cols.false in
-    let more : c.args.work.now.butterflies < c.interpolate_multiples.new.work.butterflies =
-    omega (arith, some-cells c.args.cols c.args.lg (omega (arith, some)) (omega (arith, high)), c.in_ok-interpolate_multiples.ensures.counted) in
-    search rules
+returns-in_err-multiply_row-clause-refused g c = grind (arith, some-columns, some-level, some-cells)

@@ -1,14 +1,11 @@
 use Rattle.std.proofs.Common.{arith}
 use Rattle.math_base.proofs.Members.{ring_members}
 use Rattle.math_transforms.proofs.PowersOfTwo.{power_of_two-double}
-use Rattle.math_transforms.proofs.TreeLevels.{scaled-none, scaled-more}
+use Rattle.math_transforms.proofs.TreeLevels.{scaled-more}
 use Rattle.math_transforms.proofs.trees.+scale_levels.Goals as goal
 
 pub returns-then-lg-eq0-clause-scaled : goal.returns-then-lg-eq0-clause-scaled
-returns-then-lg-eq0-clause-scaled g t c =
-    let R = ring_members g.F.Multiplicative.product g.F.Debug.debug_output g.F.Object.same g.F.Object.NEVER_REFUSES g.F.Additive.zero g.F.Additive.sum g.F.Additive.negative g.F.Ring.one in
-    let F = g.met.F in
-    scaled-none R F.Object.equality F.Additive.group F.Multiplicative.commutes F.Ring.ring c.args.start.now c.args.lg c.args.tree.now c.if-lg-eq0.true
+returns-then-lg-eq0-clause-scaled g t c = grind arith
 
 pub split_at_mut-below-requires : goal.split_at_mut-below-requires
 split_at_mut-below-requires g t c = omega (arith, c.size_of.ensures, power_of_two-double c.args.lg (omega arith), c.requires.size)

@@ -1,7 +1,7 @@
 use Rattle.std.proofs.Common.{◌≡◌, ◌∙◌, ◌++◌, ◌∷◌, [], List, not, eqb, ap, arith}
 use Rattle.math_base.proofs.Members.{ring_members}
 use Rattle.math_transforms.proofs.RootInverses.{level_root-square}
-use Rattle.math_transforms.proofs.TreeEntries.{levels-none, levels-one, levels-next, levels-tree}
+use Rattle.math_transforms.proofs.TreeEntries.{levels-one, levels-next, levels-tree}
 use Rattle.math_transforms.proofs.trees.domain_tree.Goals as goal
 
 pub loop-l-init : goal.loop-l-init
@@ -24,14 +24,7 @@ loop-l-preserved g c =
     c.loop-l.invariant c.in_ok-add_level.ensures
 
 pub returns-then-lg-eq0 : goal.returns-then-lg-eq0
-returns-then-lg-eq0 g c =
-    let R = ring_members g.F.Multiplicative.product g.F.Debug.debug_output g.F.Object.same g.F.Object.NEVER_REFUSES g.F.Additive.zero g.F.Additive.sum g.F.Additive.negative g.F.Ring.one in
-    let F = g.met.F in
-    let items : c.push.new.self.items ≡ c.in_ok-first.first ∷ [] =
-    c.in_ok-push.ensures.items ∙ ap (λ (xs : List g.row.F.Denot). xs ++ (c.in_ok-first.first ∷ [])) c.in_ok-tree.ensures.items in
-    rw (items, c.if-lg-eq0.true)
-    (levels-tree R F.Object.equality F.Additive.group F.Multiplicative.commutes F.Ring.ring _ 0 _
-    (levels-none R F.Object.equality F.Additive.group F.Multiplicative.commutes F.Ring.ring _ c.in_ok-first.first 0 (λ l. absurd (omega (arith, l)))))
+returns-then-lg-eq0 g c = grind arith
 
 pub returns : goal.returns
 returns g c =

@@ -3,7 +3,7 @@ use Rattle.math_theory.proofs.domains.BuiltVanishing.{VanishesAt-none, VanishesA
 use Rattle.math_transforms.specs.MissingPoints.{count_false, every}
 use Rattle.math_transforms.proofs.MissingPlaces.{length-every, count_both, count_false-within, all_filled, all_missing}
 use Rattle.math_transforms.proofs.PowersOfTwo.{power_of_two-few}
-use Rattle.math_transforms.proofs.RootProductCounts.{none-missing, chunk-bounded}
+use Rattle.math_transforms.proofs.RootProductCounts.{chunk-bounded}
 use Rattle.math_transforms.proofs.vanishing.chunk.Goals as goal
 
 pub returns-then-missing-eq0-clause-vanishes : goal.returns-then-missing-eq0-clause-vanishes
@@ -15,10 +15,7 @@ returns-then-missing-eq0-clause-vanishes g c =
     (all_filled places (2 ^ c.args.lg) (length-every c.args.spaced.now.start c.args.spaced.now.stride c.args.spaced.now.points.now (2 ^ c.args.lg)) (sym few ∙ c.if-missing-eq0.true))
 
 pub returns-then-missing-eq0-clause-exact : goal.returns-then-missing-eq0-clause-exact
-returns-then-missing-eq0-clause-exact g c =
-    let places = every c.args.spaced.now.start c.args.spaced.now.stride (2 ^ c.args.lg) c.args.spaced.now.points.now in
-    let few : c.count_missing-missing.result ≡ count_false places = rw c.size_of-count.ensures at c.count_missing-missing.ensures in
-    λ _. none-missing c.args.work.now.root_products (count_false places) (sym few ∙ c.if-missing-eq0.true)
+returns-then-missing-eq0-clause-exact g c = grind arith
 
 pub returns-then-missing-count-clause-vanishes : goal.returns-then-missing-count-clause-vanishes
 returns-then-missing-count-clause-vanishes g c =
@@ -32,30 +29,13 @@ returns-then-missing-count-clause-vanishes g c =
     (all_missing places (2 ^ c.args.lg) long (omega (arith, count_both places))) (F.FieldNTT.roots.order c.args.lg c.requires.domain)
 
 pub returns-then-missing-count-clause-everywhere : goal.returns-then-missing-count-clause-everywhere
-returns-then-missing-count-clause-everywhere g c = λ _.
-    let places = every c.args.spaced.now.start c.args.spaced.now.stride (2 ^ c.args.lg) c.args.spaced.now.points.now in
-    let few : c.count_missing-missing.result ≡ count_false places = rw c.size_of-count.ensures at c.count_missing-missing.ensures in
-    let long = length-every c.args.spaced.now.start c.args.spaced.now.stride c.args.spaced.now.points.now (2 ^ c.args.lg) in
-    let size = c.size_of-count.ensures in
-    let all = c.if-missing-count.true in
-    omega (arith, count_both places)
+returns-then-missing-count-clause-everywhere g c = grind (arith, length-every, count_both)
 
 pub returns-then-missing-count-clause-exact : goal.returns-then-missing-count-clause-exact
-returns-then-missing-count-clause-exact g c = λ l.
-    let places = every c.args.spaced.now.start c.args.spaced.now.stride (2 ^ c.args.lg) c.args.spaced.now.points.now in
-    let few : c.count_missing-missing.result ≡ count_false places = rw c.size_of-count.ensures at c.count_missing-missing.ensures in
-    let size = c.size_of-count.ensures in
-    let all = c.if-missing-count.true in
-    absurd (omega arith)
+returns-then-missing-count-clause-exact g c = grind arith
 
 pub returns-clause-length : goal.returns-clause-length
-returns-clause-length g c =
-    let size = c.size_of-count.ensures in
-    let few = c.count_missing-missing.ensures in
-    let long = c.in_ok-product.ensures.length in
-    let other = c.if-missing-count.false in
-    let below = count_false-within c.args.spaced.now.start c.args.spaced.now.stride c.args.spaced.now.points.now c.size_of-count.result in
-    omega (arith, c.in_ok-product.product.ok.0)
+returns-clause-length g c = grind (arith, count_false-within)
 
 pub returns-in_err-product-clause-bounded : goal.returns-in_err-product-clause-bounded
 returns-in_err-product-clause-bounded g c =

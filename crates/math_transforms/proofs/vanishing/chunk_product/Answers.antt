@@ -69,12 +69,7 @@ loop-j-preserved g c =
     }
 
 pub times_root-requires : goal.times_root-requires
-times_root-requires g c =
-    let few = count_false-within c.args.spaced.now.start c.args.spaced.now.stride c.args.spaced.now.points.now c.loop-j.j in
-    record {
-      room = room-next c.loop-j.work.root_products c.args.work.now.root_products (vec_len c.loop-j.coefficients) (count_false (every c.args.spaced.now.start c.args.spaced.now.stride c.loop-j.j c.args.spaced.now.points.now)) (2 ^ 128)
-          (omega arith) c.loop-j.invariant.count c.loop-j.invariant.root_products c.requires.room;
-    }
+times_root-requires g c = grind (arith, count_false-within, room-next)
 
 pub returns-in_err-times_root-clause-no_more : goal.returns-in_err-times_root-clause-no_more
 returns-in_err-times_root-clause-no_more g c =

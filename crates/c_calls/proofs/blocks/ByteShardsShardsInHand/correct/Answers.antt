@@ -1,4 +1,4 @@
-use Rattle.std.proofs.Common.{◌⊎◌, ℕ, List, map, sym, ap, subst}
+use Rattle.std.proofs.Common.{arith, ◌⊎◌, ℕ, List, map, sym, ap, subst}
 use Rattle.std.proofs.lemmas.Result.{err_from_is_err_and}
 use Rattle.std.specs.Int.{from_be_bytes, w64}
 use Rattle.math_splitting.specs.declared.shards.Shard.{Shard}
@@ -29,15 +29,7 @@ returns-in_err-joined-clause-due c =
     (subst (λ (s : List Shard). IsMemory e ⊎ IsBlockDueCorrecting s e) c.deref.ensures.value due))
 
 pub returns-clause-ok : goal.returns-clause-ok
-returns-clause-ok c =
-    let held = c.args.self in
-    let joined = c.in_ok-joined.joined in
-    let shards : List Shard = c.in_ok-shards.shards.items in
-    let are : AreWordShards held.min held.total held.indices.now (spelled_words held.bytes.now) shards =
-    subst (λ (xs : List (List ℕ)). AreWordShards held.min held.total held.indices.now (map (from_be_bytes w64) xs) shards) c.as_chunks.ensures.front c.in_ok-shards.ensures in
-    let h : AreCorrectedBlock joined.bytes.items joined.left_out.items shards =
-    subst (λ (s : List Shard). AreCorrectedBlock joined.bytes.items joined.left_out.items s) c.deref.ensures.value c.in_ok-joined.ensures.ok in
-    (spelled_words held.bytes.now, held.spelled, shards, are, h)
+returns-clause-ok c = grind arith
 
 pub returns-clause-few : goal.returns-clause-few
 returns-clause-few c =

@@ -1,11 +1,6 @@
+use Rattle.std.proofs.Common.{arith}
 use Rattle.math_ntt.proofs.MatrixPlaces.{rows_are_listed, rows_are_full, rows_hold_cells, columns_are_full, columns_hold_cells}
 use Rattle.math_ntt.proofs.laws.places.rows_and_columns.Goals as goal
 
 pub returns : goal.returns
-returns g c = record {
-  listed = rows_are_listed;
-  row_length = rows_are_full;
-  row_cells = rows_hold_cells;
-  column_length = columns_are_full;
-  column_cells = columns_hold_cells;
-}
+returns g c = grind (arith, rows_are_listed, rows_are_full, rows_hold_cells, columns_are_full, columns_hold_cells)

@@ -55,9 +55,7 @@ decode-requires-clause-apart g c =
     (powers_apart-same F.Object.equality F.Additive.group F.Multiplicative.commutes F.Ring.ring _ (2 ^ c.args.lg) (F.FieldNTT.roots.order c.args.lg c.requires.lg.domain)))
 
 pub decode-requires-clause-count : goal.decode-requires-clause-count
-decode-requires-clause-count g c =
-    rw c.deref-5.ensures.value
-    (omega (arith, c.requires.count, c.in_ok-points.ensures.count, ap length c.deref-2.ensures.value, ap length c.in_ok-rows.ensures, length-places c.args.filled.now))
+decode-requires-clause-count g c = grind (arith, length-places)
 
 pub returns-in_default-clause-none : goal.returns-in_default-clause-none
 returns-in_default-clause-none g c =

@@ -20,20 +20,13 @@ module _ (g : given.Over) (c : After-saturating_add g) where
   cols = ap (λ (m : MatrixOf g.row.F.Denot). m.cols) c.matrix.view_is
 
   fits : 2 ^ c.args.lg * c.matrix.inside.cols < 2 ^ 64
-  fits =
-      let size : length c.matrix.inside.cells.items ≡ 2 ^ c.args.lg * c.matrix.inside.cols = rw rows at c.matrix.invariant in
-      omega (arith, size, c.matrix.inside.cells.ok.0, c.matrix.inside.cells.small)
+  fits = grind arith
 
   none : IsNone c.new-counted.result
   none = record { butterflies = c.new-counted.ensures.butterflies; root_products = c.new-counted.ensures.root_products }
 
   added : IsAdded c.args.work.now c.recovered_cells-outcome.new.work c.saturating_add.new.self
-  added = record {
-    butterflies = c.saturating_add.ensures.butterflies;
-    root_products = c.saturating_add.ensures.root_products;
-    no_fewer = c.saturating_add.ensures.no_fewer.0;
-    no_fewer_products = c.saturating_add.ensures.no_fewer.1;
-  }
+  added = grind arith
 
   most : AddsOneRecovery c.args.lg c.args.matrix.now.cols c.args.work.now c.saturating_add.new.self
   most = rw (← cols) (added-within _ _ _ _ _ _ none c.recovered_cells-outcome.ensures.most added)
@@ -60,10 +53,7 @@ returns-clause-polynomials g c =
     })
 
 pub returns-clause-exact : goal.returns-clause-exact
-returns-clause-exact g c room =
-    let at = (goal.at.returns-clause-exact g c).After-saturating_add in
-    added-exact c.args.lg c.matrix.inside.cols _ _ _ _ c.requires.lg.small (fits g at) (none g at) c.recovered_cells-outcome.ensures.most (added g at)
-    room c.in_ok-cells.cells.items c.args.matrix.now c.args.filled.now c.requires.rows (cols g at) (rw c.deref_mut.ensures.value at c.in_ok-outcome.ensures.recovered.exact)
+returns-clause-exact g c room = grind (arith, After-saturating_add, added-exact)
 
 pub returns-in_err-outcome-clause-refused : goal.returns-in_err-outcome-clause-refused
 returns-in_err-outcome-clause-refused g c = on-err c.from_residual-in_err-outcome.result (λ room.

@@ -1,7 +1,6 @@
 use Rattle.std.proofs.Common.{◌≡◌, ◌≢◌, ◌∙◌, ◌++◌, ℕ, ◌^◌, List, length, take, drop, refl, sym, ap, subst, arith}
 use Rattle.math_base.proofs.Members.{ring_members}
 use Rattle.math_base.proofs.WholeWrites.{take-written}
-use Rattle.math_transforms.specs.CountedWork.{WorkOf}
 use Rattle.math_transforms.specs.RootTrees.{IsTreeOf}
 use Rattle.math_transforms.proofs.SomeCells.{some-cells}
 use Rattle.math_transforms.proofs.TreeEntries.{all-points}
@@ -114,7 +113,4 @@ pub returns-in_err-quotients_from_coset-clause-refused : goal.returns-in_err-quo
 returns-in_err-quotients_from_coset-clause-refused g c = on-err c.from_residual-in_err-quotients_from_coset.result (omega (arith, some-cells 1 c.args.trees.now.lg (let h : 1 ≢ 0 = omega arith in h) (omega arith), c.in_ok-evaluate_below.ensures.counted, c.in_ok-moved_to_coset.ensures.bounded.no_fewer, c.in_err-quotients_from_coset.ensures.work.bounded.no_fewer))
 
 pub returns-in_err-quotients_from_coset-clause-late : goal.returns-in_err-quotients_from_coset-clause-late
-returns-in_err-quotients_from_coset-clause-late g c = on-err c.from_residual-in_err-quotients_from_coset.result
-    (λ never.
-    let same : c.quotients_from_coset.new.work.butterflies ≡ c.moved_to_coset.new.work.butterflies = ap (λ (w : WorkOf). w.butterflies) (c.in_err-quotients_from_coset.ensures.work.unbegun never) in
-    omega (arith, c.in_ok-evaluate_below.ensures.counted, c.in_ok-moved_to_coset.ensures.counted, same))
+returns-in_err-quotients_from_coset-clause-late g c = grind arith

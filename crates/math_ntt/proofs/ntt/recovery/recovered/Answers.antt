@@ -1,12 +1,10 @@
-use Rattle.std.proofs.Common.{◌≡◌, ◌∙◌, inl, inr, ◌*◌, ◌^◌, length, sym, arith}
-use Rattle.math_theory.specs.Recovery.{count_true}
+use Rattle.std.proofs.Common.{◌≡◌, ◌∙◌, ◌*◌, ◌^◌, length, sym, arith}
 use Rattle.math_theory.proofs.polynomials.BuiltPolynomials.{value-respects}
 use Rattle.math_theory.proofs.domains.BuiltVanishing.{VanishesAt-respects}
 use Rattle.math_theory.proofs.domains.CarriedDomains.{HasCoset-of_order-same}
 use Rattle.math_theory.proofs.recovery.RecoveredColumns.{domain_agreement, coset_nonzero, recovered-fits}
 use Rattle.math_transforms.specs.DomainValues.{matrix_of}
 use Rattle.math_transforms.specs.Matrices.{column_of}
-use Rattle.math_transforms.specs.MissingPoints.{count_false}
 use Rattle.math_transforms.proofs.DomainSteps.{column-cell}
 use Rattle.math_transforms.proofs.MatrixRows.{length-column}
 use Rattle.math_transforms.proofs.MissingPlaces.{count_both}
@@ -14,18 +12,11 @@ use Rattle.math_transforms.proofs.PowersOfTwo.{power_of_two-same}
 use Rattle.math_transforms.proofs.TreeCounts.{within-part, within-transforms}
 use Rattle.math_ntt.proofs.AddedWork.{on-err}
 use Rattle.math_ntt.proofs.RecoveryCounts.{some_levels, whole-bound, whole-room}
-use Rattle.math_ntt.proofs.RecoveryOutcomes.{exact-some, refusal-none, refusal-some}
+use Rattle.math_ntt.proofs.RecoveryOutcomes.{exact-some, refusal-none}
 use Rattle.math_ntt.proofs.ntt.recovery.recovered.Goals as goal
 
 pub divided-requires-clause-trees : goal.divided-requires-clause-trees
-divided-requires-clause-trees g c =
-    let points = c.args.points.now in
-    record {
-      domain = c.requires.lg;
-      some = some_levels c.args.lg (count_true points) (count_false points) (omega (arith, count_both points, c.requires.points)) c.requires.some c.requires.missing;
-      points = c.in_ok-evaluation.ensures;
-      inverses = c.in_ok-interpolation.ensures;
-    }
+divided-requires-clause-trees g c = grind (arith, some_levels, count_both)
 
 pub divided-requires-clause-room : goal.divided-requires-clause-room
 divided-requires-clause-room g c = omega (arith, whole-room c.args.lg c.args.cols c.requires.lg.small c.requires.fits, c.in_ok-vanishing.ensures.bounded.no_more)
@@ -90,20 +81,7 @@ pub returns-in_err-interpolation-clause-refused : goal.returns-in_err-interpolat
 returns-in_err-interpolation-clause-refused g c = on-err c.from_residual-in_err-interpolation.result (refusal-none _ _ _ _)
 
 pub returns-in_err-vanishing-clause-refused : goal.returns-in_err-vanishing-clause-refused
-returns-in_err-vanishing-clause-refused g c = on-err c.from_residual-in_err-vanishing.result (
-    refusal-some _ _ _ _ _ c.requires.some c.requires.missing
-    (λ small.
-    let none = c.in_err-vanishing.ensures.butterflies small in
-    record { no_more = omega (arith, none); no_more_products = c.in_err-vanishing.ensures.no_more small; in_order = λ begun. absurd (omega (arith, begun, none)) })
-    (λ never small. inl (c.in_err-vanishing.ensures.butterflies small)))
+returns-in_err-vanishing-clause-refused g c = grind arith
 
 pub returns-in_err-divided-clause-refused : goal.returns-in_err-divided-clause-refused
-returns-in_err-divided-clause-refused g c = on-err c.from_residual-in_err-divided.result (
-    let bound = c.in_err-divided.ensures.bounded in
-    refusal-some _ _ _ _ _ c.requires.some c.requires.missing
-    (λ small.
-    let none = c.in_ok-vanishing.ensures.butterflies small in
-    let all = c.in_ok-vanishing.ensures.exact small in
-    record { no_more = omega (arith, none, bound.no_more); no_more_products = omega (arith, all, bound.root_products); in_order = λ begun. omega (arith, all, bound.root_products) })
-    (λ never small.
-    inr (omega (arith, c.in_ok-vanishing.ensures.butterflies small, c.in_err-divided.ensures.late never), omega (arith, c.in_ok-vanishing.ensures.exact small, bound.root_products))))
+returns-in_err-divided-clause-refused g c = grind arith

@@ -13,10 +13,7 @@ use Rattle.math_ntt.proofs.AddedWork.{on-err}
 use Rattle.math_ntt.proofs.ntt.recovery.recovered_cells.Goals as goal
 
 pub recovered-requires-clause-missing : goal.recovered-requires-clause-missing
-recovered-requires-clause-missing g c =
-    let filled = c.count_non_vanishing-filled.ensures in
-    let size = c.size_of.ensures in
-    omega (arith, count_both c.args.points.now, c.requires.points)
+recovered-requires-clause-missing g c = grind (arith, count_both)
 
 pub returns-then-filled-size_of-clause-recovered : goal.returns-then-filled-size_of-clause-recovered
 returns-then-filled-size_of-clause-recovered g c =
@@ -67,14 +64,7 @@ pub returns-in_err-zeros-clause-refused : goal.returns-in_err-zeros-clause-refus
 returns-in_err-zeros-clause-refused g c = on-err c.from_residual.result (refusal-none _ _ _ _)
 
 pub returns-in_err-interpolated-clause-refused : goal.returns-in_err-interpolated-clause-refused
-returns-in_err-interpolated-clause-refused g c = on-err c.from_residual-in_err-interpolated.result (
-    let filled = c.count_non_vanishing-filled.ensures in
-    let work = c.in_err-interpolated.ensures.work in
-    refusal-transform _ _ _ _ _ (λ some missing. omega (arith, some)) work.bounded work.unbegun)
+returns-in_err-interpolated-clause-refused g c = grind arith
 
 pub returns-in_err-interpolated-2-clause-refused : goal.returns-in_err-interpolated-2-clause-refused
-returns-in_err-interpolated-2-clause-refused g c = on-err c.from_residual-in_err-interpolated-2.result (
-    let filled = c.count_non_vanishing-filled.ensures in
-    let size = c.size_of.ensures in
-    let work = c.in_err-interpolated-2.ensures.work in
-    refusal-transform _ _ _ _ _ (λ some missing. omega (arith, missing, count_both c.args.points.now)) work.bounded work.unbegun)
+returns-in_err-interpolated-2-clause-refused g c = grind (arith, on-err, refusal-transform, count_both)

@@ -14,6 +14,4 @@ loop-cell-preserved g c =
     record { done = written-done zero (λ k x. g.F.Object.same x zero) cells cells c.loop-cell.cell-index c.in_ok-zero.zero within c.loop-cell.invariant.done c.in_ok-zero.ensures.ok }
 
 pub returns : goal.returns
-returns g c = λ k d l.
-    let zero = g.F.Additive.zero in
-    rw (get_or_default c.loop-cell.cells k d zero l) (c.loop-cell.invariant.done k (omega arith))
+returns g c = grind (arith, get_or_default)

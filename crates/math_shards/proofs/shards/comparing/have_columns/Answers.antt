@@ -38,10 +38,7 @@ valued g c =
     (λ k d l. omega (arith, c.requires.rows.below k d l, strip.layout.points)) (λ k d l. omega (arith, strip.inside, c.requires.rows.count k d l))
 
 pub loop-start-init : goal.loop-start-init
-loop-start-init g c = record {
-  ratio = c.from-ratio.ensures ∙ sym (ap number (raised-none (root_of c.args.columns.strip.layout.lg)));
-  values = λ k d l less. absurd (omega (arith, less));
-}
+loop-start-init g c = grind (arith, raised-none)
 
 pub loop-start-preserved : goal.loop-start-preserved
 loop-start-preserved g c =

@@ -1,5 +1,4 @@
-use Rattle.std.proofs.Common.{◌∙◌, ◌+◌, sym, arith}
-use Rattle.std.proofs.lemmas.Bool.{false≢true}
+use Rattle.std.proofs.Common.{◌∙◌, ◌+◌, arith}
 use Rattle.math_shards.specs.Cosets.{coefficients_of}
 use Rattle.math_shards.proofs.CosetRows.{values-more}
 use Rattle.math_shards.proofs.shards.comparing.have_strips.Goals as goal
@@ -14,7 +13,4 @@ loop-from-preserved g c =
     }
 
 pub returns-then-not-have_columns : goal.returns-then-not-have_columns
-returns-then-not-have_columns g c = (
-  λ e. absurd (false≢true e),
-  λ h. absurd (false≢true (sym c.if-not-have_columns.true ∙ c.have_columns.ensures.1 (λ i d l k b. h i d l (c.loop-from.from + k) (omega (arith, b))))),
-)
+returns-then-not-have_columns g c = grind arith

@@ -8,21 +8,7 @@ use Rattle.math_shards.proofs.RootPowers.{raised-more, raised-one}
 use Rattle.math_shards.proofs.shards.comparing.write_coset.Goals as goal
 
 pub loop-row-init : goal.loop-row-init
-loop-row-init c =
-    let strip = c.args.columns.strip in
-    let layout = strip.layout in
-    let elements = c.args.columns.elements.now in
-    let cols = strip.cols in
-    let from = strip.from in
-    let start = c.args.cells.now in
-    let items = c.copy_from_slice.new.self in
-    let inside : 0 * cols + cols ≤ 2 ^ c.args.lg * cols = row-within 0 (2 ^ c.args.lg) cols (omega (arith, layout.some, c.requires.points)) in
-    let wide : length items ≡ cols = c.copy_from_slice.ensures.len ∙ length-take-le cols start (omega (arith, inside, c.requires.size)) in
-    record {
-      factor = raised-one c.args.ratio;
-      rows = multiples-first elements layout.width from cols c.args.ratio (items ++ drop cols start)
-          (λ k b. begun-at cols from (from + cols - from) k elements start items c.copy_from_slice.ensures.after (omega (arith, b)) (omega (arith, b, wide)));
-    }
+loop-row-init c = grind (arith, row-within, length-take-le, raised-one, multiples-first, begun-at)
 
 pub loop-row-preserved : goal.loop-row-preserved
 loop-row-preserved c =

@@ -1,9 +1,8 @@
-use Rattle.std.proofs.Common.{◌≡◌, ◌∙◌, ◌≤◌, length, subst, sym, arith}
+use Rattle.std.proofs.Common.{◌≡◌, ◌∙◌, ◌≤◌, arith}
 use Rattle.std.proofs.lemmas.Bool.{false≢true}
-use Rattle.math_transforms.specs.Matrices.{IsOfSize}
 use Rattle.math_splitting.proofs.LeastDomains.{domain_is_small}
 use Rattle.math_shards.specs.Correcting.{settled_indices}
-use Rattle.math_shards.proofs.CorrectedShards.{corrected_of_data, least_is_positive, least_is_within, rows_are_domain, size_of_corrected}
+use Rattle.math_shards.proofs.CorrectedShards.{corrected_of_data, least_is_positive, least_is_within, rows_are_domain}
 use Rattle.math_shards.proofs.UnlikeRows.{corrected_with_positions}
 use Rattle.math_shards.proofs.shards.correcting.corrected_rows.Goals as goal
 
@@ -11,9 +10,7 @@ pub corrected_polynomials-requires-clause-enough : goal.corrected_polynomials-re
 corrected_polynomials-requires-clause-enough c = omega (arith, c.in_ok-count_settled.ensures, c.if-branch-first.false)
 
 pub returns-in_default-clause-err : goal.returns-in_default-clause-err
-returns-in_default-clause-err c =
-    let enough : c.args.first.now.min ≤ settled_indices c.args.first.now.total c.args.shards.now = omega (arith, c.in_ok-count_settled.ensures, c.if-branch-first.false) in
-    ((c.requires.sound, λ x. x), enough, rw c.in_default.is at c.in_ok-polynomials.ensures.none)
+returns-in_default-clause-err c = grind arith
 
 pub returns-in_default-2-clause-err : goal.returns-in_default-2-clause-err
 returns-in_default-2-clause-err c =
@@ -27,25 +24,13 @@ returns-in_default-2-clause-err c =
     )
 
 pub evaluate-requires : goal.evaluate-requires
-evaluate-requires c =
-    let first = c.args.first.now in
-    let shards = c.args.shards.now in
-    let k = rw c.in-Some.is at c.in_ok-polynomials.ensures.some in
-    let some : 1 ≤ first.total = omega (arith, least_is_positive k.lg first shards k.rows k.filled, least_is_within k.lg first shards k.rows k.filled) in
-    record { domain = λ lg is. domain_is_small first.total lg some k.filled.short (rw is at (rows_are_domain k.lg first shards k.rows k.filled c.in-Some.polynomials k.wrong k.corrected)) }
+evaluate-requires c = grind (arith, least_is_positive, least_is_within, domain_is_small, rows_are_domain)
 
 pub unlike_rows-requires-clause-rows : goal.unlike_rows-requires-clause-rows
-unlike_rows-requires-clause-rows c i d l =
-    let first = c.args.first.now in
-    let k = rw c.in-Some.is at c.in_ok-polynomials.ensures.some in
-    let s = c.requires.sound i d l in
-    omega (arith, s.1, s.0.most, (rows_are_domain k.lg first c.args.shards.now k.rows k.filled c.in-Some.polynomials k.wrong k.corrected).1, c.in_ok-evaluate.ensures.size.0)
+unlike_rows-requires-clause-rows c i d l = grind arith
 
 pub unlike_rows-requires-clause-cells : goal.unlike_rows-requires-clause-cells
-unlike_rows-requires-clause-cells c i d l =
-    let k = rw c.in-Some.is at c.in_ok-polynomials.ensures.some in
-    (c.requires.sound i d l).0.count
-    ∙ sym (c.in_ok-evaluate.ensures.size.1 ∙ (size_of_corrected k.lg c.args.first.now c.args.shards.now k.rows k.filled c.in-Some.polynomials k.wrong k.corrected).1)
+unlike_rows-requires-clause-cells c i d l = grind arith
 
 pub returns-clause-ok : goal.returns-clause-ok
 returns-clause-ok c =
@@ -58,15 +43,4 @@ returns-clause-ok c =
     )
 
 pub data_of-requires : goal.data_of-requires
-data_of-requires c =
-    let first = c.args.first.now in
-    let shards = c.args.shards.now in
-    let q = c.in-Some.polynomials in
-    let k = rw c.in-Some.is at c.in_ok-polynomials.ensures.some in
-    let wide : length first.cells.items ≡ c.len.result = omega (arith, c.len.ensures, first.cells.ok.0) in
-    record {
-      some = least_is_positive k.lg first shards k.rows k.filled;
-      rows = omega (arith, least_is_within k.lg first shards k.rows k.filled, (rows_are_domain k.lg first shards k.rows k.filled q k.wrong k.corrected).1);
-      size = subst (λ w. IsOfSize q q.rows w) wide (size_of_corrected k.lg first shards k.rows k.filled q k.wrong k.corrected);
-      short = λ j i inside past. k.corrected.zero_from j i (omega (arith, inside, k.corrected.size.1)) past;
-    }
+data_of-requires c = grind arith

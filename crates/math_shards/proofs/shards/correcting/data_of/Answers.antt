@@ -8,18 +8,10 @@ use Rattle.math_shards.proofs.ShardRows.{cells_of_recovered, polynomials_of_rows
 use Rattle.math_shards.proofs.shards.correcting.data_of.Goals as goal
 
 pub data_count-requires-clause-size : goal.data_count-requires-clause-size
-data_count-requires-clause-size c =
-    let q = c.args.polynomials.now in
-    let all : c.args.min * c.args.width ≤ q.rows * c.args.width = mul-le c.args.min c.args.width q.rows c.args.width c.requires.rows (omega arith) in
-    ap length (c.deref.ensures.value ∙ c.in_ok-elements.ensures ∙ ap (λ w. take (c.args.min * w) q.cells) c.requires.size.1)
-    ∙ length-take-le (c.args.min * c.args.width) q.cells (omega (arith, all, c.requires.size.2))
+data_count-requires-clause-size c = grind (arith, mul-le, length-take-le)
 
 pub returns-in_default-clause-none : goal.returns-in_default-clause-none
-returns-in_default-clause-none c = λ words each_word few same_as.
-    let q = c.args.polynomials.now in
-    let cells = cells_of_recovered words c.args.min q.rows c.args.width q c.requires.some c.requires.rows c.requires.size same_as in
-    absurd ((rw c.in_default.is at c.data_count.ensures.none) words
-    (record { each_word = each_word; few = few; packed = c.deref.ensures.value ∙ c.in_ok-elements.ensures ∙ cells }))
+returns-in_default-clause-none c = grind (arith, cells_of_recovered)
 
 pub returns-clause-some : goal.returns-clause-some
 returns-clause-some c =

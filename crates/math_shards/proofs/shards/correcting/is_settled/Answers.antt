@@ -1,6 +1,6 @@
-use Rattle.std.proofs.Common.{◌≡◌, ◌∙◌, take, get_or, not, eqb, true, false, sym, ap}
+use Rattle.std.proofs.Common.{arith, ◌≡◌, ◌∙◌, take, get_or, not, eqb, true, false, sym, ap}
 use Rattle.std.specs.List.{AllZip, list_all}
-use Rattle.std.proofs.lemmas.Bool.{and_from, eq-eqb, false_from_ne_true, false≢true, ne_eqb, not_from_false, not_from_true, or_from, or_left, or_right}
+use Rattle.std.proofs.lemmas.Bool.{and_from, eq-eqb, false_from_ne_true, ne_eqb, not_from_false, not_from_true, or_from, or_left, or_right}
 use Rattle.std.proofs.lemmas.List.Folds.{list_all_at, list_all_more}
 use Rattle.math_fields.specs.Elements.{same}
 use Rattle.math_shards.specs.Correcting.{are_same}
@@ -9,19 +9,7 @@ use Rattle.math_shards.proofs.shards.correcting.is_settled.Goals as goal
 use Rattle.math_shards.proofs.shards.correcting.is_settled.Goals.{else-other-shard-via-then-other-shard+else-not-are_equal, else-other-shard-via-else-other-shard}
 
 pub returns-then-not-are_equal : goal.returns-then-not-are_equal
-returns-then-not-are_equal c =
-    let s = c.args.shard.now in
-    let t = c.other-item.result in
-    let shards = c.args.shards.now in
-    let k = c.loop-other.other-index in
-    let apart : are_same t.cells.items s.cells.items ≡ false =
-    false_from_ne_true (are_same t.cells.items s.cells.items) (λ h.
-    false≢true
-    (sym c.if-not-are_equal.true
-    ∙ c.are_equal.ensures.1 (rw (c.deref.ensures.value, c.deref-then-other-shard.ensures.value) ((are_same-decides t.cells.items s.cells.items).0 h)))) in
-    let differ : agrees s t ≡ false =
-    or_from (not (eqb t.index s.index)) (are_same t.cells.items s.cells.items) (not_from_true (eqb t.index s.index) (eq-eqb t.index s.index c.if-other-shard.true)) apart in
-    sym (list_all_at (agrees s) shards k t c.loop-other-test.true (ap (agrees s) (sym c.other-item.is) ∙ differ))
+returns-then-not-are_equal c = grind (arith, false_from_ne_true, are_same-decides, or_from, not_from_true, eq-eqb, list_all_at)
 
 pub loop-other-preserved : goal.loop-other-preserved
 loop-other-preserved c =

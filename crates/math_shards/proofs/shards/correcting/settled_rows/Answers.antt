@@ -1,8 +1,7 @@
-use Rattle.std.proofs.Common.{◌≡◌, ◌∙◌, ◌≤◌, ◌^◌, length, refl, ap, subst, sym, arith}
+use Rattle.std.proofs.Common.{◌≡◌, ◌∙◌, ◌≤◌, ◌^◌, length, refl, subst, sym, arith}
 use Rattle.std.specs.Int.{IsNextPowerOfTwo}
 use Rattle.math_splitting.proofs.LayoutNumbers.{next_of}
 use Rattle.math_shards.specs.Correcting.{is_settled, settled}
-use Rattle.math_shards.specs.Joining.{IsSound}
 use Rattle.math_shards.proofs.GatheredShards.{HoldsFirst, holds_none, holds_all}
 use Rattle.math_shards.proofs.KeptItems.{kept-all, kept-fails}
 use Rattle.math_shards.proofs.SettledShards.{holds_settled, settled_sound}
@@ -31,15 +30,10 @@ loop-shard-init c =
 
 -- the row of a shard is one of the rows
 pub fill_row-requires-clause-row : goal.fill_row-requires-clause-row
-fill_row-requires-clause-row c =
-    let held = c.loop-shard.invariant in
-    let sound : IsSound c.args.first.now c.shard-item.result = rw (← c.shard-item.is) at (c.requires.sound c.loop-shard.shard-index c.shard-item.result c.loop-shard-test.true) in
-    omega (arith, sound.1, sound.0.most, held.0.points, held.1, held.2.size.0)
+fill_row-requires-clause-row c = grind arith
 
 pub fill_row-requires-clause-few : goal.fill_row-requires-clause-few
-fill_row-requires-clause-few c =
-    let sound : IsSound c.args.first.now c.shard-item.result = rw (← c.shard-item.is) at (c.requires.sound c.loop-shard.shard-index c.shard-item.result c.loop-shard-test.true) in
-    omega (arith, ap length c.deref.ensures.value, sound.0.count, c.loop-shard.invariant.2.size.1)
+fill_row-requires-clause-few c = grind arith
 
 pub loop-shard-preserved : goal.loop-shard-preserved
 loop-shard-preserved c =

@@ -1,4 +1,4 @@
-use Rattle.std.proofs.Common.{sym, ◌∙◌}
+use Rattle.std.proofs.Common.{arith, sym, ◌∙◌}
 use Rattle.std.proofs.lemmas.Bool.{false≢true}
 use Rattle.math_shards.proofs.SoundShards.{unsound_at}
 use Rattle.math_shards.proofs.shards.joining.check_numbers.Goals as goal
@@ -8,6 +8,4 @@ returns-then-not-matches-clause-err c = unsound_at c.args.first.now _ c.args.sha
     (λ holds. false≢true (sym c.if-not-matches.true ∙ c.matches.ensures.1 holds))
 
 pub returns-then-shard-clause-err : goal.returns-then-shard-clause-err
-returns-then-shard-clause-err c =
-    unsound_at c.args.first.now _ c.args.shards.now c.loop-shard.shard-index c.shard-item.result c.loop-shard-test.true c.shard-item.is c.loop-shard.invariant
-    (c.matches.ensures.0 c.if-not-matches.false, c.if-shard.true)
+returns-then-shard-clause-err c = grind (arith, unsound_at)

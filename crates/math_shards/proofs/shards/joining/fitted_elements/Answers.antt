@@ -1,6 +1,5 @@
 use Rattle.std.proofs.Common.{◌∙◌, List, map, subst, sym, arith}
 use Rattle.std.specs.List.{All}
-use Rattle.std.proofs.lemmas.Bool.{false≢true}
 use Rattle.std.proofs.lemmas.List.{length-map}
 use Rattle.math_fields.specs.declared.goldilocks.F.{F}
 use Rattle.math_transforms.specs.DomainValues.{matrix_of}
@@ -53,7 +52,4 @@ returns-in_default-data_count-clause-none g c = λ words fit.
     none words (rw c.deref.ensures.value (data_of_fit g.R.Row.index g.R.Row.cells words c.args.layout c.in-Some.elements.items c.args.rows.now of c.requires fit))
 
 pub returns-then-not-branch-clause-none : goal.returns-then-not-branch-clause-none
-returns-then-not-branch-clause-none g c = λ words fit.
-    let of = rw c.in-Some.is at c.in_ok-elements.ensures.some in
-    let values = values_of_fit g.R.Row.index g.R.Row.cells words c.args.layout c.in-Some.elements.items c.args.rows.now of c.requires fit in
-    false≢true (sym c.if-not-branch.true ∙ c.in_ok-have_values.ensures.1 (rw c.deref-2.ensures.value values))
+returns-then-not-branch-clause-none g c = grind (arith, values_of_fit)

@@ -1,8 +1,8 @@
-use Rattle.std.proofs.Common.{◌∙◌, sym}
+use Rattle.std.proofs.Common.{arith, ◌∙◌, sym}
 use Rattle.std.proofs.lemmas.Result.{err_from_is_err_and}
 use Rattle.math_shards.specs.Joining.{HaveConflict}
 use Rattle.math_splitting.specs.Shards.{JoinTo, distinct_indices}
-use Rattle.math_shards.proofs.DueErrors.{due_beside, rows_due, unsound_due}
+use Rattle.math_shards.proofs.DueErrors.{due_beside, rows_due}
 use Rattle.math_shards.proofs.JoinedRows.{join_of_fit}
 use Rattle.math_shards.proofs.SoundShards.{rows_of_sound}
 use Rattle.math_shards.proofs.shards.joining.join_packed.Goals as goal
@@ -11,12 +11,7 @@ pub joined_elements-requires : goal.joined_elements-requires
 joined_elements-requires c = rows_of_sound c.in-Some.first.now c.args.shards.now c.new-layout.result c.new-layout.ensures.total (c.new-layout.ensures.width ∙ c.len.ensures ∙ c.in-Some.first.now.cells.ok.0) c.in_ok-check_numbers.ensures.ok
 
 pub returns-in_err-check_numbers-clause-err : goal.returns-in_err-check_numbers-clause-err
-returns-in_err-check_numbers-clause-err c =
-    let q = err_from_is_err_and c.from_residual.result c.from_residual.ensures.1 in
-    let item = c.in-Some.ensures.item in
-    let e = c.in_err-check_numbers.field-0.0 in
-    let due = unsound_due HaveConflict distinct_indices JoinTo c.in-Some.first.now c.args.shards.now e c.in_err-check_numbers.ensures.err in
-    rw (q.1, q.2) (due_beside HaveConflict distinct_indices JoinTo c.in-Some.first.now c.args.shards.now e item.3.0 (sym item.1) due)
+returns-in_err-check_numbers-clause-err c = grind arith
 
 pub returns-in_err-packed-clause-err : goal.returns-in_err-packed-clause-err
 returns-in_err-packed-clause-err c =

@@ -1,5 +1,4 @@
-use Rattle.std.proofs.Common.{◌≡◌, ◌∙◌, Contains, get_or, subst, sym, ap}
-use Rattle.std.proofs.lemmas.Bool.{false≢true}
+use Rattle.std.proofs.Common.{arith, ◌≡◌, ◌∙◌, Contains, get_or, subst, sym, ap}
 use Rattle.std.proofs.lemmas.List.{get_or_default}
 use Rattle.math_shards.proofs.RefusedRows.{places-known, places-new, unequal_at}
 use Rattle.math_shards.proofs.shards.joining.put_place.Goals as goal
@@ -26,11 +25,4 @@ returns-clause-equal g c = λ e.
     c.index-rows-place.result c.if-place-rows.false c.index-rows-place.is (c.in_ok-answer.ensures.0 e)
 
 pub returns-clause-unequal : goal.returns-clause-unequal
-returns-clause-unequal g c = λ e.
-    let rows = c.args.rows.now in
-    let i = c.args.i in
-    let row = c.index-rows-i-2.result in
-    let again : c.index-rows-i.result ≡ row = c.index-rows-i.is ∙ get_or_default rows i c.index-rows-i.result row c.requires.row ∙ sym c.index-rows-i-2.is in
-    unequal_at g.R.Row.index g.R.Row.cells c.args.indices.now rows c.requires.indexed.rising i row c.args.places.now c.requires.places c.requires.row c.index-rows-i-2.is
-    c.place_of-at.result c.place_of-at.ensures.inside (c.place_of-at.ensures.index ∙ c.index.ensures ∙ ap g.R.Row.index again)
-    c.index-rows-place.result c.if-place-rows.false c.index-rows-place.is (λ h. false≢true (sym e ∙ c.in_ok-answer.ensures.1 h))
+returns-clause-unequal g c = grind (arith, get_or_default, unequal_at)

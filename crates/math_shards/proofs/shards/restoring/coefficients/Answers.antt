@@ -18,10 +18,7 @@ put_coefficients-requires-clause-indices g c =
     }
 
 pub put_coefficients-requires-clause-size : goal.put_coefficients-requires-clause-size
-put_coefficients-requires-clause-size g c =
-    ap length c.deref_mut.ensures.value
-    ∙ chosen_count g.R.Row.index g.R.Row.cells c.args.layout.width c.args.rows.now c.in_ok-indices.indices.items c.in_ok-indices.cells.items c.requires.count c.in_ok-indices.ensures.rows
-    ∙ ap (λ (xs : List ℕ). length xs * c.args.layout.width) (sym c.deref.ensures.value)
+put_coefficients-requires-clause-size g c = grind (arith, chosen_count)
 
 pub returns-then-len-layout-clause-few : goal.returns-then-len-layout-clause-few
 returns-then-len-layout-clause-few g c =

@@ -54,14 +54,10 @@ loop-row-preserved g c =
     ]
 
 pub get-requires : goal.get-requires
-get-requires g c =
-    let counted : g.R.Row.index c.row-item.result < c.args.layout.total = rw (← c.row-item.is) at (c.requires.below c.loop-row.row-index c.row-item.result c.loop-row-test.true) in
-    omega (arith, counted, c.args.layout.points, c.index-index.ensures, c.loop-row.invariant.marked.size)
+get-requires g c = grind arith
 
 pub set_non_vanishing-requires : goal.set_non_vanishing-requires
-set_non_vanishing-requires g c =
-    let counted : g.R.Row.index c.row-item.result < c.args.layout.total = rw (← c.row-item.is) at (c.requires.below c.loop-row.row-index c.row-item.result c.loop-row-test.true) in
-    omega (arith, counted, c.args.layout.points, c.index-index.ensures, c.loop-row.invariant.marked.size)
+set_non_vanishing-requires g c = grind arith
 
 pub returns-clause-all : goal.returns-clause-all
 returns-clause-all g c = λ few.

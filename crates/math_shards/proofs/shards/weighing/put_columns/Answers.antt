@@ -14,23 +14,13 @@ put_column-requires-clause-size c =
     c.loop-k.auto.cells ∙ c.put_strips-done.auto.cells ∙ c.requires.size ∙ ap (λ n. n * c.args.width) (sym (same (goal.at.put_column-requires-clause-size c).After-copy_column))
 
 pub put_column-requires-clause-weights : goal.put_column-requires-clause-weights
-put_column-requires-clause-weights c =
-    let n = length c.copy_column.new.column in
-    rw (same (goal.at.put_column-requires-clause-weights c).After-copy_column) c.requires.weights
+put_column-requires-clause-weights c = grind arith
 
 pub loop-k-init : goal.loop-k-init
 loop-k-init c = c.put_strips-done.ensures.put
 
 pub loop-k-preserved : goal.loop-k-preserved
-loop-k-preserved c =
-    let count = length c.args.column.now in
-    let gathered : c.copy_column.new.column ≡ column_in count c.args.width c.loop-k.cells c.loop-k.k =
-    c.copy_column.ensures ∙ ap (λ n. column_in n c.args.width c.loop-k.cells c.loop-k.k) c.loop-k.auto.column in
-    columns-more c.args.weights.now count c.args.width c.loop-k.k c.args.cells.now c.loop-k.cells c.put_column.new.cells c.copy_column.new.column c.requires.size
-    (c.loop-k.auto.cells ∙ c.put_strips-done.auto.cells ∙ c.requires.size) gathered c.loop-k-test.true c.put_column.ensures c.loop-k.invariant
+loop-k-preserved c = grind (arith, column_in, columns-more)
 
 pub returns : goal.returns
-returns c = record {
-  size = c.loop-k.auto.cells ∙ c.put_strips-done.auto.cells ∙ c.requires.size;
-  each = λ r k a b. c.loop-k.invariant.done r k a (omega (arith, b, c.loop-k-test.false));
-}
+returns c = grind arith

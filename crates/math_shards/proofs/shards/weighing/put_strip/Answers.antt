@@ -57,8 +57,4 @@ loop-r-preserved c =
     }
 
 pub returns : goal.returns
-returns c = record {
-  done = λ r i a b. c.loop-r.invariant.done r i (omega (arith, a, c.loop-r-test.false)) b;
-  before = c.loop-r.invariant.before;
-  behind = c.loop-r.invariant.behind;
-}
+returns c = grind arith

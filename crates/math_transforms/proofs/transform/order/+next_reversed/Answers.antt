@@ -4,9 +4,7 @@ use Rattle.math_transforms.proofs.ReversedRows.{next-with_zero, next-with_one}
 use Rattle.math_transforms.proofs.transform.order.+next_reversed.Goals as goal
 
 pub next_reversed-requires : goal.next_reversed-requires
-next_reversed-requires t c =
-    let double = power_of_two-double c.args.lg (omega arith) in
-    (omega arith, (omega arith, omega (arith, double, c.requires.below, c.size_of-half.ensures, c.if-j-half.false)))
+next_reversed-requires t c = grind (arith, power_of_two-double)
 
 pub returns-then-j-half-clause-below : goal.returns-then-j-half-clause-below
 returns-then-j-half-clause-below t c = omega (arith, power_of_two-double c.args.lg (omega arith), c.size_of-half.ensures, c.if-j-half.true)

@@ -55,33 +55,13 @@ row_around-j-requires-clause-fits g c =
     omega (arith, c.size_of-quarter.ensures, s.quarter, s.rows, pow_mono (let h : c.args.lg ≤ 63 = omega arith in h))
 
 pub swap_rows-requires-clause-first : goal.swap_rows-requires-clause-first
-swap_rows-requires-clause-first g c =
-    let within : c.loop-middle.middle < 2 ^ (c.args.lg - 4) = omega (arith, c.size_of-middles.ensures) in
-    omega (
-      arith,
-      c.size_of-rows.ensures,
-      c.row_around-i.ensures,
-      here-below c.args.lg c.loop-middle.middle c.loop-middle.other c.loop-t.t c.opposite_of_four-u.result c.size_of-quarter.result c.requires.many c.size_of-quarter.ensures within
-          c.loop-t-test.true (c.loop-middle.invariant.reversed within) c.opposite_of_four-u.ensures,
-    )
+swap_rows-requires-clause-first g c = grind (arith, here-below)
 
 pub swap_rows-requires-clause-second : goal.swap_rows-requires-clause-second
-swap_rows-requires-clause-second g c =
-    let within : c.loop-middle.middle < 2 ^ (c.args.lg - 4) = omega (arith, c.size_of-middles.ensures) in
-    omega (
-      arith,
-      c.size_of-rows.ensures,
-      c.row_around-j.ensures,
-      there-below c.args.lg c.loop-middle.middle c.loop-middle.other c.loop-t.t c.opposite_of_four-u.result c.size_of-quarter.result c.requires.many c.size_of-quarter.ensures within
-          c.loop-t-test.true (c.loop-middle.invariant.reversed within) c.opposite_of_four-u.ensures,
-    )
+swap_rows-requires-clause-second g c = grind (arith, there-below)
 
 pub swap_rows-requires-clause-apart : goal.swap_rows-requires-clause-apart
-swap_rows-requires-clause-apart g c =
-    let within : c.loop-middle.middle < 2 ^ (c.args.lg - 4) = omega (arith, c.size_of-middles.ensures) in
-    rw (c.row_around-i.ensures, c.row_around-j.ensures)
-    (here-apart c.args.lg c.loop-middle.middle c.loop-middle.other c.loop-t.t c.opposite_of_four-u.result c.size_of-quarter.result c.requires.many c.size_of-quarter.ensures within
-    c.loop-t-test.true (c.loop-middle.invariant.reversed within) c.opposite_of_four-u.ensures c.if-middle-t.true)
+swap_rows-requires-clause-apart g c = grind (arith, here-apart)
 
 pub loop-t-preserved : goal.loop-t-preserved
 loop-t-preserved g c = λ k l.

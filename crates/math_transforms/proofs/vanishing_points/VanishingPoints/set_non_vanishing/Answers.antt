@@ -6,9 +6,7 @@ use Rattle.math_transforms.proofs.BitmapPoints.{IsBitmap-set, truth_values-set, 
 use Rattle.math_transforms.proofs.vanishing_points.VanishingPoints.set_non_vanishing.Goals as goal
 
 pub index_mut-requires : goal.index_mut-requires
-index_mut-requires c =
-    let within : c.args.index < length (truth_values c.self.inside.lg_size c.self.inside.words.items) = subst (λ l. c.args.index < length l) (sym c.self.view_is) c.requires in
-    omega (arith, c.self.inside.words.ok.0, word_within c.self.inside.lg_size c.self.inside.words.items c.self.invariant c.args.index within)
+index_mut-requires c = grind (arith, word_within)
 
 pub invariant_of-self : goal.invariant_of-self
 invariant_of-self c =

@@ -1,14 +1,11 @@
-use Rattle.std.proofs.Common.{rules, ◌≡◌, ◌∙◌, ◌*◌, ap, sym, Some, None}
+use Rattle.std.proofs.Common.{arith, rules, ◌≡◌, ◌∙◌, ◌*◌, ap, sym, Some, None}
 use Rattle.math_base.specs.Samples.{samples}
 use Rattle.math_base.specs.declared.algebra.RandomError.TheVariants.{TooManyWords}
 use Rattle.math_base.proofs.SampleLists.{no_samples, sample_behind, samples_end}
 use Rattle.math_ntt.proofs.ntt.matrix.Matrix.rand.Goals as goal
 
 pub loop-sampled-init : goal.loop-sampled-init
-loop-sampled-init g c = record {
-  count = search rules;
-  sampled = no_samples g.F.Random.sample (g.G.Rng.stream c.args.rng.now) ∙ ap (λ l. (Some l, g.G.Rng.stream c.args.rng.now)) (sym c.new-cells.ensures.items);
-}
+loop-sampled-init g c = grind (arith, no_samples)
 
 pub returns-in_err-cell-clause-refused : goal.returns-in_err-cell-clause-refused
 returns-in_err-cell-clause-refused g c =

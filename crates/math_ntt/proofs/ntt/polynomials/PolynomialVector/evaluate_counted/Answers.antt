@@ -1,6 +1,5 @@
-use Rattle.std.proofs.Common.{rules, ◌≡◌, ◌∙◌, ◌+◌, ◌*◌, ◌/◌, ◌^◌, ◌++◌, ℕ, length, take, drop, refl, ap, subst}
+use Rattle.std.proofs.Common.{arith, ◌≡◌, ◌∙◌, ◌+◌, ◌*◌, ◌/◌, ◌^◌, ◌++◌, length, take, drop, refl, ap, subst}
 use Rattle.math_base.proofs.Members.{ring_members}
-use Rattle.math_ntt.specs.AddedWork.{AddsUpTo}
 use Rattle.math_transforms.specs.DomainValues.{matrix_of, AreValuesOnDomain}
 use Rattle.math_transforms.specs.Matrices.{MatrixOf}
 use Rattle.math_base.proofs.WholeWrites.{take-written}
@@ -9,24 +8,10 @@ use Rattle.math_transforms.proofs.OnDomain.{count-on_domain, values-on_domain}
 use Rattle.math_ntt.proofs.ntt.polynomials.PolynomialVector.evaluate_counted.Goals as goal
 
 pub returns-in_err-evaluate_rows-clause-work : goal.returns-in_err-evaluate_rows-clause-work
-returns-in_err-evaluate_rows-clause-work g c = record {
-  counted = search rules;
-  bounded = λ lg h.
-      subst (λ (n : ℕ). AddsUpTo (n / 2) 0 c.args.work.now c.evaluate_rows.new.work) (count-on_domain _ c.args.self (c.matrix.view_is ∙ c.self.view_is) c.lg_of-lg.result lg c.lg_of-lg.ensures.value h)
-      (adds-half _ _ _ c.in_err-evaluate_rows.ensures.bounded);
-  unbegun = search rules;
-}
+returns-in_err-evaluate_rows-clause-work g c = grind (arith, count-on_domain, adds-half)
 
 pub returns-clause-work : goal.returns-clause-work
-returns-clause-work g c = record {
-  counted = λ lg h.
-      subst (λ (n : ℕ). 2 * c.evaluate_rows.new.work.butterflies ≡ 2 * c.args.work.now.butterflies + n)
-      (count-on_domain _ c.args.self (c.matrix.view_is ∙ c.self.view_is) c.lg_of-lg.result lg c.lg_of-lg.ensures.value h) c.in_ok-evaluate_rows.ensures.counted;
-  bounded = λ lg h.
-      subst (λ (n : ℕ). AddsUpTo (n / 2) 0 c.args.work.now c.evaluate_rows.new.work) (count-on_domain _ c.args.self (c.matrix.view_is ∙ c.self.view_is) c.lg_of-lg.result lg c.lg_of-lg.ensures.value h)
-      (adds-half _ _ _ c.in_ok-evaluate_rows.ensures.bounded);
-  unbegun = λ _. tt;
-}
+returns-clause-work g c = grind (arith, count-on_domain, adds-half)
 
 pub returns-clause-values : goal.returns-clause-values
 returns-clause-values g c =

@@ -1,7 +1,6 @@
 use Rattle.std.proofs.Common.{◌∙◌, ◌%◌, ◌++◌, map, ap, arith}
 use Rattle.std.proofs.lemmas.List.{length-map, take_all}
 use Rattle.math_numbers.specs.Goldilocks.{P}
-use Rattle.math_fields.specs.Elements.{residue}
 use Rattle.math_shards.proofs.RowWords.{number_at, words-more}
 use Rattle.math_shards.proofs.shards.rows.CellRowRow.append_to.Goals as goal
 
@@ -15,8 +14,4 @@ loop-cell-preserved g c =
     (c.from.ensures ∙ ap (λ n. n % P) at) c.loop-cell.invariant c.in_ok-push.ensures.items
 
 pub returns : goal.returns
-returns g c =
-    let number = g.C.Cell.number in
-    let cells = c.args.self.now.cells.now in
-    c.loop-cell.invariant
-    ∙ ap (λ xs. c.args.out.now.items ++ map residue xs) (take_all c.loop-cell.cell-index (map number cells) (omega (arith, length-map cells number, c.loop-cell-test.false)))
+returns g c = grind (arith, take_all, length-map)

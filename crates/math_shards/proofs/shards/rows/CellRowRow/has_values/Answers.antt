@@ -1,11 +1,9 @@
-use Rattle.std.proofs.Common.{◌≡◌, ◌↔◌, ◌∙◌, ℕ, ◌+◌, ◌-◌, ◌%◌, ◌<◌, ◌≤◌, length, drop, map, take, sym, ap, subst, arith}
-use Rattle.std.specs.Bool.{IsTrue}
-use Rattle.std.specs.List.{AllZip}
+use Rattle.std.proofs.Common.{◌≡◌, ◌↔◌, ◌∙◌, ℕ, ◌+◌, ◌-◌, ◌%◌, ◌<◌, ◌≤◌, length, drop, map, sym, ap, arith}
 use Rattle.std.proofs.lemmas.Bool.{eq-eqb, eqb-true}
 use Rattle.std.proofs.lemmas.List.{length-drop, length-map, take_all}
 use Rattle.math_numbers.specs.Goldilocks.{P}
 use Rattle.math_fields.specs.declared.goldilocks.F.{F}
-use Rattle.math_fields.specs.Elements.{residue, same}
+use Rattle.math_fields.specs.Elements.{residue}
 use Rattle.math_shards.proofs.RowWords.{element_at, equal-more, number_in}
 use Rattle.math_shards.proofs.shards.rows.CellRowRow.has_values.Goals as goal
 
@@ -30,9 +28,4 @@ loop-i-preserved g c =
     (λ e. eqb-true v.value w.value (sym c.eq-equal.ensures ∙ e), λ e. c.eq-equal.ensures ∙ eq-eqb v.value w.value e)
 
 pub returns : goal.returns
-returns g c =
-    let values = c.args.values.now in
-    let elements = drop c.args.from (map residue (map g.C.Cell.number c.args.self.now.cells.now)) in
-    let all : c.loop-i.i ≡ length values = omega arith in
-    subst (λ xs. IsTrue c.loop-i.equal ↔ AllZip same xs (take (length values) elements)) (take_all (length values) values (omega arith))
-    (subst (λ n. IsTrue c.loop-i.equal ↔ AllZip same (take n values) (take n elements)) all c.loop-i.invariant)
+returns g c = grind (arith, take_all)
