@@ -1,5 +1,5 @@
 -- From what is recovered of copies of cells, and counted apart, to the cells and to the work of the caller.
-use Rattle.std.proofs.Common.{◌≡◌, ◌∙◌, ℕ, suc, ◌+◌, ◌-◌, ◌*◌, ◌/◌, ◌^◌, ◌<◌, ◌≤◌, List, Bool, length, min, subst, sym, arith}
+use Rattle.std.proofs.Common.{◌≡◌, ◌∙◌, ℕ, suc, ◌+◌, ◌-◌, ◌*◌, ◌/◌, ◌^◌, ◌<◌, ◌≤◌, List, Bool, Option, Some, None, Result, Ok, Err, IfOk, IfSome, IfNone, OnOk, OnErr, length, min, subst, sym, arith}
 use Rattle.std.proofs.lemmas.List.Elements.{AllZip-get_or, length_all_zip}
 use Rattle.std.proofs.lemmas.Nat.{mul-add-lt}
 use Rattle.std.specs.List.{AllZip}
@@ -10,8 +10,9 @@ use Rattle.math_transforms.specs.DomainValues.{matrix_of}
 use Rattle.math_transforms.specs.Matrices.{MatrixOf}
 use Rattle.math_transforms.proofs.DomainSteps.{column-cell}
 use Rattle.math_transforms.proofs.MatrixRows.{length-column}
-use Rattle.math_transforms.proofs.PowersOfTwo.{power_of_two-word}
-use Rattle.math_ntt.specs.AddedWork.{HasRoom}
+use Rattle.math_transforms.proofs.PowersOfTwo.{power_of_two-same, power_of_two-word}
+use Rattle.math_ntt.specs.AddedWork.{AddsUpTo, HasRoom}
+use Rattle.math_ntt.proofs.AddedWork.{within-half}
 use Rattle.math_ntt.specs.RecoveredRows.{AreRecovered, IsExactWork, IsRefusedWork}
 use Rattle.math_ntt.proofs.RecoveryCounts.{whole-bound, whole-room}
 
@@ -89,3 +90,37 @@ adds-more b p m c d u v w l e h k = grind arith
 pub adds-few : (b p m c count : ℕ) (v w : WorkOf) → c ≤ m → m + count ≤ c + c → AddsWithin ((1 + (m - c)) * b) ((1 + (m - c)) * p) v w
     → AddsWithin (((m - count) / 2 + 1) * b) (((m - count) / 2 + 1) * p) v w
 adds-few b p m c count v w l few h = grind arith
+
+-- the bound for any lg of which the number of rows is the power
+pub several-at_any : (rows cols lg t : ℕ) (v w : WorkOf) → rows ≡ 2 ^ lg → AddsWithin (t * (2 ^ lg * lg * (3 * lg + 3 * cols + 2))) (t * (128 * 2 ^ lg)) v w
+    → (m : ℕ) → rows ≡ 2 ^ m → AddsUpTo (t * (rows * m * (3 * m + 3 * cols + 2)) / 2) (t * (128 * rows)) v w
+several-at_any rows cols lg t v w e h m f = rw (← power_of_two-same lg m (sym e ∙ f), e) (within-half _ _ v w h)
+
+-- what holds at the lg of which a number is the power holds at any
+any-lg : (n lg : ℕ) (P : ℕ → Type 0) → n ≡ 2 ^ lg → P lg → (l : ℕ) → n ≡ 2 ^ l → P l
+any-lg n lg P e h l f = subst P (power_of_two-same lg l (sym e ∙ f)) h
+
+module _ {X E : Type 0} where
+  pub some-at_any : (r : Result (Option X) E) (n lg : ℕ) (P : X → ℕ → Type 0) → n ≡ 2 ^ lg → IfOk r (λ o. IfSome o (λ a. P a lg)) → IfOk r (λ o. IfSome o (λ a. (l : ℕ) → n ≡ 2 ^ l → P a l))
+  some-at_any (Ok (Some a)) n lg P e h = any-lg n lg (P a) e h
+  some-at_any (Ok None) n lg P e h = tt
+  some-at_any (Err _) n lg P e h = tt
+
+  pub some_if-at_any : (r : Result (Option X) E) (n lg : ℕ) (C : X → Type 0) (P : ℕ → Type 0) → n ≡ 2 ^ lg → IfOk r (λ o. IfSome o (λ a. C a → P lg))
+      → IfOk r (λ o. IfSome o (λ a. C a → (l : ℕ) → n ≡ 2 ^ l → P l))
+  some_if-at_any (Ok (Some a)) n lg C P e h = λ c. any-lg n lg P e (h c)
+  some_if-at_any (Ok None) n lg C P e h = tt
+  some_if-at_any (Err _) n lg C P e h = tt
+
+  pub none-at_any : (r : Result (Option X) E) (n lg : ℕ) (P : ℕ → Type 0) → n ≡ 2 ^ lg → IfOk r (λ o. IfNone o (P lg)) → IfOk r (λ o. IfNone o ((l : ℕ) → n ≡ 2 ^ l → P l))
+  none-at_any (Ok (Some _)) n lg P e h = tt
+  none-at_any (Ok None) n lg P e h = any-lg n lg P e h
+  none-at_any (Err _) n lg P e h = tt
+
+  pub ok-at_any : (r : Result X E) (n lg : ℕ) (P : ℕ → Type 0) → n ≡ 2 ^ lg → OnOk r (P lg) → OnOk r ((l : ℕ) → n ≡ 2 ^ l → P l)
+  ok-at_any (Ok _) n lg P e h = any-lg n lg P e h
+  ok-at_any (Err _) n lg P e h = tt
+
+  pub err-at_any : (r : Result X E) (n lg : ℕ) (P : ℕ → Type 0) → n ≡ 2 ^ lg → OnErr r (P lg) → OnErr r ((l : ℕ) → n ≡ 2 ^ l → P l)
+  err-at_any (Ok _) n lg P e h = tt
+  err-at_any (Err _) n lg P e h = any-lg n lg P e h
