@@ -1,9 +1,11 @@
 //! Commitments to blocks, which give their rows paths, and rows that lie one behind the other.
 
-ghost use Rattle.std.specs.Prelude.{◌≡◌, ◌*◌, ◌-◌, length, IfOk};
-ghost use Rattle.hash_trees.specs.Trees.{root};
+ghost use Rattle.std.specs.Prelude.{◌≡◌, ◌*◌, ◌-◌, ◌<◌, length, drop, take, IfOk};
+ghost use Rattle.hash_trees.specs.Binding.{leaves};
+ghost use Rattle.hash_trees.specs.Trees.{path, root};
 ghost use Rattle.sha2.specs.Sha512.{sha512_256};
 ghost use Rattle.shard_roots.specs.Commitments.{IsRootOfBlock};
+ghost use Rattle.shard_roots.specs.Records.{shard_records};
 
 use crate::fault::Fault;
 use hash_trees::Digest;
@@ -28,8 +30,13 @@ impl Committed {
         parity: &mut Vec<u8>,
     ) -> Result<Committed, Fault>
         requires { length bytes.now ≡ split.size }
-        ensures { IfOk result (λ c. IsRootOfBlock sha512_256 split bytes.now
+        ensures root { IfOk result (λ c. IsRootOfBlock sha512_256 split bytes.now
             (root sha512_256 c.commitment.tree)) }
+        ensures tree { IfOk result (λ c. c.commitment.tree ≡ leaves sha512_256
+            (shard_records split c.commitment.mask bytes.now parity.new.items)) }
+        ensures count { IfOk result (λ c. length c.commitment.tree ≡ split.total) }
+        ensures room { IfOk result (λ c. length parity.new.items
+            ≡ (split.total - split.min) * (8 * split.width)) }
     {
         let size = (split.total - split.min) as usize * (8 * split.width);
         parity.resize(size, 0)?;
@@ -44,7 +51,10 @@ impl Committed {
     }
 
     /// The path of the shard of this index, or none beyond the last.
-    pub fn path(&self, alloc: Global, index: u32) -> Result<Vec<Digest>, AllocError> {
+    pub fn path(&self, alloc: Global, index: u32) -> Result<Vec<Digest>, AllocError>
+        ensures { index < length self.now.commitment.tree → IfOk result
+            (λ others. others.items ≡ path sha512_256 self.now.commitment.tree index) }
+    {
         if index < self.total {
             return self.commitment.path(alloc, index);
         }
@@ -54,7 +64,9 @@ impl Committed {
 
 /// Row number `place` of rows of so many bytes that lie one behind the other, as far as it is
 /// there.
-pub fn row_in(rows: &[u8], place: usize, width: usize) -> &[u8] {
+pub fn row_in(rows: &[u8], place: usize, width: usize) -> &[u8]
+    ensures { result.now ≡ take width (drop (place * width) rows.now) }
+{
     let from = place.saturating_mul(width).min(rows.len());
     let (_, rest) = rows.split_at(from);
     let (row, _) = rest.split_at(width.min(rest.len()));

@@ -1,1 +1,2 @@
+pub mod RootedRows
 pub mod Shards

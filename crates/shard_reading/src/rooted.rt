@@ -3,9 +3,11 @@
 ghost use Rattle.std.specs.Prelude.{◌≡◌, length, IsTrue, IfOk, IfSome};
 ghost use Rattle.hash_trees.specs.Trees.{root};
 ghost use Rattle.sha2.specs.Sha512.{sha512_256};
+ghost use Rattle.shard_reading.specs.RootedRows.{AreParityLeaves};
 ghost use Rattle.shard_reading.specs.declared.blocks.FoundBlock.{FoundBlock};
 ghost use Rattle.shard_reading.specs.declared.rooted.Joined.TheVariants.{Block};
 ghost use Rattle.shard_roots.specs.Commitments.{IsRootOfBlock};
+ghost use Rattle.shard_roots.specs.Joining.{IsShardUnder};
 
 use crate::blocks::FoundBlock;
 use crate::joining::{FoundRow, block_given, one_mask};
@@ -34,6 +36,9 @@ pub struct CommittedRows {
     split: RowSplit,
     committed: Committed,
     parity: Vec<u8>,
+    ghost count: { length committed.commitment.tree ≡ split.total },
+    ghost leaves: { AreParityLeaves split committed.commitment.mask parity.items
+        committed.commitment.tree },
 }
 
 impl CommittedRows {
@@ -52,12 +57,28 @@ impl CommittedRows {
         })
     }
 
+    /// Whether this is the commitment to a block that is cut in this way and has this root.
+    pub fn is_of(&self, top: &Digest, split: RowSplit) -> bool
+        ensures { IsTrue result → (split.min ≡ self.now.split.min)
+            × (split.total ≡ self.now.split.total) × (split.size ≡ self.now.split.size)
+            × (top.now ≡ root sha512_256 self.now.committed.commitment.tree) }
+    {
+        split.min == self.split.min
+            && split.total == self.split.total
+            && split.size == self.split.size
+            && *top == self.committed.commitment.root()
+    }
+
     /// Whether the shard is one of the parity rows, with its mask and its path. Then it is under the
     /// root, and need not be hashed.
-    pub fn contains(&self, alloc: Global, shard: &Shard<'_>) -> Result<bool, AllocError> {
-        let Some(place) = shard.index.checked_sub(self.split.min) else {
+    pub fn contains(&self, alloc: Global, shard: &Shard<'_>) -> Result<bool, AllocError>
+        ensures { IfOk result (λ is_one. IsTrue is_one → IsShardUnder sha512_256 self.now.split
+            (root sha512_256 self.now.committed.commitment.tree) shard.now) }
+    {
+        if shard.index < self.split.min || self.split.total <= shard.index {
             return Ok(false);
-        };
+        }
+        let place = shard.index - self.split.min;
         let row = row_in(&self.parity, place as usize, 8 * self.split.width);
         if shard.mask != self.committed.commitment.mask || shard.cells != row {
             return Ok(false);

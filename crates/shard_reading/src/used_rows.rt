@@ -3,6 +3,11 @@
 //! A row counts where it fits its fingerprints, or under a root where its path leads up to the root
 //! of its block.
 
+ghost use Rattle.std.specs.Prelude.{◌≡◌, ◌↔◌, IsTrue, IfOk, IfSome, IsSomeAnd};
+ghost use Rattle.sha2.specs.Sha512.{sha512_256};
+ghost use Rattle.shard_reading.specs.RootedRows.{IsRowUnder};
+ghost use Rattle.shard_roots.specs.Joining.{IsShardUnder};
+
 use crate::rooted::CommittedRows;
 use hash_trees::Digest;
 use shard_files::fault::Fault;
@@ -12,6 +17,7 @@ use shard_files::split::{Block, Split};
 use shard_files::tree::majority_of;
 use shard_roots::{Shard, is_shard_under, root_by_shard};
 use std::alloc::{AllocError, Global};
+use systematic_shards::Split as RowSplit;
 
 /// What is wrong with the record of a block.
 const OTHER_FINGERPRINT: &str = "it does not fit its fingerprint";
@@ -58,14 +64,17 @@ impl UsedRows {
     }
 
     /// The row of a block that the file at this place has, where it is used; what is wrong with it
-    /// is noted.
+    /// is noted. Where the root of the block is known, the row is under it.
     pub fn row(
         &mut self,
         rt: &HostRuntime,
         file: &mut ShardFile,
         place: usize,
         block: Block,
-    ) -> Result<Option<Shard<'_>>, Fault> {
+    ) -> Result<Option<Shard<'_>>, Fault>
+        ensures { IfOk result (λ row. IfSome row (λ shard. IfSome self.old.root
+            (λ top. IsRowUnder self.old.records.split.header block.bytes top shard))) }
+    {
         let rows = self.records.split.rows_of(block.bytes)?;
         let row = match self.records.row(rt, file, block, self.paths)? {
             Seen::Row(row) => row,
@@ -75,14 +84,8 @@ impl UsedRows {
             }
             Seen::Nothing => return Ok(None),
         };
-        let is_known = match &self.committed {
-            Some(committed) => committed.contains(rt.alloc(), &row.shard)?,
-            None => false,
-        };
-        let is_under = match &self.root {
-            Some(root) => Some(is_known || is_shard_under(root, rows, &row.shard)),
-            None => None,
-        };
+        let committed = self.committed.as_ref();
+        let is_under = is_under(rt.alloc(), self.root, committed, rows, &row.shard)?;
         if !is_used(file, block.number, row.fits, is_under) {
             return Ok(None);
         }
@@ -105,9 +108,34 @@ impl UsedRows {
     }
 }
 
+/// Whether a row is under the root of its block, where that is known. One of the rows of a
+/// commitment to the block is, and any other is hashed.
+fn is_under(
+    alloc: Global,
+    root: Option<Digest>,
+    committed: Option<&CommittedRows>,
+    split: RowSplit,
+    row: &Shard<'_>,
+) -> Result<Option<bool>, AllocError>
+    ensures { IfOk result (λ answer. IfSome root (λ top. IsSomeAnd answer
+        (λ under. IsTrue under ↔ IsShardUnder sha512_256 split top row.now))) }
+{
+    let Some(top) = root else {
+        return Ok(None);
+    };
+    if let Some(committed) = committed {
+        if committed.is_of(&top, split) && committed.contains(alloc, row)? {
+            return Ok(Some(true));
+        }
+    }
+    Ok(Some(is_shard_under(&top, split, row)))
+}
+
 /// Whether a row is used: where it is under the root of its block, or not, where paths decide; else
 /// where it fits its fingerprints. What is wrong with it is noted at its file.
-fn is_used(file: &mut ShardFile, number: u64, fits: bool, is_under: Option<bool>) -> bool {
+fn is_used(file: &mut ShardFile, number: u64, fits: bool, is_under: Option<bool>) -> bool
+    ensures { IfSome is_under (λ under. result ≡ under) }
+{
     match is_under {
         Some(true) if !fits => file.add_flawed_block(number, OTHER_FINGERPRINT),
         Some(false) => file.add_lost_block(number, NOT_UNDER_ROOT),
