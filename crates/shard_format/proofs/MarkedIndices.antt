@@ -1,7 +1,9 @@
 -- Marks at the indices of shards, which are counted.
-use Rattle.std.proofs.Common.{◌≡◌, ◌∙◌, ◌+◌, ◌<◌, ◌≤◌, ℕ, Bool, false, cond, eqb, ◌||◌, inl, inr, List, [], ◌∷◌, ◌++◌, length, map, get_or, refl, sym, ap, arith}
+use Rattle.std.proofs.Common.{◌≡◌, ◌∙◌, ◌+◌, ◌<◌, ◌≤◌, ℕ, Bool, false, true, cond, eqb, ◌||◌, inl, inr, List, [], ◌∷◌, ◌++◌, length, map, get_or, set, refl, sym, ap, arith}
 use Rattle.std.specs.List.{list_any, range_with_len, count_by}
-use Rattle.std.proofs.lemmas.Bool.{cases_Bool}
+use Rattle.std.proofs.lemmas.Bool.{cases_Bool, cases_eq, eq-eqb, ne_eqb}
+use Rattle.std.proofs.lemmas.Grind.{get_or-set_at}
+use Rattle.std.proofs.lemmas.List.{get_or-set_other}
 use Rattle.std.proofs.lemmas.List.Folds.{list_any-append}
 use Rattle.std.proofs.lemmas.List.FromFn.{fill_by_all}
 use Rattle.std.proofs.lemmas.List.Sums.{sum_by-cons}
@@ -11,6 +13,18 @@ use Rattle.shard_format.specs.Indices.{distinct_among}
 pub record AreMarks (n : ℕ) (indices : List ℕ) (marks : List Bool) : Type 0 where
   pub count : length marks ≡ n
   pub places : (i : ℕ) → i < n → get_or marks i false ≡ list_any (λ j. eqb j i) indices
+
+-- a mark that is set is the one at its place
+pub mark_set : (marks : List Bool) (place i : ℕ) → place < length marks → get_or (set marks place true) i false ≡ (eqb place i || get_or marks i false)
+mark_set marks place i l =
+    elim (cases_eq i place) as (λ _. get_or (set marks place true) i false ≡ (eqb place i || get_or marks i false)) [
+      | inl e ↦ get_or-set_at marks place i true false e l ∙ ap (λ b. b || get_or marks i false) (sym (eq-eqb place i (sym e)))
+      | inr ne ↦ get_or-set_other marks place i true false ne ∙ ap (λ b. b || get_or marks i false) (sym (ne_eqb place i (λ e. ne (sym e))))
+    ]
+
+-- beyond them none is
+pub mark_past : (marks : List Bool) (place i : ℕ) → length marks ≤ place → i < length marks → get_or marks i false ≡ (eqb place i || get_or marks i false)
+mark_past marks place i past l = ap (λ b. b || get_or marks i false) (sym (ne_eqb place i (λ e. omega (arith, e, past, l))))
 
 any-push : (p : ℕ → Bool) (xs : List ℕ) (x : ℕ) → list_any p (xs ++ x ∷ []) ≡ (p x || list_any p xs)
 any-push p xs x =
