@@ -1,6 +1,6 @@
 //! Commitments to blocks, which give their rows paths, and rows that lie one behind the other.
 
-ghost use Rattle.std.specs.Prelude.{◌≡◌, ◌*◌, ◌-◌, ◌<◌, length, drop, take, IfOk};
+ghost use Rattle.std.specs.Prelude.{◌≡◌, ◌*◌, ◌-◌, ◌<◌, ◌≤◌, [], length, drop, take, IfOk};
 ghost use Rattle.hash_trees.specs.Binding.{leaves};
 ghost use Rattle.hash_trees.specs.Trees.{path, root};
 ghost use Rattle.sha2.specs.Sha512.{sha512_256};
@@ -52,8 +52,10 @@ impl Committed {
 
     /// The path of the shard of this index, or none beyond the last.
     pub fn path(&self, alloc: Global, index: u32) -> Result<Vec<Digest>, AllocError>
-        ensures { index < length self.now.commitment.tree → IfOk result
+        ensures path { index < length self.now.commitment.tree → IfOk result
             (λ others. others.items ≡ path sha512_256 self.now.commitment.tree index) }
+        ensures none { length self.now.commitment.tree ≤ index → IfOk result
+            (λ others. others.items ≡ []) }
     {
         if index < self.total {
             return self.commitment.path(alloc, index);

@@ -11,5 +11,5 @@ returns c = λ is_one.
     let row = same_bytes shard.cells.now c.row_in-row.result.now c.if-ne.ensures ∙ c.row_in-row.ensures
     ∙ ap (λ parity. take (8 * split.width) (drop ((shard.index - split.min) * (8 * split.width)) parity)) c.deref.ensures.value in
     let path = sym (same_digests c.as_slice.result.now shard.path.now c.eq.result c.eq.ensures is_one) ∙ c.as_slice.ensures.value
-    ∙ c.in_ok-path.ensures (omega (arith, rows.count)) in
+    ∙ c.in_ok-path.ensures.path (omega (arith, rows.count)) in
     shard_under split rows.committed.commitment.mask rows.parity.items tree shard rows.count rows.leaves c.if-shard-self.false c.if-self-shard.false c.if-shard-self-2.false row path
