@@ -59,7 +59,7 @@ fn values(alloc: Global, pairs: Vec<(u32, F)>) -> Mem<Vec<F>>
 }
 
 /// The indices once more.
-fn copied(alloc: Global, indices: &[u32]) -> Mem<Vec<u32>>
+fn copy_of(alloc: Global, indices: &[u32]) -> Mem<Vec<u32>>
     ensures { IfOk result (λ v. v.items ≡ indices.now) }
 {
     let mut out = Vec::new(alloc);
@@ -120,7 +120,7 @@ fn weights_in_domain(alloc: Global, total: NonZeroU32, indices: &[u32], x: u64) 
     ensures { IfOk result
         (λ v. AreWordWeightsAtRoots x total.value indices.now (numbers v.items)) }
 {
-    let found = lagrange_coefficients_at(alloc, total, copied(alloc, indices)?, &F::from(x))?;
+    let found = lagrange_coefficients_at(alloc, total, copy_of(alloc, indices)?, &F::from(x))?;
     let weights = values(alloc, found)?;
     Ok(weights)
 }

@@ -14,7 +14,7 @@ use decoding::line_through;
 use math_decoding::points::are_distinct;
 use math_samples::quotients::Quotient;
 use math_samples::sources::Listed;
-use recovery::recovered;
+use recovery::keep_and_recover;
 use secrets::dealt_and_combined;
 use shards::split_and_joined;
 use std::io;
@@ -38,7 +38,7 @@ fn show_recovery(rt: &HostRuntime) -> io::Result<()> {
     let mut kept = VanishingPoints::new(rt.alloc(), 2)?;
     kept.set_non_vanishing(1);
     kept.set_non_vanishing(2);
-    let answer = recovered(rt.alloc(), polynomials, kept)?;
+    let answer = keep_and_recover(rt.alloc(), polynomials, kept)?;
     println!(rt; "recovery: {:?}", answer.data().into_cells())
 }
 

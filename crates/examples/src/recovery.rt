@@ -15,7 +15,7 @@ use std::alloc::Global;
 ///
 /// Where each polynomial has at most as many coefficients as rows are kept, zeros at the end aside,
 /// it gives the polynomials back.
-pub fn recovered<F: FieldNTT>(
+pub fn keep_and_recover<F: FieldNTT>(
     alloc: Global,
     polynomials: PolynomialVector<F>,
     kept: VanishingPoints,

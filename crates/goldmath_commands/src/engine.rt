@@ -20,7 +20,7 @@ ghost use Rattle.goldmath_commands.specs.Commands.{AreNoRecoverWords, AreWrongWo
 ghost use Rattle.math_codec.specs.declared.codec.error.Error.TheVariants.{Memory};
 ghost use Rattle.goldmath_commands.specs.declared.engine.ToolError.TheVariants.{Refused};
 
-use crate::recovery::{recovered, recovery_in};
+use crate::recovery::{recover_matrix, recovery_in};
 use crate::text::{decimal_line, point_of};
 use commonware_math::codec::{self, LengthRange, Mem, decode};
 use commonware_math::fields::goldilocks::F;
@@ -65,7 +65,7 @@ fn eval_point(words: &[String]) -> Option<u64>
 }
 
 /// The polynomial that the bytes encode.
-fn decoded(alloc: Global, bytes: &[u8]) -> Result<Poly<F>, codec::Error>
+fn decode_polynomial(alloc: Global, bytes: &[u8]) -> Result<Poly<F>, codec::Error>
     ensures taken { IfOk result (IsEncodedPolynomial bytes.now) }
     ensures encoded { (p : List F) → IsEncodedPolynomial bytes.now p
         → MatchResult result (λ q. AllZip same q p) IsMemory }
@@ -80,11 +80,11 @@ fn value_line(alloc: Global, polynomial: &Poly<F>, point: u64) -> Mem<Vec<u8>>
     ensures { IfOk result (λ line. line.items ≡ eval_line polynomial.now point) }
 {
     let value = polynomial.eval(alloc, &F::from(point))?;
-    decimal_line(alloc, u64::from_le_bytes(value.to_le_bytes()))
+    decimal_line(alloc, value.number())
 }
 
 /// The value at `point` of the polynomial that the bytes encode, in decimal, and a line end.
-fn evaluated(alloc: Global, point: u64, bytes: &[u8]) -> Result<Vec<u8>, codec::Error>
+fn evaluate_polynomial(alloc: Global, point: u64, bytes: &[u8]) -> Result<Vec<u8>, codec::Error>
     ensures answer { IfOk result (λ line.
         (p : List F) × IsEncodedPolynomial bytes.now p × (line.items ≡ eval_line p point)) }
     ensures encoded { (p : List F) → IsEncodedPolynomial bytes.now p
@@ -92,7 +92,7 @@ fn evaluated(alloc: Global, point: u64, bytes: &[u8]) -> Result<Vec<u8>, codec::
     ensures exact { Agrees (λ _. tt) result (scan_polynomial bytes.now) }
     ensures memory { OnMemory result (PolynomialGrows bytes.now) }
 {
-    let polynomial = decoded(alloc, bytes)?;
+    let polynomial = decode_polynomial(alloc, bytes)?;
     Ok(value_line(alloc, &polynomial, point)?)
 }
 
@@ -102,7 +102,7 @@ fn run_recover(alloc: Global, words: &[String], bytes: &[u8]) -> Result<Vec<u8>,
     ensures recover { AnswersRecover (map string_bytes words.now) bytes.now result }
 {
     match recovery_in(alloc, words)? {
-        Some(recovery) => Ok(recovered(alloc, &recovery, bytes)?),
+        Some(recovery) => Ok(recover_matrix(alloc, &recovery, bytes)?),
         None => Err(ToolError::Usage),
     }
 }
@@ -131,7 +131,7 @@ pub fn run(alloc: Global, words: &[String], bytes: &[u8]) -> Result<Vec<u8>, Too
     ensures recover { AnswersRecover (map string_bytes words.now) bytes.now result }
 {
     match eval_point(words) {
-        Some(point) => Ok(evaluated(alloc, point, bytes)?),
+        Some(point) => Ok(evaluate_polynomial(alloc, point, bytes)?),
         None => run_recover(alloc, words, bytes),
     }
 }

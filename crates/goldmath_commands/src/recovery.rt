@@ -137,7 +137,7 @@ fn check_size(recovery: &Recovery, matrix: &Matrix<F>) -> Result<(), codec::Erro
 
 /// A vector of 2^lg rows of zeros, in which each row of the matrix is put in the place that its
 /// word names.
-fn placed(alloc: Global, recovery: &Recovery, matrix: &Matrix<F>) -> Mem<EvaluationVector<F>>
+fn place_rows(alloc: Global, recovery: &Recovery, matrix: &Matrix<F>) -> Mem<EvaluationVector<F>>
     requires { HasSize recovery.now.lg (length recovery.now.rows.items) matrix.now }
     ensures { IfOk result (HoldsRows recovery.now.lg recovery.now.rows.items matrix.now
         (length recovery.now.rows.items)) }
@@ -149,7 +149,7 @@ fn placed(alloc: Global, recovery: &Recovery, matrix: &Matrix<F>) -> Mem<Evaluat
     Ok(values)
 }
 
-/// What `recovered` answers.
+/// What `recover_matrix` answers.
 #[tactic(auto, unfolding(crate::specs::Recoveries::scan_rows))]
 fn recovered_exactly(
     alloc: Global,
@@ -163,7 +163,7 @@ fn recovered_exactly(
 {
     let matrix: Matrix<F> = decode(alloc, bytes, &(MOST_CELLS as u32, ()))?;
     check_size(recovery, &matrix)?;
-    let polynomials = placed(alloc, recovery, &matrix)?.recover(alloc)?.data();
+    let polynomials = place_rows(alloc, recovery, &matrix)?.recover(alloc)?.data();
     let mut out = Vec::new(alloc);
     polynomials.write(alloc, &mut out)?;
     Ok(out)
@@ -175,7 +175,11 @@ fn recovered_exactly(
 /// Where the bytes are no encoded matrix, it refuses with the first fault of the bytes; then with
 /// `Invalid` where the number of rows is not that of the words, and where 2^lg rows of these
 /// columns would be more than 2^24 cells.
-pub fn recovered(alloc: Global, recovery: &Recovery, bytes: &[u8]) -> Result<Vec<u8>, codec::Error>
+pub fn recover_matrix(
+    alloc: Global,
+    recovery: &Recovery,
+    bytes: &[u8],
+) -> Result<Vec<u8>, codec::Error>
     ensures answer { IfOk result (λ out. (m : MatrixOf F) × IsEncodedMatrix bytes.now m
         × EncodesRecovered recovery.now.lg recovery.now.rows.items m out.items) }
     ensures encoded { (m : MatrixOf F) → IsEncodedMatrix bytes.now m

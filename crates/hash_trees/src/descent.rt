@@ -88,7 +88,7 @@ impl Model for Descent {
 
 /// The node over so many leaves at this place of this level, at the level where it has two
 /// children, or is a leaf.
-fn lowered(level: usize, place: usize, leaves: usize, digest: Digest) -> Node
+fn lower(level: usize, place: usize, leaves: usize, digest: Digest) -> Node
     requires level { level ≤ 64 }
     requires place { place * 2 ^ level < 2 ^ 64 }
     ensures { result ≡ lowered leaves level place digest }
@@ -139,7 +139,7 @@ fn right_child(node: Node, digest: Digest) -> Node
     ensures { result ≡ right_child node digest }
 {
     let half = 1 << (node.level - 1);
-    lowered(
+    lower(
         node.level - 1,
         2 * node.place + 1,
         node.leaves - half,
@@ -162,7 +162,7 @@ impl Descent {
         ensures pair { IfOk result (λ descent. pair_place descent ≡ 0) }
     {
         let mut waiting = Vec::new(alloc);
-        waiting.push(lowered(64, 0, count, top))?;
+        waiting.push(lower(64, 0, count, top))?;
         Ok(Descent {
             count,
             top,

@@ -15,7 +15,7 @@ use math_base::algebra::{Additive, Mem, Multiplicative, Object, Ring};
 use std::alloc::Global;
 
 /// Copies of the coefficients, and after them as many zeros as make their number at least `count`.
-pub(super) fn padded<F: Ring>(alloc: Global, p: &[F], count: usize) -> Mem<Vec<F>>
+pub(super) fn padded_copy<F: Ring>(alloc: Global, p: &[F], count: usize) -> Mem<Vec<F>>
     ensures length { IfOk result (λ out. length out.items ≡ max (length p.now) count) }
     ensures same { IfOk result (λ out. AreSame F.Ring out.items p.now) }
 {
@@ -47,7 +47,7 @@ pub(super) fn count_before_zeros<F: Ring>(alloc: Global, p: &[F]) -> Mem<usize>
 }
 
 /// The coefficients without the zeros at the end.
-pub(super) fn trimmed<F: Ring>(alloc: Global, p: Vec<F>) -> Mem<Vec<F>>
+pub(super) fn trim<F: Ring>(alloc: Global, p: Vec<F>) -> Mem<Vec<F>>
     ensures length { IfOk result (λ out. length out.items ≤ length p.items) }
     ensures same { IfOk result (λ out. AreSame F.Ring out.items p.items) }
     ensures trimmed { IfOk result (λ out. IsTrimmed F.Ring out.items) }

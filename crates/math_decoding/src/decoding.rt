@@ -18,7 +18,7 @@ ghost use Rattle.math_theory.specs.Interpolation.{AreApart};
 ghost use Rattle.math_decoding.specs.Decodings.{AreWrongPlaces, IsDecoded, IsWithinRadius};
 ghost use Rattle.math_decoding.specs.Polynomials.{coefficient, product, AreSame, IsZero};
 
-use super::coefficients::{count_before_zeros, padded, value_at};
+use super::coefficients::{count_before_zeros, padded_copy, value_at};
 use super::division::divide;
 use super::euclid::first_short_remainder;
 use math_base::algebra::{Field, Mem, Object, Ring};
@@ -98,7 +98,7 @@ fn with_count<F: Ring>(alloc: Global, p: &[F], count: usize) -> Mem<Option<Vec<F
     if count_before_zeros(alloc, p)? > count {
         return Ok(None);
     }
-    let mut out = padded(alloc, p, count)?;
+    let mut out = padded_copy(alloc, p, count)?;
     out.truncate(count);
     Ok(Some(out))
 }

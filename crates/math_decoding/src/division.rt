@@ -8,7 +8,7 @@ ghost use Rattle.std.specs.Prelude.{◌≡◌, ◌-◌, ◌<◌, ◌≤◌, ℕ,
 ghost use Rattle.math_decoding.specs.Divisions.{IsDivided, IsDividedDownTo};
 ghost use Rattle.math_decoding.specs.Polynomials.{coefficient, HasExactDegree, IsZero};
 
-use super::coefficients::{count_before_zeros, padded, subtract_multiple};
+use super::coefficients::{count_before_zeros, padded_copy, subtract_multiple};
 use math_base::algebra::{Field, Mem, Multiplicative, Ring};
 use std::alloc::Global;
 
@@ -38,7 +38,7 @@ pub fn divide<F: Field>(alloc: Global, p: &[F], d: &[F]) -> Mem<(Vec<F>, Vec<F>)
     let count = count_before_zeros(alloc, d)?;
     let n = count - 1;
     let inverse = d[n].inv(alloc)?;
-    let mut left = padded(alloc, p, n)?;
+    let mut left = padded_copy(alloc, p, n)?;
     let quotient = divide_down(alloc, &mut left, d, n, &inverse)?;
     Ok((quotient, left))
 }

@@ -6,7 +6,7 @@ ghost use Rattle.math_decoding.specs.Polynomials.{difference, product, AreSame, 
 ghost use Rattle.math_decoding.specs.Remainders.{AreInTurn};
 ghost use Rattle.math_decoding.specs.Decodings.{IsKept};
 
-use super::coefficients::{padded, subtract_multiple, trimmed};
+use super::coefficients::{padded_copy, subtract_multiple, trim};
 use super::division::divide;
 use super::interpolation::interpolate_with_product;
 use math_base::algebra::{Additive, Field, Mem, Ring};
@@ -49,7 +49,7 @@ pub(super) fn first_short_remainder<F: Field>(
         factor: Vec::new(alloc),
     };
     let mut last = Remainder {
-        coefficients: trimmed(alloc, through)?,
+        coefficients: trim(alloc, through)?,
         factor: one,
     };
     while is_long(last.coefficients.len(), points.len(), count) {
@@ -86,7 +86,7 @@ fn next_remainder<F: Field>(
 {
     let (quotient, remainder) = divide(alloc, &before.coefficients, &last.coefficients)?;
     let factor = less_product(alloc, &before.factor, &quotient, &last.factor)?;
-    let coefficients = trimmed(alloc, remainder)?;
+    let coefficients = trim(alloc, remainder)?;
     Ok(Remainder {
         coefficients,
         factor,
@@ -101,7 +101,7 @@ fn less_product<F: Ring>(alloc: Global, p: &[F], q: &[F], d: &[F]) -> Mem<Vec<F>
     ensures ok { IfOk result (λ out. AreSame F.Ring out.items
         (difference F.Ring p.now (product F.Ring q.now d.now))) }
 {
-    let mut out = padded(alloc, p, d.len() - 1)?;
+    let mut out = padded_copy(alloc, p, d.len() - 1)?;
     for j in 0..q.len() {
         out.push(F::zero(alloc)?)?;
         subtract_multiple(alloc, &mut out, j, d, &q[j])?;

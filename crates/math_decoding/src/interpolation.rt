@@ -5,7 +5,7 @@ ghost use Rattle.math_theory.specs.Interpolation.{AreApart};
 ghost use Rattle.math_base.specs.Polynomials.{value_in_ring};
 ghost use Rattle.math_decoding.specs.Polynomials.{difference, moved_up, multiple, AreSame, HasExactDegree};
 
-use super::coefficients::{padded, subtract_multiple, value_at};
+use super::coefficients::{padded_copy, subtract_multiple, value_at};
 use math_base::algebra::{Additive, Field, Mem, Multiplicative, Ring};
 use std::alloc::Global;
 
@@ -53,7 +53,7 @@ fn times_difference<F: Ring>(alloc: Global, p: Vec<F>, x: &F) -> Mem<Vec<F>>
 {
     let mut out = Vec::new(alloc);
     out.push(F::zero(alloc)?)?;
-    let mut copy = padded(alloc, &p, 0)?;
+    let mut copy = padded_copy(alloc, &p, 0)?;
     out.append(&mut copy)?;
     subtract_multiple(alloc, &mut out, 0, &p, x)?;
     Ok(out)

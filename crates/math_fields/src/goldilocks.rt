@@ -4,8 +4,7 @@
 //! An element fits a word, and reduction is cheap: modulo P, 2^64 is 2^32 - 1 and 2^96 is -1. None
 //! of the operations takes memory.
 //!
-//! `MODULUS` is P, also for code that compares words with it. The number of an element as a word is
-//! `u64::from_le_bytes(a.to_le_bytes())`.
+//! `MODULUS` is P, also for code that compares words with it.
 
 ghost use Rattle.std.specs.Prelude.{◌≡◌, ◌≢◌, ◌<◌, ◌≤◌, ◌+◌, ◌-◌, ◌*◌, ◌^◌, ◌%◌, ◌↔◌, true, refl, Some, None, IsSome, IfOk, IfErr, IfSome};
 ghost use Rattle.std.specs.Int.{to_be_bytes, to_le_bytes, w64};
@@ -253,6 +252,17 @@ impl F {
         ensures { number result ≡ greatest_root }
     {
         F::ROOT_OF_UNITY
+    }
+
+    /// Returns the number, which is below P.
+    ///
+    /// ```
+    /// F::from(MODULUS + 5).number(); // 5
+    /// ```
+    pub fn number(self) -> u64
+        ensures { result ≡ number self }
+    {
+        self.value
     }
 
     /// Returns the number as eight bytes, lowest first.

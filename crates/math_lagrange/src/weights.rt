@@ -43,13 +43,13 @@ ghost use Rattle.math_transforms.specs.RootWeights.{
 mod indices;
 mod points;
 
-use indices::{keyed, lg_of_domain, present_points};
+use indices::{lg_of_domain, present_points, with_indices};
 use math_base::algebra::{FieldNTT, Mem};
 use math_base::weights::{first_place, one_at, quotients};
 use math_transforms::columns::{EvaluationColumn, value_at};
 use math_transforms::vanishing_points::VanishingPoints;
 pub use points::domain_points;
-use points::{differences, gathered, power_minus_one, products, scaled, size};
+use points::{copies_at, differences, power_minus_one, products, scale_each, size};
 use std::alloc::Global;
 use std::num::NonZeroU32;
 
@@ -115,7 +115,7 @@ where
     let points = present_points(alloc, lg, total.get(), indices)?;
     let places = points.non_vanishing_indices(alloc)?;
     let weights = weights_at(alloc, lg, points, &places, x)?;
-    let out = keyed(alloc, places, weights)?;
+    let out = with_indices(alloc, places, weights)?;
     Ok(out)
 }
 
@@ -143,7 +143,7 @@ fn weights_at<F: FieldNTT>(
         return Ok(out);
     }
     let domain = domain_points(alloc, lg)?;
-    let points = gathered(alloc, &domain, places)?;
+    let points = copies_at(alloc, &domain, places)?;
     if let Some(k) = first_place(alloc, &points, x)? {
         let out = one_at(alloc, k, points.len())?;
         return Ok(out);
@@ -178,8 +178,8 @@ fn weights_at_zero<F: FieldNTT>(
     let mut divisor = size::<F>(alloc, lg)?;
     divisor.mul_assign(alloc, &at_zero)?;
     let factor = divisor.inv(alloc)?;
-    let values = gathered(alloc, column.values(), places)?;
-    let out = scaled(alloc, values, &factor)?;
+    let values = copies_at(alloc, column.values(), places)?;
+    let out = scale_each(alloc, values, &factor)?;
     Ok(out)
 }
 
@@ -204,7 +204,7 @@ fn weights_outside<F: FieldNTT>(
         (λ w. AreWeightsAt F.Ring x.now (powers_at F.Ring (F.root lg) places.now) w.items) }
 {
     let (_, column) = EvaluationColumn::vanishing(alloc, present)?;
-    let values = gathered(alloc, column.values(), places)?;
+    let values = copies_at(alloc, column.values(), places)?;
     let mut factor = value_at(alloc, column, x)?;
     let size = size(alloc, lg)?;
     factor.mul_assign(alloc, &size)?;
@@ -245,8 +245,8 @@ fn weights_at_missing<F: FieldNTT>(
     let mut divisor = x.clone(alloc)?;
     divisor.mul_assign(alloc, &values[m])?;
     let factor = divisor.neg(alloc)?.inv(alloc)?;
-    let values = gathered(alloc, values, places)?;
+    let values = copies_at(alloc, values, places)?;
     let multiples = products(alloc, values, points)?;
-    let out = scaled(alloc, multiples, &factor)?;
+    let out = scale_each(alloc, multiples, &factor)?;
     Ok(out)
 }

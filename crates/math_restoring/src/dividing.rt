@@ -46,8 +46,8 @@ ghost use Rattle.math_restoring.specs.Restored.{item};
 use math_base::algebra::{Field, FieldNTT, Mem};
 use math_base::weights::quotients;
 use math_fields::goldilocks::F;
-use math_transforms::below::{Points, evaluate_below, interpolate_below};
 use math_transforms::cells::copies;
+use math_transforms::points_below::{Points, evaluate_below, interpolate_below};
 use math_transforms::row_products::multiply_rows;
 use math_transforms::transform::{evaluation_table, interpolation_table, size_inverse, size_of};
 use math_transforms::trees::{inverse_tree, root_tree};
@@ -81,7 +81,7 @@ pub(crate) struct CosetDivision {
 }
 
 /// Power 2^n of an element.
-fn squared(x: F, n: u8) -> F
+fn square_times(x: F, n: u8) -> F
     ensures { same result (power (residue 1) product x (2 ^ n)) }
 {
     let mut out = x;
@@ -210,7 +210,7 @@ fn write_factors(alloc: Global, cells: &mut [F], lg: u8, part: u8, step: F, root
     if part == lg {
         multiply_rows(alloc, cells, size_of(lg), &[factor])?;
     } else {
-        let power = squared(step, lg - 1 - part);
+        let power = square_times(step, lg - 1 - part);
         let factors = both_factors(factor, power);
         multiply_rows(alloc, cells, size_of(lg - 1), &[factors.0, factors.1])?;
     }
@@ -282,7 +282,7 @@ pub(crate) fn coset_division(
         &mut Work::new(),
     )?;
     let shift = F::coset_shift(alloc)?;
-    let step = squared(shift, part);
+    let step = square_times(shift, part);
     let coset = root_tree(alloc, &shift, part)?;
     let home = Field::inv(&shift, alloc)?;
     let coset_inverses = inverse_tree(alloc, &home, part)?;

@@ -20,7 +20,7 @@ ghost use Rattle.math_restoring.specs.Restored.{AreTaken, HaveCellsAsValues, ite
 use crate::dividing::{CosetDivision, coset_division, divide};
 use math_base::algebra::Mem;
 use math_fields::goldilocks::F;
-use math_transforms::transform::order::reversed;
+use math_transforms::transform::order::reverse_bits;
 use math_transforms::transform::size_of;
 use math_transforms::vanishing_points::VanishingPoints;
 use math_values::strips::{most_cols, strip_room};
@@ -52,7 +52,7 @@ fn places_of(alloc: Global, indices: &[u32], lg: u8) -> Mem<Vec<usize>>
 {
     let mut places = Vec::with_capacity(alloc, indices.len())?;
     for t in 0..indices.len() {
-        places.push(reversed(indices[t] as usize, lg))?;
+        places.push(reverse_bits(indices[t] as usize, lg))?;
     }
     Ok(places)
 }

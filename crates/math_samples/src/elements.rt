@@ -15,14 +15,14 @@ pub trait Element: FieldNTT {
     fn parts(&self) -> (u64, u64);
 }
 
-/// The number of an element is that of its bytes, and is divided by one.
+/// The number of an element is divided by one.
 impl Element for F {
     fn from_number(_alloc: Global, n: u64) -> Mem<F> {
         Ok(F::from(n))
     }
 
     fn parts(&self) -> (u64, u64) {
-        (u64::from_le_bytes(self.to_le_bytes()), 1)
+        (self.number(), 1)
     }
 }
 

@@ -10,7 +10,7 @@ use Rattle.math_transforms.specs.CombinedCells.{AreCombined}
 use Rattle.math_transforms.specs.Quarters.{AreTurned}
 use Rattle.math_transforms.specs.RootTrees.{AreMultiplesBelow, ArePoints, AreValuesBelow, IsRootTree, entry}
 use Rattle.math_transforms.specs.StepsBelow.{AreStepped, AreSteppedBelow, AreTransformed, AreTransformedBelow}
-use Rattle.math_transforms.specs.declared.below.Points.{Points}
+use Rattle.math_transforms.specs.declared.points_below.Points.{Points}
 use Rattle.math_transforms.proofs.BelowClasses.{multiples-level-same, multiples-quarters-same, row-multiples-same, row-values-same, values-level-same, values-quarters-same}
 use Rattle.math_transforms.proofs.BelowSteps.{either_turn-square, one_level}
 use Rattle.math_transforms.proofs.ListParts.{ArePartsDone, four-parts, part, part-item, part-length, two-parts}

@@ -15,7 +15,7 @@ use Rattle.math_theory.proofs.rings.PowerLaws.{power-add, power-of_one, power-on
 use Rattle.math_theory.proofs.transforms.BitOrder.{bit_reversed-suc}
 use Rattle.math_base.specs.Members.{RingOf}
 use Rattle.math_transforms.specs.RootTrees.{ArePoints, IsTreeOf, IsRootTree, entry}
-use Rattle.math_transforms.specs.declared.below.Points.{Points}
+use Rattle.math_transforms.specs.declared.points_below.Points.{Points}
 use Rattle.math_transforms.specs.TreeLevels.{AddsLevel, AreLevelsScaled}
 use Rattle.math_transforms.proofs.PowersOfTwo.{power_of_two-double, power_of_two-rises}
 use Rattle.math_transforms.proofs.ReversedBits.{reversed-high, reversed-none}

@@ -2,7 +2,7 @@
 use Rattle.std.specs.Prelude.{ℕ, ◌+◌, ◌*◌, ◌<◌, Bool, List, slice_index_or}
 use Rattle.math_base.specs.Members.{RingOf}
 use Rattle.math_base.specs.Columns.{IsTurned}
-use Rattle.math_transforms.specs.declared.below.quarters.Products.{Products}
+use Rattle.math_transforms.specs.declared.points_below.quarters.Products.{Products}
 
 module _ {A : Type 0} (R : RingOf A) where
   -- the cell at place p

@@ -4,7 +4,7 @@ use Rattle.math_theory.specs.BitReversal.{bit_reversed}
 use Rattle.math_theory.specs.Powers.{power}
 use Rattle.math_base.specs.Members.{RingOf}
 use Rattle.math_base.specs.Polynomials.{value_in_ring}
-use Rattle.math_transforms.specs.declared.below.Points.{Points}
+use Rattle.math_transforms.specs.declared.points_below.Points.{Points}
 use Rattle.math_transforms.specs.DomainValues.{matrix_of}
 use Rattle.math_transforms.specs.Matrices.{column_of}
 

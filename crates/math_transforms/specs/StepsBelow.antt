@@ -4,7 +4,7 @@ use Rattle.math_base.specs.Members.{RingOf}
 use Rattle.math_transforms.specs.CombinedCells.{AreCombined}
 use Rattle.math_transforms.specs.Quarters.{AreTurned}
 use Rattle.math_transforms.specs.RootTrees.{AreMultiplesBelow, AreValuesBelow, entry}
-use Rattle.math_transforms.specs.declared.below.Points.{Points}
+use Rattle.math_transforms.specs.declared.points_below.Points.{Points}
 
 module _ {A : Type 0} (R : RingOf A) where
   -- A step of one level combines two rows of s cells by the entry at the place, and one of two levels turns four rows by it and the two

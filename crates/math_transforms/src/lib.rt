@@ -6,9 +6,9 @@
 //! of these need.
 #![tactic(auto)]
 
-pub mod below;
 pub mod cells;
 pub mod columns;
+pub mod points_below;
 pub mod row_products;
 pub mod transform;
 pub mod trees;

@@ -40,7 +40,7 @@ pub(crate) mod butterflies;
 pub mod coset;
 pub mod order;
 
-use super::below::{Points, evaluate_below, evaluate_few_below, interpolate_below};
+use super::points_below::{Points, evaluate_below, evaluate_few_below, interpolate_below};
 use super::row_products::multiply_row;
 use super::trees::domain_tree;
 use super::work::Work;
@@ -120,8 +120,8 @@ pub fn evaluate_rows<F: FieldNTT>(
 }
 
 /// As `evaluate_rows`, but the rows of values are left in the order of the tree: that of power j
-/// is row `reversed(j, lg)`. A caller that reads each row once, by `reversed_row`, does without the
-/// pass that puts them in order.
+/// is row `reverse_bits(j, lg)`. A caller that reads each row once, by `reversed_row`, does without
+/// the pass that puts them in order.
 pub fn evaluate_rows_reversed<F: FieldNTT>(
     alloc: Global,
     cells: &mut [F],

@@ -264,7 +264,7 @@ fn count_before_zeros<F: Ring>(alloc: Global, coefficients: &[F]) -> Mem<usize>
 }
 
 /// The polynomial without the zeros at the end of its coefficients.
-fn trimmed<F: Ring>(alloc: Global, coefficients: Vec<F>) -> Mem<Vec<F>>
+fn trim<F: Ring>(alloc: Global, coefficients: Vec<F>) -> Mem<Vec<F>>
     ensures length { IfOk result (λ p. vec_len p ≤ vec_len coefficients) }
     ensures last { IfOk result (λ p. 0 < vec_len p
         → ¬ (F.same (slice_index_or p.items (vec_len p - 1) F.zero) F.zero)) }
@@ -308,7 +308,7 @@ fn multiply_values<F: FieldNTT>(
 /// The product of two polynomials that have together at most as many coefficients as the domain has
 /// points. It is computed by its values on the smallest such domain, and has no zeros at its end,
 /// so that the products made with it are on the smallest domains too.
-fn multiplied<F: FieldNTT>(
+fn multiply<F: FieldNTT>(
     alloc: Global,
     left: Vec<F>,
     right: Vec<F>,
@@ -333,14 +333,14 @@ fn multiplied<F: FieldNTT>(
             interpolation,
             lg: lg - 1,
         };
-        let product = multiplied(alloc, left, right, &lower, work)?;
+        let product = multiply(alloc, left, right, &lower, work)?;
         return Ok(product);
     }
     let n = size_of(lg);
     let mut product = filled_up(alloc, left, n)?;
     let mut other = filled_up(alloc, right, n)?;
     multiply_values(alloc, &mut product, &mut other, trees, work)?;
-    let out = trimmed(alloc, product)?;
+    let out = trim(alloc, product)?;
     Ok(out)
 }
 
@@ -364,7 +364,7 @@ fn with_roots_moved<F: FieldNTT>(alloc: Global, coefficients: Vec<F>, lg: u8) ->
 /// With n = 2^(lg - 1) the power n of w is -1, so that X^n - 1 becomes -(X^n + 1) at X / w. The
 /// product of two such polynomials has n coefficients less than their number of points, but where
 /// all points are missing.
-fn merged<F: FieldNTT>(
+fn merge<F: FieldNTT>(
     alloc: Global,
     left: Piece<F>,
     right: Piece<F>,
@@ -424,7 +424,7 @@ fn merged<F: FieldNTT>(
                     Ok(Piece::Somewhere(all))
                 }
                 Piece::Somewhere(p) => {
-                    let all = multiplied(alloc, p, moved, trees, work)?;
+                    let all = multiply(alloc, p, moved, trees, work)?;
                     Ok(Piece::Somewhere(all))
                 }
             }
@@ -493,7 +493,7 @@ fn tree<F: FieldNTT>(
         stride,
     };
     let right = tree(alloc, &odd, base, &lower, work)?;
-    let all = merged(alloc, left, right, trees, work)?;
+    let all = merge(alloc, left, right, trees, work)?;
     Ok(all)
 }
 

@@ -128,7 +128,7 @@ fn parts(cells: u64x8, w: F) -> (u64x8, u64x8, u64x8, u64x8)
 /// The remainder of a + 2^32 b + 2^64 c + 2^96 d by P in each lane. Modulo P this is a - (c + d) and
 /// 2^32 (b + c).
 #[inline(always)]
-fn joined(a: u64x8, b: u64x8, c: u64x8, d: u64x8) -> u64x8
+fn join_parts(a: u64x8, b: u64x8, c: u64x8, d: u64x8) -> u64x8
     requires { (j : ℕ) → j < 8 → ArePartsOf (2 ^ 24) (slice_index a j) (slice_index b j)
         (slice_index c j) (slice_index d j) }
     ensures elements { AreElements result }
@@ -165,7 +165,7 @@ fn eight_sums(rows: &[F], cols: usize, i: usize, weights: &[F]) -> u64x8
         c = plus(c, s);
         d = plus(d, t);
     }
-    joined(a, b, c, d)
+    join_parts(a, b, c, d)
 }
 
 /// Returns whether sums of so many products in so many columns take less time by `sum_columns`,

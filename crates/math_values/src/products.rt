@@ -35,7 +35,7 @@ pub(crate) fn products<W: Word, const COUNTED: bool>(words: &[W], weights: &[F])
         upper_above += u64::from(COUNTED & (second >= MODULUS));
         upper = upper.plus_product(second, weights[half + i].word());
     }
-    let sum = lower.joined(upper);
+    let sum = lower.sum_with(upper);
     let above = lower_above + upper_above;
     if words.len() % 2 == 0 {
         (sum, above)
@@ -59,7 +59,7 @@ pub(crate) fn paired_products(elements: &[F], weights: &[F]) -> WideSum
         even = even.plus_product(elements[i].word(), weights[i].word());
         odd = odd.plus_product(elements[i + 1].word(), weights[i + 1].word());
     }
-    let sum = even.joined(odd);
+    let sum = even.sum_with(odd);
     if elements.len() % 2 == 0 {
         return sum;
     }

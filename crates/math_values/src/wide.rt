@@ -54,7 +54,7 @@ impl WideSum {
     }
 
     /// Both sums.
-    pub(crate) fn joined(self, other: WideSum) -> WideSum
+    pub(crate) fn sum_with(self, other: WideSum) -> WideSum
         requires { self.carries + other.carries + 1 < 2 ^ 64 }
         ensures total { total result ≡ total self + total other }
         ensures carries { result.carries ≤ self.carries + other.carries + 1 }

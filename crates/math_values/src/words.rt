@@ -27,7 +27,7 @@ impl Word for F {
     ghost word = { number };
 
     fn word(self) -> u64 {
-        u64::from_le_bytes(self.to_le_bytes())
+        self.number()
     }
 }
 

@@ -82,11 +82,11 @@ impl From<io::Error> for Fault {
 pub fn name_error<T: Drop>(alloc: Global, name: &str, answer: io::Result<T>) -> Result<T, Fault> {
     match answer {
         Ok(value) => Ok(value),
-        Err(error) => Err(Fault::File(owned(alloc, name)?, error)),
+        Err(error) => Err(Fault::File(copy_of(alloc, name)?, error)),
     }
 }
 
 /// The text, as one that a fault can have.
-pub fn owned(alloc: Global, text: &str) -> Result<String, AllocError> {
+pub fn copy_of(alloc: Global, text: &str) -> Result<String, AllocError> {
     String::from_str(alloc, text)
 }

@@ -1,6 +1,6 @@
 //! Which file of the system a name leads to.
 
-use crate::fault::{Fault, owned};
+use crate::fault::{Fault, copy_of};
 use std::fs::{self, Metadata};
 use std::os::unix::fs::MetadataExt;
 
@@ -33,7 +33,7 @@ impl Identity {
 pub fn check_no_input(rt: &HostRuntime, path: &str, input: Identity) -> Result<(), Fault> {
     match fs::symlink_metadata(rt, path) {
         Ok(metadata) if Identity::new(&metadata) == input => {
-            Err(Fault::Input(owned(rt.alloc(), path)?))
+            Err(Fault::Input(copy_of(rt.alloc(), path)?))
         }
         _ => Ok(()),
     }

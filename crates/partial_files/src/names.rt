@@ -1,6 +1,6 @@
 //! The names that files have while they are written.
 
-use crate::fault::owned;
+use crate::fault::copy_of;
 use std::alloc::{AllocError, Global};
 
 /// How many files a run writes at most.
@@ -10,7 +10,7 @@ pub const MOST_FILES: u32 = 1 << 16;
 pub fn folder_of(alloc: Global, file: &str) -> Result<String, AllocError> {
     match file.rsplit_once('/') {
         Some((folder, _)) => format!(in alloc; "{folder}/"),
-        None => owned(alloc, "./"),
+        None => copy_of(alloc, "./"),
     }
 }
 
@@ -25,7 +25,7 @@ pub fn name_of(file: &str) -> &str {
 /// The folder that a file lies in, with a slash at its end, and its name there.
 pub fn folder_and_name(alloc: Global, file: &str) -> Result<(String, String), AllocError> {
     let folder = folder_of(alloc, file)?;
-    Ok((folder, owned(alloc, name_of(file))?))
+    Ok((folder, copy_of(alloc, name_of(file))?))
 }
 
 /// The name that the file with this number of a run has while it is written: in the folder of its

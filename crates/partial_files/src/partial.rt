@@ -1,6 +1,6 @@
 //! One file that is written under another name than its final one.
 
-use crate::fault::{Fault, name_error, owned};
+use crate::fault::{Fault, copy_of, name_error};
 use crate::names::{MOST_FILES, partial_name};
 use crate::rights::{rights_at, settle_at, settle_file};
 use std::alloc::{AllocError, Global};
@@ -106,7 +106,7 @@ impl Partial {
         };
         match passed {
             Err(error) if error.kind() == ErrorKind::InvalidInput => {
-                Err(Fault::TooLong(owned(rt.alloc(), self.path.as_str())?))
+                Err(Fault::TooLong(copy_of(rt.alloc(), self.path.as_str())?))
             }
             passed => self.answer(rt.alloc(), passed),
         }
@@ -163,7 +163,7 @@ impl Partial {
         match fs::hard_link(rt, self.beside.as_str(), self.path.as_str()) {
             Ok(()) => self.remove_second_name(rt),
             Err(error) if error.kind() == ErrorKind::AlreadyExists => {
-                Err(Fault::Exists(owned(rt.alloc(), self.path.as_str())?))
+                Err(Fault::Exists(copy_of(rt.alloc(), self.path.as_str())?))
             }
             Err(_) => self.rename(rt),
         }

@@ -1,6 +1,6 @@
 //! The rights that files give.
 
-use crate::fault::{Fault, owned};
+use crate::fault::{Fault, copy_of};
 use std::alloc::Global;
 use std::fs::{self, File, Metadata, Permissions};
 use std::io::{self, ErrorKind};
@@ -25,7 +25,7 @@ pub fn rights_at(rt: &HostRuntime, path: &str, force: bool) -> Result<u32, Fault
     match fs::symlink_metadata(rt, path) {
         Ok(metadata) => replaced_rights(rt.alloc(), path, &metadata, force),
         Err(error) if error.kind() == ErrorKind::NotFound => Ok(ALL_RIGHTS),
-        Err(error) => Err(Fault::File(owned(rt.alloc(), path)?, error)),
+        Err(error) => Err(Fault::File(copy_of(rt.alloc(), path)?, error)),
     }
 }
 
@@ -37,10 +37,10 @@ fn replaced_rights(
     force: bool,
 ) -> Result<u32, Fault> {
     if !metadata.is_file() {
-        return Err(Fault::NotRegular(owned(alloc, path)?));
+        return Err(Fault::NotRegular(copy_of(alloc, path)?));
     }
     if !force {
-        return Err(Fault::Exists(owned(alloc, path)?));
+        return Err(Fault::Exists(copy_of(alloc, path)?));
     }
     Ok(rights_of(metadata))
 }

@@ -2,10 +2,10 @@
 
 ghost use Rattle.std.specs.Prelude.{◌≤◌, ◌⊎◌};
 
-use crate::answer::{Answer, are_equal, put, put_firsts};
+use crate::answer::{Answer, put, put_firsts};
 use crate::fault::Fault;
 use crate::refusals::{Breach, begin, end, tell};
-use crate::words::{element, elements, number, numbers, parted};
+use crate::words::{element, elements, number, numbers, split_at_mark};
 use math_base::algebra::{Mem, Powers, Space, msm_naive, powers};
 use math_samples::elements::Element;
 use std::alloc::Global;
@@ -27,7 +27,7 @@ pub fn run<R: Element>(
             by_another(alloc, call, arguments)
         }
         "scale" | "exp" => by_limbs(alloc, call, arguments),
-        "msm" | "msm_naive" => weighted(alloc, call, arguments),
+        "msm" | "msm_naive" => weighted_sum(alloc, call, arguments),
         "sum_of_products" => of_four(alloc, arguments),
         _ => return run_others(alloc, call, arguments, answer),
     };
@@ -54,7 +54,7 @@ fn run_others<R: Element>(
 }
 
 /// One of the elements that a field names.
-fn named<R: Element>(alloc: Global, call: &str) -> Mem<R> {
+fn named_element<R: Element>(alloc: Global, call: &str) -> Mem<R> {
     match call {
         "zero" => R::zero(alloc),
         "one" => R::one(alloc),
@@ -66,7 +66,7 @@ fn named<R: Element>(alloc: Global, call: &str) -> Mem<R> {
 /// `zero`, `one`, `coset_shift`, `coset_shift_inv`.
 fn constant<R: Element>(alloc: Global, call: &str) -> Result<R, Fault> {
     let given = begin(alloc, &());
-    let out = named(alloc, call);
+    let out = named_element(alloc, call);
     end(alloc, given, &(), out.is_err());
     out.map_err(Fault::Memory)
 }
@@ -81,7 +81,7 @@ fn negative<R: Element>(alloc: Global, arguments: &str) -> Result<R, Fault> {
 }
 
 /// The operation of one element that is read.
-fn derived<R: Element>(alloc: Global, call: &str, x: &R) -> Mem<R> {
+fn call_on_one<R: Element>(alloc: Global, call: &str, x: &R) -> Mem<R> {
     match call {
         "inv" => x.inv(alloc),
         "div_2" => x.div_2(alloc),
@@ -93,7 +93,7 @@ fn derived<R: Element>(alloc: Global, call: &str, x: &R) -> Mem<R> {
 fn of_one<R: Element>(alloc: Global, call: &str, arguments: &str) -> Result<R, Fault> {
     let x = element::<R>(alloc, arguments)?;
     let given = begin(alloc, &x);
-    let out = derived(alloc, call, &x);
+    let out = call_on_one(alloc, call, &x);
     end(alloc, given, &x, out.is_err());
     out.map_err(Fault::Memory)
 }
@@ -117,7 +117,7 @@ fn in_place<R: Element>(alloc: Global, call: &str, arguments: &str) -> Result<R,
 }
 
 /// The operation of two elements.
-fn combined<R: Element>(alloc: Global, call: &str, a: R, b: &R) -> Mem<R> {
+fn call_on_two<R: Element>(alloc: Global, call: &str, a: R, b: &R) -> Mem<R> {
     match call {
         "add" | "parts_add" => a.add(alloc, b),
         "sub" | "parts_sub" => a.sub(alloc, b),
@@ -128,11 +128,11 @@ fn combined<R: Element>(alloc: Global, call: &str, a: R, b: &R) -> Mem<R> {
 
 /// `add A B`, `sub A B`, `mul A B`, `scaled A B`.
 fn of_two<R: Element>(alloc: Global, call: &str, arguments: &str) -> Result<R, Fault> {
-    let (a, b) = parted(arguments, ' ')?;
+    let (a, b) = split_at_mark(arguments, ' ')?;
     let a = element::<R>(alloc, a)?;
     let b = element::<R>(alloc, b)?;
     let given = begin(alloc, &b);
-    let out = combined(alloc, call, a, &b);
+    let out = call_on_two(alloc, call, a, &b);
     end(alloc, given, &b, out.is_err());
     out.map_err(Fault::Memory)
 }
@@ -149,7 +149,7 @@ fn change_by<R: Element>(alloc: Global, call: &str, a: &mut R, b: &R) -> Mem<()>
 
 /// `add_assign A B`, `sub_assign A B`, `mul_assign A B`, `scale_assign A B`.
 fn by_another<R: Element>(alloc: Global, call: &str, arguments: &str) -> Result<R, Fault> {
-    let (a, b) = parted(arguments, ' ')?;
+    let (a, b) = split_at_mark(arguments, ' ')?;
     let mut a = element::<R>(alloc, a)?;
     let b = element::<R>(alloc, b)?;
     let given = begin(alloc, &(&a, &b));
@@ -160,7 +160,7 @@ fn by_another<R: Element>(alloc: Global, call: &str, arguments: &str) -> Result<
 }
 
 /// The multiple for `scale`, else the power.
-fn repeated<R: Element>(alloc: Global, call: &str, x: &R, limbs: &[u64]) -> Mem<R> {
+fn repeat<R: Element>(alloc: Global, call: &str, x: &R, limbs: &[u64]) -> Mem<R> {
     match call {
         "scale" => x.scale(alloc, limbs),
         _ => x.exp(alloc, limbs),
@@ -169,11 +169,11 @@ fn repeated<R: Element>(alloc: Global, call: &str, x: &R, limbs: &[u64]) -> Mem<
 
 /// `scale A @ LIMB ..`, `exp A @ LIMB ..`: the multiple and the power.
 fn by_limbs<R: Element>(alloc: Global, call: &str, arguments: &str) -> Result<R, Fault> {
-    let (x, limbs) = parted(arguments, '@')?;
+    let (x, limbs) = split_at_mark(arguments, '@')?;
     let limbs = numbers(alloc, limbs)?;
     let x = element::<R>(alloc, x)?;
     let given = begin(alloc, &(&x, &limbs));
-    let out = repeated(alloc, call, &x, &limbs);
+    let out = repeat(alloc, call, &x, &limbs);
     end(alloc, given, &(&x, &limbs), out.is_err());
     out.map_err(Fault::Memory)
 }
@@ -187,8 +187,8 @@ fn sum<R: Element>(alloc: Global, call: &str, points: &[R], scalars: &[R]) -> Me
 }
 
 /// `msm P .. @ S ..`, `msm_naive P .. @ S ..`: the sum of the points, each scaled.
-fn weighted<R: Element>(alloc: Global, call: &str, arguments: &str) -> Result<R, Fault> {
-    let (points, scalars) = parted(arguments, '@')?;
+fn weighted_sum<R: Element>(alloc: Global, call: &str, arguments: &str) -> Result<R, Fault> {
+    let (points, scalars) = split_at_mark(arguments, '@')?;
     let points = elements::<R>(alloc, points)?;
     let scalars = elements::<R>(alloc, scalars)?;
     let given = begin(alloc, &(&points, &scalars));
@@ -252,8 +252,8 @@ fn progression<R: Element>(
     arguments: &str,
     answer: &mut Answer<R>,
 ) -> Result<(), Fault> {
-    let (terms, count) = parted(arguments, '@')?;
-    let (shift, base) = parted(terms.trim(), ' ')?;
+    let (terms, count) = split_at_mark(arguments, '@')?;
+    let (shift, base) = split_at_mark(terms.trim(), ' ')?;
     let count = number(count.trim())? as usize;
     let shift = element::<R>(alloc, shift)?;
     let base = element::<R>(alloc, base)?;
@@ -316,12 +316,7 @@ fn by_root_of_four<R: Element>(
 /// `equals A ..`: for each element the place of the first that it equals.
 fn same<R: Element>(alloc: Global, arguments: &str, answer: &mut Answer<R>) -> Result<(), Fault> {
     let items = elements::<R>(alloc, arguments)?;
-    put_firsts(
-        &mut answer.text,
-        &items,
-        |a: &R, b: &R| are_equal(alloc, a, b),
-    )
-    .map_err(Fault::Memory)
+    put_firsts(alloc, &items, &mut answer.text).map_err(Fault::Memory)
 }
 
 /// Adds the two numbers that an element is shown by.

@@ -35,7 +35,7 @@ impl<R: Element> Answer<R> {
     }
 
     /// Adds an element with a key, as `K:E`.
-    pub fn keyed(&mut self, key: u64, x: R) -> Mem<()> {
+    pub fn add_keyed(&mut self, key: u64, x: R) -> Mem<()> {
         self.elements.push(x)?;
         write!(self.text, " {key}:_")
     }
@@ -143,11 +143,9 @@ pub fn are_equal<T: Object>(alloc: Global, a: &T, b: &T) -> Mem<bool> {
 }
 
 /// The place of the first item that equals this one.
-fn first<T, E: Fn(&T, &T) -> Mem<bool>>(items: &[T], item: &T, equal: &E) -> Mem<u64>
-    requires { E.IsAlwaysCallable equal.now }
-{
+fn first<T: Object>(alloc: Global, items: &[T], item: &T) -> Mem<u64> {
     for i in 0..items.len() {
-        if equal(&items[i], item)? {
+        if are_equal(alloc, &items[i], item)? {
             return Ok(i as u64);
         }
     }
@@ -155,15 +153,9 @@ fn first<T, E: Fn(&T, &T) -> Mem<bool>>(items: &[T], item: &T, equal: &E) -> Mem
 }
 
 /// Adds for each item the place of the first item that it equals.
-pub fn put_firsts<T, E: Fn(&T, &T) -> Mem<bool>>(
-    text: &mut String,
-    items: &[T],
-    equal: E,
-) -> Mem<()>
-    requires { E.IsAlwaysCallable equal }
-{
+pub fn put_firsts<T: Object>(alloc: Global, items: &[T], text: &mut String) -> Mem<()> {
     for item in items {
-        put(text, first(items, item, &equal)?)?;
+        put(text, first(alloc, items, item)?)?;
     }
     Ok(())
 }

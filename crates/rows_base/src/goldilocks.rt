@@ -9,7 +9,7 @@ ghost use Rattle.math_fields.specs.Packing.{elements_of, words_of};
 
 use crate::answer::{put, put_all, put_bytes};
 use crate::fault::Fault;
-use crate::words::{element, elements, number, numbers, parted, short, two_numbers};
+use crate::words::{element, elements, number, numbers, short, split_at_mark, two_numbers};
 use math_base::algebra::Mem;
 use math_fields::goldilocks::{ElementsToWords, F, WordsToElements};
 use math_samples::elements::Element;
@@ -104,7 +104,7 @@ fn put_packed_count(alloc: Global, words: &[u64], text: &mut String) -> Mem<()> 
 }
 
 /// The words that the elements hold which these words are packed into.
-fn repacked(alloc: Global, words: &[u64]) -> Mem<Vec<u64>>
+fn repack(alloc: Global, words: &[u64]) -> Mem<Vec<u64>>
     ensures { IfOk result (λ v. v.items ≡ words_of (elements_of words.now)) }
 {
     F::stream_to_u64s(F::stream_from_u64s(words.iter().copied())).collect(alloc)
@@ -139,7 +139,7 @@ fn pair_count(words: &[u64], elements: &[F]) -> usize
 /// Adds the words, there and back, of the list or of its iterator.
 fn put_back(alloc: Global, call: &str, words: &[u64], text: &mut String) -> Mem<()> {
     let back = match call {
-        "pack_unpack" => repacked(alloc, words),
+        "pack_unpack" => repack(alloc, words),
         _ => repacked_items(alloc, words.iter().copied()),
     };
     put_all(text, &back?)
@@ -165,7 +165,7 @@ fn put_word_count(alloc: Global, arguments: &str, text: &mut String) -> Result<(
 /// `pair_count W .. @ E ..`: how many pairs there are of an element that the words are packed into
 /// and one of these.
 fn put_pair_count(alloc: Global, arguments: &str, text: &mut String) -> Result<(), Fault> {
-    let (words, others) = parted(arguments, '@')?;
+    let (words, others) = split_at_mark(arguments, '@')?;
     let words = numbers(alloc, words)?;
     if words.len() >= 1 << 57 {
         return Err(Fault::OutOfRange("2^57 words"));
@@ -234,9 +234,9 @@ fn put_words_asked(elements: EndsOnce<'_, F>, count: u32, text: &mut String) -> 
 /// call END, where it ends. So many items of it, packed or unpacked, or `none`; `asked`, and how
 /// often the source was asked.
 fn put_asked(call: &str, arguments: &str, text: &mut String) -> Result<(), Fault> {
-    let (item, rest) = parted(arguments, '@')?;
+    let (item, rest) = split_at_mark(arguments, '@')?;
     let item = number(item.trim())?;
-    let (end, count) = parted(rest.trim(), ' ')?;
+    let (end, count) = split_at_mark(rest.trim(), ' ')?;
     let (end, count) = (number(end)?, short(count)?);
     let calls = Cell::new(0);
     let calls = &calls;

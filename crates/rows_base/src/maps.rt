@@ -3,7 +3,7 @@
 use crate::answer::put;
 use crate::fault::Fault;
 use crate::refusals::{begin, end};
-use crate::words::{numbers, pair, parted};
+use crate::words::{numbers, pair, split_at_mark};
 use math_base::algebra::Mem;
 use math_codec::ordered::{BiMap, Error, Map};
 use std::alloc::Global;
@@ -87,13 +87,13 @@ fn put_values(map: &Map<u64, u64>, keys: &[u64], text: &mut String) -> Mem<()> {
 
 /// `map_get K:V .. @ K ..`: the value of each key, or `none`.
 fn get(alloc: Global, arguments: &str, text: &mut String) -> Result<(), Fault> {
-    let (list, keys) = parted(arguments, '@')?;
+    let (list, keys) = split_at_mark(arguments, '@')?;
     let keys = numbers(alloc, keys)?;
     put_values(&map(alloc, list)?, &keys, text).map_err(Fault::Memory)
 }
 
 /// The keys of a map with these values.
-fn valued(map: Map<u64, u64>, values: Vec<u64>) -> Result<Map<u64, u64>, Fault> {
+fn map_with_values(map: Map<u64, u64>, values: Vec<u64>) -> Result<Map<u64, u64>, Fault> {
     if values.len() != map.len() {
         return Err(Fault::OutOfRange("as many values as keys"));
     }
@@ -102,9 +102,9 @@ fn valued(map: Map<u64, u64>, values: Vec<u64>) -> Result<Map<u64, u64>, Fault> 
 
 /// `with_values K:V .. @ V ..`: the keys with these values.
 fn with_values(alloc: Global, arguments: &str) -> Result<Map<u64, u64>, Fault> {
-    let (list, values) = parted(arguments, '@')?;
+    let (list, values) = split_at_mark(arguments, '@')?;
     let values = numbers(alloc, values)?;
-    valued(map(alloc, list)?, values)
+    map_with_values(map(alloc, list)?, values)
 }
 
 /// The two-way map of the pairs, refused where two of them have one key or one value.
@@ -135,7 +135,7 @@ fn put_both_ways(map: &BiMap<u64, u64>, wanted: &[u64], text: &mut String) -> Me
 /// `two_way_get K:V .. @ N ..`: the number of pairs, whether there is none, and for each n the value of
 /// the key n and the key of the value n, or `none`.
 fn two_way_get(alloc: Global, arguments: &str, text: &mut String) -> Result<(), Fault> {
-    let (list, wanted) = parted(arguments, '@')?;
+    let (list, wanted) = split_at_mark(arguments, '@')?;
     let wanted = numbers(alloc, wanted)?;
     put_both_ways(&two_way(alloc, list)?, &wanted, text).map_err(Fault::Memory)
 }

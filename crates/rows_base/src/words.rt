@@ -5,11 +5,9 @@ use math_samples::elements::Element;
 use std::alloc::Global;
 
 /// What stands before and after the first `mark` of a text.
-pub fn parted(text: &str, mark: char) -> Result<(&str, &str), Fault> {
-    match text.split_once(mark) {
-        Some(parts) => Ok(parts),
-        None => Err(Fault::Unreadable("mark between arguments")),
-    }
+pub fn split_at_mark(text: &str, mark: char) -> Result<(&str, &str), Fault> {
+    text.split_once(mark)
+        .ok_or(Fault::Unreadable("mark between arguments"))
 }
 
 /// A number in decimal, or in hexadecimal after `0x`.
@@ -34,7 +32,7 @@ pub fn short(word: &str) -> Result<u32, Fault> {
 
 /// Two numbers, with a mark between them.
 pub fn pair(text: &str, mark: char) -> Result<(u64, u64), Fault> {
-    let (a, b) = parted(text, mark)?;
+    let (a, b) = split_at_mark(text, mark)?;
     Ok((number(a)?, number(b.trim())?))
 }
 
@@ -44,18 +42,16 @@ pub fn two_numbers(text: &str) -> Result<(u64, u64), Fault> {
 }
 
 /// A number, and how often it stands there: `n*count`, or n once.
-fn repeated(word: &str) -> Result<(u64, u64), Fault> {
-    match word.split_once('*') {
-        Some((n, count)) => Ok((number(n)?, number(count)?)),
-        None => Ok((number(word)?, 1)),
-    }
+fn number_and_count(word: &str) -> Result<(u64, u64), Fault> {
+    let (n, count) = word.split_once('*').unwrap_or((word, "1"));
+    Ok((number(n)?, number(count)?))
 }
 
 /// The numbers that the words of a text stand for.
 pub fn numbers(alloc: Global, text: &str) -> Result<Vec<u64>, Fault> {
     let mut out = Vec::new(alloc);
     for word in text.split_whitespace() {
-        let (n, count) = repeated(word)?;
+        let (n, count) = number_and_count(word)?;
         for _ in 0..count {
             out.push(n)?;
         }
@@ -93,13 +89,13 @@ pub fn elements<R: Element>(alloc: Global, text: &str) -> Result<Vec<R>, Fault> 
 
 /// The pair `K:E` of a number and an element.
 fn keyed_element<R: Element>(alloc: Global, word: &str) -> Result<(u64, R), Fault> {
-    let (key, value) = parted(word, ':')?;
+    let (key, value) = split_at_mark(word, ':')?;
     let key = number(key)?;
     Ok((key, element::<R>(alloc, value)?))
 }
 
 /// The pairs `K:E` of a number and an element.
-pub fn keyed<R: Element>(alloc: Global, text: &str) -> Result<Vec<(u64, R)>, Fault> {
+pub fn keyed_elements<R: Element>(alloc: Global, text: &str) -> Result<Vec<(u64, R)>, Fault> {
     let mut out = Vec::new(alloc);
     for word in text.split_whitespace() {
         out.push(keyed_element::<R>(alloc, word)?)?;

@@ -66,7 +66,7 @@ pub fn empty(alloc: Global, text: &str) -> Result<VanishingPoints, Fault> {
 
 /// The bitmap of 2^LG points, all of which vanish, or after `full` none of which does. The call is
 /// not marked: that it is refused memory has to come without an allocation that is refused for it.
-fn unmarked(alloc: Global, text: &str) -> Result<Mem<VanishingPoints>, Fault> {
+fn unmarked_bitmap(alloc: Global, text: &str) -> Result<Mem<VanishingPoints>, Fault> {
     match text.trim().strip_prefix("full ") {
         Some(lg) => Ok(VanishingPoints::all_non_vanishing(alloc, lg_size(lg)?)),
         None => Ok(VanishingPoints::new(alloc, lg_size(text)?)),
@@ -76,7 +76,7 @@ fn unmarked(alloc: Global, text: &str) -> Result<Mem<VanishingPoints>, Fault> {
 /// `bitmap_too_large LG`, `bitmap_too_large full LG`: that there is no memory for so many points,
 /// which is refused by the words of `codec::Error`; else how many there are.
 fn put_too_large(alloc: Global, arguments: &str, text: &mut String) -> Result<(), Fault> {
-    match unmarked(alloc, arguments)? {
+    match unmarked_bitmap(alloc, arguments)? {
         Ok(points) => put(text, points.size()).map_err(Fault::Memory),
         Err(refused) => Err(Fault::Bytes(codec::Error::from(refused))),
     }

@@ -1,7 +1,7 @@
 //! Polynomials recovered from rows of values of which some are wrong.
 
 use crate::bounds::keep_recoveries;
-use crate::recovery::{listed, put_rows};
+use crate::recovery::{listed_rows, put_rows};
 use crate::transforms::has_domain;
 use crate::vectors::Values;
 use math_base::algebra::Mem;
@@ -10,7 +10,7 @@ use math_samples::elements::Element;
 use rows_base::answer::{Answer, put};
 use rows_base::fault::Fault;
 use rows_base::refusals::{begin, end};
-use rows_base::words::{number, parted};
+use rows_base::words::{number, split_at_mark};
 use std::alloc::Global;
 
 /// Runs a call of this module; `false` where it is none.
@@ -28,7 +28,7 @@ pub fn run<R: Element>(
 }
 
 /// What `correct` answers, where it may be called.
-fn corrected<R: Element>(
+fn correct_values<R: Element>(
     alloc: Global,
     values: Values<R>,
     count: usize,
@@ -48,7 +48,7 @@ fn recoveries(filled: usize, count: usize) -> u64 {
 }
 
 /// What `correct_counted` answers, where it may be called, and its work.
-fn counted<R: Element>(
+fn correct_values_counted<R: Element>(
     alloc: Global,
     values: Values<R>,
     count: usize,
@@ -68,9 +68,9 @@ fn counted<R: Element>(
 
 /// The number and the rows of `COUNT @ LG COLUMNS ROW: CELL .. ; ..`.
 fn count_and_rows<R: Element>(alloc: Global, text: &str) -> Result<(usize, Values<R>), Fault> {
-    let (count, rows) = parted(text, '@')?;
+    let (count, rows) = split_at_mark(text, '@')?;
     let count = number(count.trim())? as usize;
-    Ok((count, listed::<R>(alloc, rows)?))
+    Ok((count, listed_rows::<R>(alloc, rows)?))
 }
 
 /// `correct COUNT @ LG COLUMNS ROW: CELL .. ; ..`: butterflies, and the rows of coefficients with the wrong rows, or
@@ -81,7 +81,7 @@ fn correct<R: Element>(
     answer: &mut Answer<R>,
 ) -> Result<(), Fault> {
     let (count, values) = count_and_rows(alloc, arguments)?;
-    let (found, work) = counted(alloc, values, count)?;
+    let (found, work) = correct_values_counted(alloc, values, count)?;
     write!(answer.text, " {}", work.butterflies())?;
     put_found(alloc, &found, answer).map_err(Fault::Memory)
 }
@@ -94,7 +94,7 @@ fn correct_uncounted<R: Element>(
     answer: &mut Answer<R>,
 ) -> Result<(), Fault> {
     let (count, values) = count_and_rows(alloc, arguments)?;
-    put_found(alloc, &corrected(alloc, values, count)?, answer).map_err(Fault::Memory)
+    put_found(alloc, &correct_values(alloc, values, count)?, answer).map_err(Fault::Memory)
 }
 
 /// Adds the rows of coefficients with the wrong rows, or `none`.

@@ -9,7 +9,7 @@ use math_samples::elements::Element;
 use rows_base::answer::{Answer, put};
 use rows_base::fault::Fault;
 use rows_base::refusals::{begin, end};
-use rows_base::words::{element, elements, number, parted, two_numbers};
+use rows_base::words::{element, elements, number, split_at_mark, two_numbers};
 use std::alloc::Global;
 use std::cell::Cell;
 
@@ -21,10 +21,10 @@ pub fn run<R: Element>(
     answer: &mut Answer<R>,
 ) -> Result<bool, Fault> {
     let m = match call {
-        "matrix" => made(alloc, arguments),
+        "matrix" => matrix_of(alloc, arguments),
         "matrix_clone" => copy(alloc, arguments),
         "matrix_mul" => product(alloc, arguments),
-        "set_cell" | "set_in_row" => changed(alloc, call, arguments),
+        "set_cell" | "set_in_row" => set_cell(alloc, call, arguments),
         _ => return run_others(alloc, call, arguments, answer),
     };
     put_found(alloc, m, answer).and(Ok(true))
@@ -64,15 +64,15 @@ fn shape(text: &str) -> Result<(usize, usize), Fault>
 pub fn matrix<R: Element>(alloc: Global, text: &str) -> Result<Matrix<R>, Fault>
     ensures { IfOk result (λ m. length m.cells ≡ m.rows * m.cols) }
 {
-    let (size, cells) = parted(text, ':')?;
+    let (size, cells) = split_at_mark(text, ':')?;
     let (rows, cols) = shape(size)?;
     let cells = elements::<R>(alloc, cells)?;
     Matrix::init(alloc, rows, cols, cells).map_err(Fault::Memory)
 }
 
 /// `matrix M`: the matrix with these cells, and with zeros after them.
-fn made<R: Element>(alloc: Global, arguments: &str) -> Result<Matrix<R>, Fault> {
-    let (size, cells) = parted(arguments, ':')?;
+fn matrix_of<R: Element>(alloc: Global, arguments: &str) -> Result<Matrix<R>, Fault> {
+    let (size, cells) = split_at_mark(arguments, ':')?;
     let (rows, cols) = shape(size)?;
     let cells = elements::<R>(alloc, cells)?;
     let given = begin(alloc, &());
@@ -105,7 +105,7 @@ impl<'a, R: Element> Iterator for Counting<'a, R> {
 
 /// How often a matrix of so many rows and columns asks for an item, where there is none at the call
 /// of the number `last`, and the matrix.
-fn asked<R: Element>(
+fn times_asked<R: Element>(
     alloc: Global,
     rows: usize,
     cols: usize,
@@ -133,13 +133,13 @@ fn put_asked<R: Element>(
     arguments: &str,
     answer: &mut Answer<R>,
 ) -> Result<(), Fault> {
-    let (m, last) = parted(arguments, '@')?;
+    let (m, last) = split_at_mark(arguments, '@')?;
     let last = number(last.trim())?;
-    let (size, cells) = parted(m, ':')?;
+    let (size, cells) = split_at_mark(m, ':')?;
     let (rows, cols) = shape(size)?;
     let mut items = elements::<R>(alloc, cells)?;
     items.reverse();
-    let (calls, m) = asked(alloc, rows, cols, items, last)?;
+    let (calls, m) = times_asked(alloc, rows, cols, items, last)?;
     put(&mut answer.text, calls)?;
     put_matrix(alloc, &m, answer).map_err(Fault::Memory)
 }
@@ -197,7 +197,7 @@ fn rows<R: Element>(alloc: Global, arguments: &str, answer: &mut Answer<R>) -> R
 }
 
 /// The product, where the shapes fit.
-fn multiplied<R: Element>(alloc: Global, a: &Matrix<R>, b: &Matrix<R>) -> Result<Matrix<R>, Fault> {
+fn multiply<R: Element>(alloc: Global, a: &Matrix<R>, b: &Matrix<R>) -> Result<Matrix<R>, Fault> {
     if a.cols() != b.rows() || a.rows().checked_mul(b.cols()).is_none() {
         return Err(Fault::OutOfRange("shapes that don't fit"));
     }
@@ -209,10 +209,10 @@ fn multiplied<R: Element>(alloc: Global, a: &Matrix<R>, b: &Matrix<R>) -> Result
 
 /// `matrix_mul M @ N`: the product.
 fn product<R: Element>(alloc: Global, arguments: &str) -> Result<Matrix<R>, Fault> {
-    let (a, b) = parted(arguments, '@')?;
+    let (a, b) = split_at_mark(arguments, '@')?;
     let a = matrix::<R>(alloc, a)?;
     let b = matrix::<R>(alloc, b)?;
-    multiplied(alloc, &a, &b)
+    multiply(alloc, &a, &b)
 }
 
 /// `matrix_equals M ; N ; ..`: for each matrix the place of the first that it equals.
@@ -231,7 +231,7 @@ fn row_of<R: Element>(m: &Matrix<R>, i: usize) -> Result<&[R], Fault> {
 
 /// `row M @ I`: the cells of row I.
 fn row<R: Element>(alloc: Global, arguments: &str, answer: &mut Answer<R>) -> Result<(), Fault> {
-    let (m, i) = parted(arguments, '@')?;
+    let (m, i) = split_at_mark(arguments, '@')?;
     let i = number(i.trim())? as usize;
     let m = matrix::<R>(alloc, m)?;
     answer.copies(alloc, row_of(&m, i)?).map_err(Fault::Memory)
@@ -247,7 +247,7 @@ fn cell_of<R: Element>(alloc: Global, m: &Matrix<R>, i: usize, j: usize) -> Resu
 
 /// `cell M @ I J`: the cell in row I and column J.
 fn cell<R: Element>(alloc: Global, arguments: &str) -> Result<R, Fault> {
-    let (m, place) = parted(arguments, '@')?;
+    let (m, place) = split_at_mark(arguments, '@')?;
     let (i, j) = two_numbers(place)?;
     let m = matrix::<R>(alloc, m)?;
     cell_of(alloc, &m, i as usize, j as usize)
@@ -267,9 +267,9 @@ fn set<R: Element>(call: &str, m: &mut Matrix<R>, i: usize, j: usize, x: R) -> R
 }
 
 /// `set_cell M @ I J @ X`, `set_in_row M @ I J @ X`: the matrix, after X was put in row I and column J.
-fn changed<R: Element>(alloc: Global, call: &str, arguments: &str) -> Result<Matrix<R>, Fault> {
-    let (m, rest) = parted(arguments, '@')?;
-    let (place, x) = parted(rest, '@')?;
+fn set_cell<R: Element>(alloc: Global, call: &str, arguments: &str) -> Result<Matrix<R>, Fault> {
+    let (m, rest) = split_at_mark(arguments, '@')?;
+    let (place, x) = split_at_mark(rest, '@')?;
     let (i, j) = two_numbers(place)?;
     let mut m = matrix::<R>(alloc, m)?;
     let x = element::<R>(alloc, x)?;

@@ -4,7 +4,7 @@ use crate::bounds::keep_recoveries;
 use crate::matrices::put_matrix;
 use crate::refusing::recover_below;
 use crate::transforms::has_domain;
-use crate::vectors::{Values, filled};
+use crate::vectors::{Values, filled_vector};
 use math_base::algebra::{Additive, Mem, Object, Ring};
 use math_fields::goldilocks::MODULUS;
 use math_ntt::ntt::{PolynomialVector, Work};
@@ -12,7 +12,7 @@ use math_samples::elements::Element;
 use rows_base::answer::{Answer, put};
 use rows_base::fault::Fault;
 use rows_base::refusals::{begin, end};
-use rows_base::words::{number, parted, two_numbers};
+use rows_base::words::{number, split_at_mark, two_numbers};
 use std::alloc::Global;
 
 /// Runs a call of this module; `false` where it is none.
@@ -36,7 +36,7 @@ pub fn run<R: Element>(
 }
 
 /// The polynomials that fit.
-pub(crate) fn recovered<R: Element>(
+pub(crate) fn recover_rows<R: Element>(
     alloc: Global,
     values: Values<R>,
 ) -> Result<PolynomialVector<R>, Fault> {
@@ -50,7 +50,7 @@ pub(crate) fn recovered<R: Element>(
 }
 
 /// The polynomials that fit, and the work that they took.
-fn counted<R: Element>(
+fn recover_rows_counted<R: Element>(
     alloc: Global,
     values: Values<R>,
 ) -> Result<(PolynomialVector<R>, Work), Fault> {
@@ -185,8 +185,8 @@ pub(crate) fn put_rows<R: Element>(
 }
 
 /// The rows of values of `LG COLUMNS ROW: CELL .. ; ..`.
-pub(crate) fn listed<R: Element>(alloc: Global, text: &str) -> Result<Values<R>, Fault> {
-    let (lg, rest) = parted(text.trim(), ' ')?;
+pub(crate) fn listed_rows<R: Element>(alloc: Global, text: &str) -> Result<Values<R>, Fault> {
+    let (lg, rest) = split_at_mark(text.trim(), ' ')?;
     let (cols, rows) = rest.split_once(' ').unwrap_or((rest, ""));
     let mut values = Values::empty(alloc, number(lg)?, number(cols)?)?;
     for part in rows.split(';') {
@@ -203,7 +203,7 @@ fn recover<R: Element>(
     arguments: &str,
     answer: &mut Answer<R>,
 ) -> Result<(), Fault> {
-    let polynomials = recovered(alloc, listed::<R>(alloc, arguments)?)?;
+    let polynomials = recover_rows(alloc, listed_rows::<R>(alloc, arguments)?)?;
     put_rows(alloc, &polynomials, answer).map_err(Fault::Memory)
 }
 
@@ -218,14 +218,14 @@ fn recover_counted<R: Element>(
     arguments: &str,
     answer: &mut Answer<R>,
 ) -> Result<(), Fault> {
-    let (polynomials, work) = counted(alloc, filled::<R>(alloc, arguments)?)?;
+    let (polynomials, work) = recover_rows_counted(alloc, filled_vector::<R>(alloc, arguments)?)?;
     put_work(&work, &mut answer.text)?;
     put_matrix(alloc, &polynomials.data(), answer).map_err(Fault::Memory)
 }
 
 /// The rule and the lg of `LG RULE`.
 pub(crate) fn lg_and_rule(text: &str) -> Result<(u64, Rule), Fault> {
-    let (lg, words) = parted(text.trim(), ' ')?;
+    let (lg, words) = split_at_mark(text.trim(), ' ')?;
     let lg = number(lg)?;
     if lg >= 64 {
         return Err(Fault::OutOfRange("too many rows"));
@@ -240,7 +240,7 @@ fn recover_ones<R: Element>(
     answer: &mut Answer<R>,
 ) -> Result<(), Fault> {
     let (lg, rule) = lg_and_rule(arguments)?;
-    let polynomials = recovered(alloc, ones::<R>(alloc, lg, rule)?)?;
+    let polynomials = recover_rows(alloc, ones::<R>(alloc, lg, rule)?)?;
     put_rows(alloc, &polynomials, answer).map_err(Fault::Memory)
 }
 
@@ -266,10 +266,10 @@ fn recover_within<R: Element>(
     arguments: &str,
     answer: &mut Answer<R>,
 ) -> Result<(), Fault> {
-    let (column, bounds) = parted(arguments, '@')?;
+    let (column, bounds) = split_at_mark(arguments, '@')?;
     let (lg, rule) = lg_and_rule(column)?;
     let (butterflies, root_products) = two_numbers(bounds)?;
-    let (polynomials, work) = counted(alloc, ones::<R>(alloc, lg, rule)?)?;
+    let (polynomials, work) = recover_rows_counted(alloc, ones::<R>(alloc, lg, rule)?)?;
     put_rows(alloc, &polynomials, answer)?;
     put_work_unless_within(&work, butterflies, root_products, &mut answer.text).map_err(
         Fault::Memory,
@@ -304,7 +304,7 @@ pub(crate) fn are_constant<R: Element>(
 /// none.
 fn is_recovered<R: Element>(alloc: Global, lg: u64, set: u64) -> Result<bool, Fault> {
     let values = ones::<R>(alloc, lg, Rule::Bits(set))?;
-    let polynomials = recovered(alloc, values)?;
+    let polynomials = recover_rows(alloc, values)?;
     are_constant(alloc, &polynomials, set > 0).map_err(Fault::Memory)
 }
 
@@ -409,6 +409,6 @@ fn recover_words<R: Element>(
     answer: &mut Answer<R>,
 ) -> Result<(), Fault> {
     let (lg, rule) = lg_and_rule(arguments)?;
-    let polynomials = recovered(alloc, words::<R>(alloc, lg, rule)?)?;
+    let polynomials = recover_rows(alloc, words::<R>(alloc, lg, rule)?)?;
     write!(answer.text, " fnv {:016x}", fnv1a_hash(&polynomials)).map_err(Fault::Memory)
 }

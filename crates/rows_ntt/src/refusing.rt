@@ -1,6 +1,6 @@
 //! Calls that have allocations refused themselves, where a library does so.
 
-use crate::recovery::{are_constant, lg_and_rule, ones, recovered};
+use crate::recovery::{are_constant, lg_and_rule, ones, recover_rows};
 use crate::transforms::{columns, evaluated_columns};
 use crate::vectors::Values;
 use math_base::algebra::Mem;
@@ -8,7 +8,7 @@ use math_ntt::ntt::{Matrix, Work};
 use math_samples::elements::Element;
 use rows_base::fault::Fault;
 use rows_base::refusals::{Breach, are_made, has_come, refuse, was_told};
-use rows_base::words::{parted, short, two_numbers};
+use rows_base::words::{short, split_at_mark, two_numbers};
 use std::alloc::Global;
 
 /// More allocations than an evaluation makes that is refused again and again.
@@ -49,7 +49,7 @@ fn evaluated_but<R: Element>(alloc: Global, m: &Matrix<R>, n: usize, place: u32)
 /// The butterflies of the evaluation that meets no refusal, after those with each allocation
 /// refused in turn; `None` where one counts fewer than the one before, or that of the number `place`
 /// not this many.
-fn risen<R: Element>(
+fn risen_butterflies<R: Element>(
     alloc: Global,
     m: &Matrix<R>,
     n: usize,
@@ -83,7 +83,7 @@ fn put_risen<R: Element>(
     text: &mut String,
 ) -> Mem<()> {
     let count = if are_made(alloc) {
-        risen(alloc, m, n, known.0, known.1)
+        risen_butterflies(alloc, m, n, known.0, known.1)
     } else {
         Some(evaluated_but(alloc, m, n, 0).butterflies)
     };
@@ -103,7 +103,7 @@ pub fn evaluate_refused<R: Element>(
     arguments: &str,
     text: &mut String,
 ) -> Result<(), Fault> {
-    let (known, rest) = parted(arguments, '@')?;
+    let (known, rest) = split_at_mark(arguments, '@')?;
     let known = two_numbers(known)?;
     let (n, m) = columns::<R>(alloc, rest)?;
     put_risen(alloc, &m, n, known, text).map_err(Fault::Memory)
@@ -117,7 +117,7 @@ fn is_recovered_below<R: Element>(
     most: u32,
 ) -> Result<bool, Fault> {
     refuse(alloc, most);
-    let polynomials = recovered(alloc, values);
+    let polynomials = recover_rows(alloc, values);
     let right = none_told(alloc) && !has_come(alloc);
     refuse(alloc, 0);
     Ok(right && are_constant(alloc, &polynomials?, true)?)
@@ -131,7 +131,7 @@ pub fn recover_below<R: Element>(
     arguments: &str,
     text: &mut String,
 ) -> Result<(), Fault> {
-    let (column, most) = parted(arguments, '@')?;
+    let (column, most) = split_at_mark(arguments, '@')?;
     let (lg, rule) = lg_and_rule(column)?;
     let most = short(most)?;
     let below = !are_made(alloc) || is_recovered_below(alloc, ones::<R>(alloc, lg, rule)?, most)?;

@@ -7,7 +7,7 @@ use crate::bitmaps::{empty, set};
 use crate::bounds::keep_evaluation;
 use crate::matrices::{matrix, put_matrix};
 use crate::refusing::evaluate_refused;
-use crate::vectors::padded;
+use crate::vectors::padded_columns;
 use math_base::algebra::{Field, Mem, Multiplicative, Object};
 use math_ntt::ntt::{
     EvaluationColumn, EvaluationVector, Matrix, PolynomialColumn, VanishingPoints, Work,
@@ -16,7 +16,7 @@ use math_samples::elements::Element;
 use rows_base::answer::{Answer, put};
 use rows_base::fault::Fault;
 use rows_base::refusals::{begin, end};
-use rows_base::words::{number, parted};
+use rows_base::words::{number, split_at_mark};
 use std::alloc::Global;
 
 /// Runs a call of this module; `false` where it is none.
@@ -60,7 +60,7 @@ pub(crate) fn evaluated_columns<R: Element>(
     if !has_domain::<R>(rows) {
         return Err(Fault::OutOfRange("no such domain"));
     }
-    let Some(v) = padded(alloc, m, n)? else {
+    let Some(v) = padded_columns(alloc, m, n)? else {
         return Err(Fault::OutOfRange("no polynomials"));
     };
     let given = begin(alloc, &());
@@ -72,14 +72,14 @@ pub(crate) fn evaluated_columns<R: Element>(
 
 /// Number and matrix of `N @ M`.
 pub(crate) fn columns<R: Element>(alloc: Global, text: &str) -> Result<(usize, Matrix<R>), Fault> {
-    let (n, m) = parted(text, '@')?;
+    let (n, m) = split_at_mark(text, '@')?;
     let n = number(n.trim())? as usize;
     Ok((n, matrix::<R>(alloc, m)?))
 }
 
 /// The columns of M of `N @ M` as polynomials of N coefficients at least, evaluated: their values,
 /// and the work that it took.
-fn evaluated<R: Element>(
+fn evaluate_columns<R: Element>(
     alloc: Global,
     arguments: &str,
 ) -> Result<(EvaluationVector<R>, Work), Fault> {
@@ -102,7 +102,7 @@ fn evaluate<R: Element>(
     arguments: &str,
     answer: &mut Answer<R>,
 ) -> Result<(), Fault> {
-    let (values, work) = evaluated::<R>(alloc, arguments)?;
+    let (values, work) = evaluate_columns::<R>(alloc, arguments)?;
     put_counts(&values, &work, &mut answer.text)?;
     put_matrix(alloc, &values.data(), answer).map_err(Fault::Memory)
 }
@@ -113,13 +113,13 @@ fn evaluate_work<R: Element>(
     arguments: &str,
     text: &mut String,
 ) -> Result<(), Fault> {
-    let (values, work) = evaluated::<R>(alloc, arguments)?;
+    let (values, work) = evaluate_columns::<R>(alloc, arguments)?;
     put_counts(&values, &work, text).map_err(Fault::Memory)
 }
 
 /// The points of which those in the list do not vanish, from `LG ; [I, ..]`.
 fn points(alloc: Global, text: &str) -> Result<VanishingPoints, Fault> {
-    let (lg, list) = parted(text, ';')?;
+    let (lg, list) = split_at_mark(text, ';')?;
     let mut points = empty(alloc, lg)?;
     for word in list.split(',') {
         let word = word.trim().trim_start_matches('[').trim_end_matches(']');
@@ -144,7 +144,7 @@ fn vanishing<R: Element>(
 }
 
 /// An element times another.
-fn scaled<R: Element>(alloc: Global, x: &R, scale: &R) -> Mem<R> {
+fn multiple_of<R: Element>(alloc: Global, x: &R, scale: &R) -> Mem<R> {
     x.clone(alloc)?.mul(alloc, scale)
 }
 
@@ -160,7 +160,7 @@ fn put_values<R: Element>(
         if points.get(index)
             && let Some(value) = values.get(index as usize)
         {
-            answer.keyed(index, scaled(alloc, value, scale)?)?;
+            answer.add_keyed(index, multiple_of(alloc, value, scale)?)?;
         }
     }
     Ok(())
@@ -190,7 +190,7 @@ fn put_vanishing<R: Element>(
 
 /// Adds an element times another.
 fn put_scaled<R: Element>(alloc: Global, x: &R, scale: &R, answer: &mut Answer<R>) -> Mem<()> {
-    answer.element(scaled(alloc, x, scale)?)
+    answer.element(multiple_of(alloc, x, scale)?)
 }
 
 /// Adds elements, scaled.

@@ -11,7 +11,7 @@ use math_samples::elements::Element;
 use rows_base::answer::{Answer, put};
 use rows_base::fault::Fault;
 use rows_base::refusals::{begin, end};
-use rows_base::words::{elements, number, parted, two_numbers};
+use rows_base::words::{elements, number, split_at_mark, two_numbers};
 use std::alloc::Global;
 
 /// Runs a call of this module; `false` where it is none.
@@ -36,13 +36,13 @@ fn polynomials<R: Element>(
     alloc: Global,
     text: &str,
 ) -> Result<Option<PolynomialVector<R>>, Fault> {
-    let (n, m) = parted(text, '@')?;
+    let (n, m) = split_at_mark(text, '@')?;
     let n = number(n.trim())? as usize;
-    padded(alloc, &matrix::<R>(alloc, m)?, n)
+    padded_columns(alloc, &matrix::<R>(alloc, m)?, n)
 }
 
 /// The columns as polynomials of n coefficients at least, where the number of cells fits.
-pub fn padded<R: Element>(
+pub fn padded_columns<R: Element>(
     alloc: Global,
     m: &Matrix<R>,
     n: usize,
@@ -82,7 +82,7 @@ fn first_rows<R: Element>(
     arguments: &str,
     answer: &mut Answer<R>,
 ) -> Result<(), Fault> {
-    let (up_to, columns) = parted(arguments, '@')?;
+    let (up_to, columns) = split_at_mark(arguments, '@')?;
     let up_to = number(up_to.trim())? as usize;
     let done = match polynomials::<R>(alloc, columns)? {
         Some(v) => put_first(alloc, &v, up_to, answer),
@@ -100,7 +100,7 @@ fn copy<R: Element>(alloc: Global, v: &PolynomialVector<R>) -> Result<Polynomial
 }
 
 /// A copy of a vector of polynomials, from `N @ M`.
-fn copied<R: Element>(alloc: Global, text: &str) -> Result<PolynomialVector<R>, Fault> {
+fn copy_of<R: Element>(alloc: Global, text: &str) -> Result<PolynomialVector<R>, Fault> {
     match polynomials::<R>(alloc, text)? {
         Some(v) => copy(alloc, &v),
         None => Err(Fault::OutOfRange("no polynomials")),
@@ -115,7 +115,7 @@ fn same_polynomials<R: Element>(
 ) -> Result<(), Fault> {
     let mut items = Vec::new(alloc);
     for part in arguments.split(';') {
-        items.push(copied::<R>(alloc, part)?)?;
+        items.push(copy_of::<R>(alloc, part)?)?;
     }
     put_firsts(alloc, &items, &mut answer.text).map_err(Fault::Memory)
 }
@@ -174,7 +174,7 @@ impl<R: Element> Values<R> {
 
     /// Fills a row by a call that is marked, from `ROW : CELL ..`.
     pub fn fill_from(&mut self, alloc: Global, text: &str) -> Result<(), Fault> {
-        let (row, cells) = parted(text, ':')?;
+        let (row, cells) = split_at_mark(text, ':')?;
         let row = number(row.trim())? as usize;
         let cells = elements::<R>(alloc, cells)?;
         self.fill_marked(alloc, row, &cells)
@@ -183,7 +183,7 @@ impl<R: Element> Values<R> {
 
 /// The vector of 2^LG rows of so many columns, of which some are filled one after the other, from
 /// `LG COLUMNS @ ROW : CELL .. @ ..`.
-pub fn filled<R: Element>(alloc: Global, text: &str) -> Result<Values<R>, Fault> {
+pub fn filled_vector<R: Element>(alloc: Global, text: &str) -> Result<Values<R>, Fault> {
     let (size, _fills) = text.split_once('@').unwrap_or((text, ""));
     let (lg, cols) = two_numbers(size)?;
     let mut values = Values::empty_marked(alloc, lg, cols)?;
@@ -199,7 +199,7 @@ fn fill_rows<R: Element>(
     arguments: &str,
     answer: &mut Answer<R>,
 ) -> Result<(), Fault> {
-    let v = filled::<R>(alloc, arguments)?.vector;
+    let v = filled_vector::<R>(alloc, arguments)?.vector;
     put(&mut answer.text, v.filled_rows() as u64)?;
     put_matrix(alloc, &v.data(), answer).map_err(Fault::Memory)
 }
@@ -213,7 +213,7 @@ fn same_evaluations<R: Element>(
 ) -> Result<(), Fault> {
     let mut items = Vec::new(alloc);
     for part in arguments.split(';') {
-        items.push(filled::<R>(alloc, part)?.vector)?;
+        items.push(filled_vector::<R>(alloc, part)?.vector)?;
     }
     put_firsts(alloc, &items, &mut answer.text).map_err(Fault::Memory)
 }

@@ -8,7 +8,7 @@ use math_samples::elements::Element;
 use rows_base::answer::{Answer, put};
 use rows_base::fault::Fault;
 use rows_base::refusals::{begin, end, has_come, refuse};
-use rows_base::words::{elements, number, parted, two_numbers};
+use rows_base::words::{elements, number, split_at_mark, two_numbers};
 use std::alloc::Global;
 
 /// Runs a call of this module; `false` where it is none.
@@ -33,7 +33,7 @@ fn put_division<R: Element>(
     arguments: &str,
     answer: &mut Answer<R>,
 ) -> Result<(), Fault> {
-    let (p, d) = parted(arguments, ';')?;
+    let (p, d) = split_at_mark(arguments, ';')?;
     let p = elements::<R>(alloc, p)?;
     let d = elements::<R>(alloc, d)?;
     put_quotient(alloc, &p, &d, answer)
@@ -78,16 +78,16 @@ fn put_decoded<R: Element>(
 
 /// What `decode` answers to `COUNT ; POINT .. ; VALUE ..`.
 fn decoded_from<R: Element>(alloc: Global, text: &str) -> Result<Option<Decoded<R>>, Fault> {
-    let (count, rest) = parted(text, ';')?;
-    let (points, values) = parted(rest, ';')?;
+    let (count, rest) = split_at_mark(text, ';')?;
+    let (points, values) = split_at_mark(rest, ';')?;
     let count = number(count.trim())? as usize;
     let points = elements::<R>(alloc, points)?;
     let values = elements::<R>(alloc, values)?;
-    decoded(alloc, &points, &values, count)
+    decode_points(alloc, &points, &values, count)
 }
 
 /// What `decode` answers, where it may be called.
-fn decoded<R: Field>(
+fn decode_points<R: Field>(
     alloc: Global,
     points: &[R],
     values: &[R],
@@ -117,7 +117,7 @@ fn put_found<R: Element>(alloc: Global, found: &Decoded<R>, answer: &mut Answer<
 
 /// The points 0, 1 and so on, and at each the value 100, but the point itself at the odd points
 /// below twice `wrong`.
-fn spoiled<R: Element>(alloc: Global, count: u64, wrong: u64) -> Mem<(Vec<R>, Vec<R>)> {
+fn spoiled_values<R: Element>(alloc: Global, count: u64, wrong: u64) -> Mem<(Vec<R>, Vec<R>)> {
     let mut points = Vec::new(alloc);
     let mut values = Vec::new(alloc);
     for n in 0..count {
@@ -137,7 +137,7 @@ fn refused_at<R: Element>(
     n: u32,
 ) -> (bool, Result<u64, Fault>) {
     refuse(alloc, n);
-    let out = decoded(alloc, points, values, 3);
+    let out = decode_points(alloc, points, values, 3);
     let met = has_come(alloc);
     refuse(alloc, 0);
     let wrong = match out {
@@ -157,9 +157,9 @@ fn decode_within<R: Element>(
     arguments: &str,
     answer: &mut Answer<R>,
 ) -> Result<(), Fault> {
-    let (count, rest) = parted(arguments.trim(), ' ')?;
+    let (count, rest) = split_at_mark(arguments.trim(), ' ')?;
     let (wrong, n) = two_numbers(rest)?;
-    let (points, values) = spoiled::<R>(alloc, number(count)?, wrong)?;
+    let (points, values) = spoiled_values::<R>(alloc, number(count)?, wrong)?;
     let Ok(n) = u32::try_from(n) else {
         return Err(Fault::OutOfRange("an allocation of number 2^32 or more"));
     };

@@ -16,7 +16,7 @@ use rows_base::answer::{put, put_all, put_bytes, put_rest};
 use rows_base::fault::Fault;
 use rows_base::goldilocks::put_element;
 use rows_base::refusals::{begin, end};
-use rows_base::words::{bytes, element, number, numbers, parted, short};
+use rows_base::words::{bytes, element, number, numbers, short, split_at_mark};
 use rows_ntt::matrices::matrix;
 use std::alloc::Global;
 use std::fmt::Debug;
@@ -94,7 +94,7 @@ fn put_lists(lists: &[Vec<u64>], text: &mut String) -> Mem<()> {
 
 /// `decode_words RANGE @ BYTE ..`: the numbers.
 fn decode_words(alloc: Global, arguments: &str, text: &mut String) -> Result<(), Fault> {
-    let (range, all) = parted(arguments, '@')?;
+    let (range, all) = split_at_mark(arguments, '@')?;
     let cfg = (range_of(range)?, ());
     let all = bytes(alloc, all)?;
     let given = begin(alloc, &all);
@@ -105,7 +105,7 @@ fn decode_words(alloc: Global, arguments: &str, text: &mut String) -> Result<(),
 
 /// `decode_poly RANGE @ BYTE ..`: the numbers.
 fn decode_poly(alloc: Global, arguments: &str, text: &mut String) -> Result<(), Fault> {
-    let (range, all) = parted(arguments, '@')?;
+    let (range, all) = split_at_mark(arguments, '@')?;
     let cfg = (range_of(range)?, ());
     let all = bytes(alloc, all)?;
     let given = begin(alloc, &all);
@@ -167,7 +167,7 @@ fn take_words(alloc: Global, cfg: &str, input: &mut &[u8], text: &mut String) ->
 
 /// Reads `lists` of words with the ranges of their number and of that of the words of each.
 fn take_lists(alloc: Global, cfg: &str, input: &mut &[u8], text: &mut String) -> Result<(), Fault> {
-    let (outer, inner) = parted(cfg, ' ')?;
+    let (outer, inner) = split_at_mark(cfg, ' ')?;
     let cfg = (range_of(outer)?, (range_of(inner)?, ()));
     let lists = read_from::<Vec<Vec<u64>>>(alloc, input, &cfg)?;
     put_lists(&lists, text).map_err(Fault::Memory)
@@ -221,7 +221,7 @@ fn read_all(alloc: Global, kind: &str, all: &[u8], text: &mut String) -> Result<
 
 /// `read KIND @ BYTE ..`: the value, and how many bytes are left.
 fn read(alloc: Global, arguments: &str, text: &mut String) -> Result<(), Fault> {
-    let (kind, all) = parted(arguments, '@')?;
+    let (kind, all) = split_at_mark(arguments, '@')?;
     let all = bytes(alloc, all)?;
     read_all(alloc, kind, &all, text)
 }
@@ -242,7 +242,7 @@ fn ends_early(alloc: Global, kind: &str, all: &[u8], n: usize) -> Result<bool, F
 /// `beginnings KIND @ BYTE ..`: how many of the beginnings of the bytes are refused as ended, the input
 /// standing as it was.
 fn beginnings(alloc: Global, arguments: &str, text: &mut String) -> Result<(), Fault> {
-    let (kind, all) = parted(arguments, '@')?;
+    let (kind, all) = split_at_mark(arguments, '@')?;
     let all = bytes(alloc, all)?;
     let mut refused = 0u64;
     for n in 0..all.len() {
@@ -252,7 +252,7 @@ fn beginnings(alloc: Global, arguments: &str, text: &mut String) -> Result<(), F
 }
 
 /// Writes a value, and answers the number of bytes that it says.
-fn written(alloc: Global, kind: &str, value: &str, out: &mut Vec<u8>) -> Result<usize, Fault> {
+fn write_value(alloc: Global, kind: &str, value: &str, out: &mut Vec<u8>) -> Result<usize, Fault> {
     match kind.trim() {
         "length" => written_length(alloc, value, out),
         "word" => written_word(alloc, value, out),
@@ -274,18 +274,18 @@ fn put_written(text: &mut String, size: usize, bytes: &[u8]) -> Mem<()> {
 
 /// `write KIND @ VALUE`: the number of bytes, and the bytes.
 fn write(alloc: Global, arguments: &str, text: &mut String) -> Result<(), Fault> {
-    let (kind, value) = parted(arguments, '@')?;
+    let (kind, value) = split_at_mark(arguments, '@')?;
     let mut out = Vec::new(alloc);
-    let size = written(alloc, kind, value, &mut out)?;
+    let size = write_value(alloc, kind, value, &mut out)?;
     put_written(text, size, &out).map_err(Fault::Memory)
 }
 
 /// `write_after BYTE .. @ KIND @ VALUE`: the same, where the value is written after bytes.
 fn write_after(alloc: Global, arguments: &str, text: &mut String) -> Result<(), Fault> {
-    let (before, rest) = parted(arguments, '@')?;
-    let (kind, value) = parted(rest, '@')?;
+    let (before, rest) = split_at_mark(arguments, '@')?;
+    let (kind, value) = split_at_mark(rest, '@')?;
     let mut out = bytes(alloc, before)?;
-    let size = written(alloc, kind, value, &mut out)?;
+    let size = write_value(alloc, kind, value, &mut out)?;
     put_written(text, size, &out).map_err(Fault::Memory)
 }
 
@@ -357,7 +357,7 @@ pub fn write_matrix(alloc: Global, m: &Matrix<F>, out: &mut Vec<u8>) -> Result<u
 
 /// Two lists, with `;` between them, as a list of lists.
 fn written_lists(alloc: Global, value: &str, out: &mut Vec<u8>) -> Result<usize, Fault> {
-    let (a, b) = parted(value, ';')?;
+    let (a, b) = split_at_mark(value, ';')?;
     let a = numbers(alloc, a)?;
     let b = numbers(alloc, b)?;
     if a.len() > u32::MAX as usize || b.len() > u32::MAX as usize {
@@ -395,8 +395,8 @@ fn put_again(
 /// `read_again RANGE @ BYTE .. @ BYTE ..`: the words of the first bytes are written, then the other
 /// bytes, and read again: the words, `rest`, and the bytes that are left.
 fn read_again(alloc: Global, arguments: &str, text: &mut String) -> Result<(), Fault> {
-    let (range, all) = parted(arguments, '@')?;
-    let (all, rest) = parted(all, '@')?;
+    let (range, all) = split_at_mark(arguments, '@')?;
+    let (all, rest) = split_at_mark(all, '@')?;
     let cfg = (range_of(range)?, ());
     let all = bytes(alloc, all)?;
     let rest = bytes(alloc, rest)?;

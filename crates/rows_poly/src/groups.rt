@@ -8,7 +8,7 @@ use math_samples::sources::Listed;
 use rows_base::answer::Answer;
 use rows_base::fault::Fault;
 use rows_base::refusals::{begin, end};
-use rows_base::words::{bytes, element, numbers, parted};
+use rows_base::words::{bytes, element, numbers, split_at_mark};
 use std::alloc::Global;
 
 /// Runs a call of this module; `false` where it is none.
@@ -41,7 +41,7 @@ fn generator<G: Element + HashToGroup>(alloc: Global) -> Result<G, Fault> {
 }
 
 /// The commitment of the polynomial with these coefficients.
-fn committed<G: Element + HashToGroup>(alloc: Global, text: &str) -> Result<Poly<G>, Fault>
+fn commitment<G: Element + HashToGroup>(alloc: Global, text: &str) -> Result<Poly<G>, Fault>
 where
     <G as CryptoGroup>::Scalar: Element,
 {
@@ -61,7 +61,7 @@ fn commit<G: Element + HashToGroup>(
 where
     <G as CryptoGroup>::Scalar: Element,
 {
-    put_stored(alloc, &committed::<G>(alloc, arguments)?, answer).map_err(Fault::Memory)
+    put_stored(alloc, &commitment::<G>(alloc, arguments)?, answer).map_err(Fault::Memory)
 }
 
 /// `commit_eval C .. @ X`: the value of the commitment at X.
@@ -69,8 +69,8 @@ fn commit_eval<G: Element + HashToGroup>(alloc: Global, arguments: &str) -> Resu
 where
     <G as CryptoGroup>::Scalar: Element,
 {
-    let (coefficients, x) = parted(arguments, '@')?;
-    let commitment = committed::<G>(alloc, coefficients)?;
+    let (coefficients, x) = split_at_mark(arguments, '@')?;
+    let commitment = commitment::<G>(alloc, coefficients)?;
     let x = element::<<G as CryptoGroup>::Scalar>(alloc, x)?;
     let given = begin(alloc, &(&commitment, &x));
     let out = commitment.eval(alloc, &x);
@@ -80,7 +80,7 @@ where
 
 /// `hash_to_group BYTE .. @ BYTE ..`: the element that a separator and a message hash to.
 fn hash<G: Element + HashToGroup>(alloc: Global, arguments: &str) -> Result<G, Fault> {
-    let (separator, message) = parted(arguments, '@')?;
+    let (separator, message) = split_at_mark(arguments, '@')?;
     let separator = bytes(alloc, separator)?;
     let message = bytes(alloc, message)?;
     let given = begin(alloc, &(&separator, &message));

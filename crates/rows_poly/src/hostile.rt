@@ -17,7 +17,7 @@ use math_poly::poly::Poly;
 use math_shards::shards::Shard;
 use rows_base::fault::Fault;
 use rows_base::refusals::{are_made, refuse, took_more_than};
-use rows_base::words::{parted, two_numbers};
+use rows_base::words::{split_at_mark, two_numbers};
 use std::alloc::Global;
 
 /// The words 1 and 256 as a list.
@@ -100,7 +100,7 @@ fn took_too_much(alloc: Global, bytes: &[u8]) -> bool {
 
 /// What it shows that such a value, or none, was read from the bytes, and that so much of them is
 /// left.
-fn shown(bytes: &[u8], left: &[u8], read: Result<Vec<u8>, Fault>) -> Outcome {
+fn outcome_of(bytes: &[u8], left: &[u8], read: Result<Vec<u8>, Fault>) -> Outcome {
     match read {
         Ok(written) => {
             let count = written.len().saturating_add(left.len());
@@ -203,7 +203,7 @@ impl Kind {
             Kind::Matrices => as_matrix(alloc, watched, &mut input),
             Kind::Shards => as_shard(alloc, watched, &mut input),
         };
-        shown(bytes, input, read)
+        outcome_of(bytes, input, read)
     }
 
     /// Claims of more items than there are bytes.
@@ -256,7 +256,7 @@ fn next_encoding(state: &mut u64) -> &'static [u8] {
 
 /// The bytes with one change: a byte changed, doubled or inserted, the end cut off, or an encoding
 /// joined to them.
-fn changed(alloc: Global, bytes: &[u8], state: &mut u64) -> Mem<Vec<u8>> {
+fn with_one_change(alloc: Global, bytes: &[u8], state: &mut u64) -> Mem<Vec<u8>> {
     let n = bytes.len();
     if n == 0 {
         return Vec::from_slice(alloc, next_encoding(state));
@@ -268,13 +268,13 @@ fn changed(alloc: Global, bytes: &[u8], state: &mut u64) -> Mem<Vec<u8>> {
         1 => (&bytes[i..i + 1], i),
         2 => (&byte, i),
         3 => (&[], n),
-        _ => return concatenated(alloc, bytes, next_encoding(state), &[]),
+        _ => return concatenate(alloc, bytes, next_encoding(state), &[]),
     };
-    concatenated(alloc, &bytes[..i], middle, &bytes[rest..])
+    concatenate(alloc, &bytes[..i], middle, &bytes[rest..])
 }
 
 /// The bytes of all three.
-fn concatenated(alloc: Global, a: &[u8], b: &[u8], c: &[u8]) -> Mem<Vec<u8>> {
+fn concatenate(alloc: Global, a: &[u8], b: &[u8], c: &[u8]) -> Mem<Vec<u8>> {
     let mut out = Vec::from_slice(alloc, a)?;
     out.extend_from_slice(b)?;
     out.extend_from_slice(c)?;
@@ -325,15 +325,15 @@ impl Tally {
 
 /// A byte string that is made from an encoding by one to three changes.
 fn next_string(alloc: Global, state: &mut u64) -> Mem<Vec<u8>> {
-    let mut bytes = changed(alloc, next_encoding(state), state)?;
+    let mut bytes = with_one_change(alloc, next_encoding(state), state)?;
     for _ in 0..next_word(state) % 3 {
-        bytes = changed(alloc, &bytes, state)?;
+        bytes = with_one_change(alloc, &bytes, state)?;
     }
     Ok(bytes)
 }
 
 /// Reads so many byte strings of a seed as this kind.
-fn generated(alloc: Global, kind: Kind, count: u64, seed: u64) -> Mem<Tally> {
+fn read_generated(alloc: Global, kind: Kind, count: u64, seed: u64) -> Mem<Tally> {
     let watched = is_watched(alloc);
     let mut tally = Tally::EMPTY;
     let mut state = seed;
@@ -349,9 +349,9 @@ fn generated(alloc: Global, kind: Kind, count: u64, seed: u64) -> Mem<Tally> {
 /// within a value, were refused otherwise, or showed a fault of the library. No allocation is
 /// refused from then on.
 fn put_generated(alloc: Global, arguments: &str, text: &mut String) -> Result<(), Fault> {
-    let (kind, rest) = parted(arguments, '@')?;
+    let (kind, rest) = split_at_mark(arguments, '@')?;
     let (count, seed) = two_numbers(rest)?;
-    let tally = generated(alloc, Kind::of_name(kind)?, count, seed)?;
+    let tally = read_generated(alloc, Kind::of_name(kind)?, count, seed)?;
     tally.put(text).map_err(Fault::Memory)
 }
 

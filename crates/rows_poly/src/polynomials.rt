@@ -3,10 +3,10 @@
 use math_base::algebra::{Additive, Mem, Object, Space};
 use math_poly::poly::Poly;
 use math_samples::elements::Element;
-use rows_base::answer::{Answer, are_equal, put, put_firsts};
+use rows_base::answer::{Answer, put, put_firsts};
 use rows_base::fault::Fault;
 use rows_base::refusals::{begin, end};
-use rows_base::words::{element, elements, numbers, parted};
+use rows_base::words::{element, elements, numbers, split_at_mark};
 use std::alloc::Global;
 
 /// Runs a call of this module; `false` where it is none.
@@ -19,14 +19,14 @@ pub fn run<R: Element>(
     let p = match call {
         "poly_zero" => zero(alloc),
         "poly_clone" | "poly_neg" => of_one(alloc, call, arguments),
-        "poly_double" => doubled(alloc, arguments),
+        "poly_double" => double(alloc, arguments),
         "poly_add" | "poly_sub" => of_two(alloc, call, arguments),
         "poly_add_assign" | "poly_sub_assign" => by_another(alloc, call, arguments),
-        "poly_scaled" => scaled(alloc, arguments),
+        "poly_scaled" => multiple(alloc, arguments),
         "poly_scale_assign" => scaled_in_place(alloc, arguments),
-        "translate" => translated(alloc, arguments),
+        "translate" => translate(alloc, arguments),
         "poly_scale" => by_limbs(alloc, arguments),
-        "poly_msm" => weighted(alloc, arguments),
+        "poly_msm" => weighted_sum(alloc, arguments),
         _ => return run_others(alloc, call, arguments, answer),
     };
     put_found(alloc, p, answer).and(Ok(true))
@@ -49,7 +49,7 @@ fn run_others<R: Element>(
 ) -> Result<bool, Fault> {
     let done = match call {
         "eval" | "eval_msm" => answer.found(eval(alloc, call, arguments)),
-        "lin_comb_eval" => answer.found(combined(alloc, arguments)),
+        "lin_comb_eval" => answer.found(combined_values(alloc, arguments)),
         "poly_equals" => same(alloc, arguments, answer),
         "degree" => sizes(alloc, arguments, answer),
         _ => return Ok(false),
@@ -99,7 +99,7 @@ fn value<R: Element>(alloc: Global, call: &str, p: &Poly<R>, x: &R) -> Mem<R> {
 
 /// `eval C .. @ X`, `eval_msm C .. @ X`: the value at X.
 fn eval<R: Element>(alloc: Global, call: &str, arguments: &str) -> Result<R, Fault> {
-    let (coefficients, point) = parted(arguments, '@')?;
+    let (coefficients, point) = split_at_mark(arguments, '@')?;
     let p = polynomial::<R>(alloc, coefficients)?;
     let x = element::<R>(alloc, point)?;
     let given = begin(alloc, &(&p, &x));
@@ -110,7 +110,7 @@ fn eval<R: Element>(alloc: Global, call: &str, arguments: &str) -> Result<R, Fau
 
 /// The weight and the point of `W:X`, with this mark between them.
 pub fn weighted_point<R: Element>(alloc: Global, word: &str, mark: char) -> Result<(R, R), Fault> {
-    let (weight, point) = parted(word, mark)?;
+    let (weight, point) = split_at_mark(word, mark)?;
     let weight = element::<R>(alloc, weight)?;
     Ok((weight, element::<R>(alloc, point)?))
 }
@@ -125,8 +125,8 @@ fn weighted_points<R: Element>(alloc: Global, text: &str) -> Result<Vec<(R, R)>,
 }
 
 /// `lin_comb_eval C .. @ W:X ..`: the sum of the values at the points X, each times its weight W.
-fn combined<R: Element>(alloc: Global, arguments: &str) -> Result<R, Fault> {
-    let (coefficients, pairs) = parted(arguments, '@')?;
+fn combined_values<R: Element>(alloc: Global, arguments: &str) -> Result<R, Fault> {
+    let (coefficients, pairs) = split_at_mark(arguments, '@')?;
     let p = polynomial::<R>(alloc, coefficients)?;
     let pairs = weighted_points::<R>(alloc, pairs)?;
     let given = begin(alloc, &(&p, &pairs));
@@ -136,7 +136,7 @@ fn combined<R: Element>(alloc: Global, arguments: &str) -> Result<R, Fault> {
 }
 
 /// A copy of the polynomial.
-fn copied<R: Element>(alloc: Global, p: &Poly<R>) -> Mem<Poly<R>> {
+fn clone_of<R: Element>(alloc: Global, p: &Poly<R>) -> Mem<Poly<R>> {
     let given = begin(alloc, p);
     let out = p.clone(alloc);
     end(alloc, given, p, out.is_err());
@@ -155,14 +155,14 @@ fn negative<R: Element>(alloc: Global, p: Poly<R>) -> Mem<Poly<R>> {
 fn of_one<R: Element>(alloc: Global, call: &str, arguments: &str) -> Result<Poly<R>, Fault> {
     let p = polynomial::<R>(alloc, arguments)?;
     let out = match call {
-        "poly_clone" => copied(alloc, &p),
+        "poly_clone" => clone_of(alloc, &p),
         _ => negative(alloc, p),
     };
     out.map_err(Fault::Memory)
 }
 
 /// `poly_double C ..`.
-fn doubled<R: Element>(alloc: Global, arguments: &str) -> Result<Poly<R>, Fault> {
+fn double<R: Element>(alloc: Global, arguments: &str) -> Result<Poly<R>, Fault> {
     let mut p = polynomial::<R>(alloc, arguments)?;
     let given = begin(alloc, &p);
     let done = p.double(alloc);
@@ -186,7 +186,7 @@ fn sum_or_difference<R: Element>(
 
 /// The polynomials of `A .. @ B ..`.
 fn two<R: Element>(alloc: Global, text: &str) -> Result<(Poly<R>, Poly<R>), Fault> {
-    let (a, b) = parted(text, '@')?;
+    let (a, b) = split_at_mark(text, '@')?;
     let p = polynomial::<R>(alloc, a)?;
     Ok((p, polynomial::<R>(alloc, b)?))
 }
@@ -220,13 +220,13 @@ fn by_another<R: Element>(alloc: Global, call: &str, arguments: &str) -> Result<
 
 /// The polynomial and the element of `C .. @ X`.
 fn with_element<R: Element>(alloc: Global, text: &str) -> Result<(Poly<R>, R), Fault> {
-    let (coefficients, x) = parted(text, '@')?;
+    let (coefficients, x) = split_at_mark(text, '@')?;
     let p = polynomial::<R>(alloc, coefficients)?;
     Ok((p, element::<R>(alloc, x)?))
 }
 
 /// `poly_scaled C .. @ X`: the multiple by X.
-fn scaled<R: Element>(alloc: Global, arguments: &str) -> Result<Poly<R>, Fault> {
+fn multiple<R: Element>(alloc: Global, arguments: &str) -> Result<Poly<R>, Fault> {
     let (p, x) = with_element::<R>(alloc, arguments)?;
     let given = begin(alloc, &x);
     let out = Space::<R>::scaled(p, alloc, &x);
@@ -245,7 +245,7 @@ fn scaled_in_place<R: Element>(alloc: Global, arguments: &str) -> Result<Poly<R>
 }
 
 /// `translate C .. @ X`: X is added to each coefficient.
-fn translated<R: Element>(alloc: Global, arguments: &str) -> Result<Poly<R>, Fault> {
+fn translate<R: Element>(alloc: Global, arguments: &str) -> Result<Poly<R>, Fault> {
     let (p, x) = with_element::<R>(alloc, arguments)?;
     let given = begin(alloc, &(&p, &x));
     let out = p.translate(alloc, |c: &R| c.clone(alloc)?.add(alloc, &x));
@@ -255,7 +255,7 @@ fn translated<R: Element>(alloc: Global, arguments: &str) -> Result<Poly<R>, Fau
 
 /// `poly_scale C .. @ LIMB ..`: the multiple.
 fn by_limbs<R: Element>(alloc: Global, arguments: &str) -> Result<Poly<R>, Fault> {
-    let (coefficients, limbs) = parted(arguments, '@')?;
+    let (coefficients, limbs) = split_at_mark(arguments, '@')?;
     let limbs = numbers(alloc, limbs)?;
     let p = polynomial::<R>(alloc, coefficients)?;
     let given = begin(alloc, &(&p, &limbs));
@@ -265,8 +265,8 @@ fn by_limbs<R: Element>(alloc: Global, arguments: &str) -> Result<Poly<R>, Fault
 }
 
 /// `poly_msm A .. ; B .. ; .. @ S ..`: the sum of the multiples.
-fn weighted<R: Element>(alloc: Global, arguments: &str) -> Result<Poly<R>, Fault> {
-    let (points, scalars) = parted(arguments, '@')?;
+fn weighted_sum<R: Element>(alloc: Global, arguments: &str) -> Result<Poly<R>, Fault> {
+    let (points, scalars) = split_at_mark(arguments, '@')?;
     let points = polynomials::<R>(alloc, points)?;
     let scalars = elements::<R>(alloc, scalars)?;
     let given = begin(alloc, &(&points, &scalars));
@@ -278,10 +278,7 @@ fn weighted<R: Element>(alloc: Global, arguments: &str) -> Result<Poly<R>, Fault
 /// `poly_equals A .. ; B .. ; ..`: for each polynomial the place of the first that it equals.
 fn same<R: Element>(alloc: Global, arguments: &str, answer: &mut Answer<R>) -> Result<(), Fault> {
     let items = polynomials::<R>(alloc, arguments)?;
-    put_firsts(&mut answer.text, &items, |a: &Poly<R>, b: &Poly<R>| {
-        are_equal(alloc, a, b)
-    })
-    .map_err(Fault::Memory)
+    put_firsts(alloc, &items, &mut answer.text).map_err(Fault::Memory)
 }
 
 /// Adds the degree, the exact degree, and the number of values that fix the polynomial.

@@ -11,7 +11,7 @@ use math_samples::sources::Listed;
 use rows_base::answer::{Answer, put};
 use rows_base::fault::Fault;
 use rows_base::refusals::{begin, end};
-use rows_base::words::{element, numbers, parted, short, two_numbers};
+use rows_base::words::{element, numbers, short, split_at_mark, two_numbers};
 use rows_ntt::matrices::put_matrix;
 use std::alloc::Global;
 
@@ -69,7 +69,7 @@ fn put_sample<R: Element + Random>(
     arguments: &str,
     answer: &mut Answer<R>,
 ) -> Result<(), Fault> {
-    let (how, words) = parted(arguments, '@')?;
+    let (how, words) = split_at_mark(arguments, '@')?;
     let words = numbers(alloc, words)?;
     let mut source = Listed::new(&words);
     let done = match call {

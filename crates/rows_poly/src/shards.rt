@@ -8,7 +8,7 @@ use math_shards::shards::{Error, Joined, Shard, join, join_corrected, split};
 use rows_base::answer::{put, put_all, put_bytes, put_rest};
 use rows_base::fault::Fault;
 use rows_base::refusals::{begin, end};
-use rows_base::words::{bytes, elements, numbers, parted, short};
+use rows_base::words::{bytes, elements, numbers, short, split_at_mark};
 use std::alloc::{AllocError, Global};
 
 /// Runs a call of this module; `false` where it is none.
@@ -41,7 +41,7 @@ fn put_shard(text: &mut String, shard: &Shard) -> Mem<()> {
 
 /// The shard that a text writes.
 fn shard_in(alloc: Global, text: &str) -> Result<Shard, Fault> {
-    let (head, cells) = parted(text, ':')?;
+    let (head, cells) = split_at_mark(text, ':')?;
     let mut words = head.split_whitespace();
     let (Some(index), Some(min), Some(total)) = (words.next(), words.next(), words.next()) else {
         return Err(Fault::Unreadable("shard"));
@@ -66,7 +66,7 @@ fn shards_of(alloc: Global, data: &[u64], min: u32, total: u32) -> Result<Vec<Sh
 
 /// `MIN TOTAL`, of which neither is above 2^32 - 1.
 fn min_and_total(text: &str) -> Result<(u32, u32), Fault> {
-    let (min, total) = parted(text.trim(), ' ')?;
+    let (min, total) = split_at_mark(text.trim(), ' ')?;
     Ok((short(min)?, short(total)?))
 }
 
@@ -97,7 +97,7 @@ fn put_split(
 
 /// `split MIN TOTAL ; W ..`: the shards, with `;` between them.
 fn split_words(alloc: Global, arguments: &str, text: &mut String) -> Result<(), Fault> {
-    let (head, data) = parted(arguments, ';')?;
+    let (head, data) = split_at_mark(arguments, ';')?;
     let (min, total) = min_and_total(head)?;
     let data = numbers(alloc, data)?;
     put_split(alloc, &data, min, total, text)
@@ -118,7 +118,7 @@ fn put_refusal(text: &mut String, error: &Error) -> Mem<()> {
 }
 
 /// The words that shards give back.
-fn joined(alloc: Global, shards: &[Shard]) -> Result<Vec<u64>, Error> {
+fn join_words(alloc: Global, shards: &[Shard]) -> Result<Vec<u64>, Error> {
     let given = begin(alloc, &shards);
     let out = join(alloc, shards);
     end(alloc, given, &shards, matches!(out, Err(Error::Memory(_))));
@@ -126,7 +126,7 @@ fn joined(alloc: Global, shards: &[Shard]) -> Result<Vec<u64>, Error> {
 }
 
 /// The words that shards give back, of which some are wrong, and the positions of these.
-fn corrected(alloc: Global, shards: &[Shard]) -> Result<Joined, Error> {
+fn correct_words(alloc: Global, shards: &[Shard]) -> Result<Joined, Error> {
     let given = begin(alloc, &shards);
     let out = join_corrected(alloc, shards);
     end(alloc, given, &shards, matches!(out, Err(Error::Memory(_))));
@@ -135,7 +135,7 @@ fn corrected(alloc: Global, shards: &[Shard]) -> Result<Joined, Error> {
 
 /// Adds the words that shards give back, after `data`, or why they give none.
 fn put_joined(alloc: Global, shards: &[Shard], text: &mut String) -> Mem<()> {
-    match joined(alloc, shards) {
+    match join_words(alloc, shards) {
         Ok(data) => put_data(text, &data),
         Err(error) => put_refusal(text, &error),
     }
@@ -171,7 +171,7 @@ fn put_corrected(text: &mut String, joined: &Joined) -> Mem<()> {
 /// `join_corrected SHARD ; ..`: `data` and the words, `left out` and the positions, or the refusal.
 fn join_wrong_shards(alloc: Global, arguments: &str, text: &mut String) -> Result<(), Fault> {
     let shards = shards_in(alloc, arguments)?;
-    let done = match corrected(alloc, &shards) {
+    let done = match correct_words(alloc, &shards) {
         Ok(joined) => put_corrected(text, &joined),
         Err(error) => put_refusal(text, &error),
     };
@@ -198,7 +198,7 @@ fn is_pair_left_out(
     words: &[u64],
 ) -> Mem<bool> {
     let given = with_pair_changed(alloc, shards, pair, k)?;
-    match corrected(alloc, &given) {
+    match correct_words(alloc, &given) {
         Ok(joined) => Ok(joined.words.as_slice() == words && joined.left_out.as_slice() == pair),
         Err(Error::Memory(e)) => Err(e),
         Err(_) => Ok(false),
@@ -224,7 +224,7 @@ fn pairs_left_out(alloc: Global, shards: &[Shard], words: &[u64]) -> Mem<u64> {
 /// `join_each_pair MIN TOTAL ; W ..`: for how many pairs of shards and cells of these, with one
 /// more in this cell of both, the words are given back and the pair is left out.
 fn join_each_pair(alloc: Global, arguments: &str, text: &mut String) -> Result<(), Fault> {
-    let (head, data) = parted(arguments, ';')?;
+    let (head, data) = split_at_mark(arguments, ';')?;
     let (min, total) = min_and_total(head)?;
     let data = numbers(alloc, data)?;
     let shards = shards_of(alloc, &data, min, total)?;
@@ -251,7 +251,7 @@ fn copy_of(alloc: Global, shard: &Shard, changed: Option<usize>) -> Mem<Shard> {
 }
 
 /// Copies of the shards whose bits are set, with one more in cell `cell` of shard `changed`.
-fn chosen(
+fn chosen_copies(
     alloc: Global,
     shards: &[Shard],
     set: u64,
@@ -270,7 +270,7 @@ fn chosen(
 
 /// Whether the shards of a set, with one more in cell k of shard `changed`, are of no data.
 fn is_damage_found(alloc: Global, shards: &[Shard], set: u64, changed: u32, k: usize) -> Mem<bool> {
-    let all = chosen(alloc, shards, set, changed, Some(k))?;
+    let all = chosen_copies(alloc, shards, set, changed, Some(k))?;
     is_of_no_data(alloc, &all)
 }
 
@@ -298,7 +298,7 @@ fn damages_found(alloc: Global, shards: &[Shard], set: u64) -> Mem<u64> {
 
 /// Whether the shards are refused as those of no data.
 fn is_of_no_data(alloc: Global, shards: &[Shard]) -> Mem<bool> {
-    match joined(alloc, shards) {
+    match join_words(alloc, shards) {
         Err(Error::Memory(e)) => Err(e),
         Err(Error::Inconsistent) => Ok(true),
         _ => Ok(false),
@@ -307,7 +307,7 @@ fn is_of_no_data(alloc: Global, shards: &[Shard]) -> Mem<bool> {
 
 /// Whether the shards give these words back.
 fn give_back(alloc: Global, shards: &[Shard], data: &[u64]) -> Mem<bool> {
-    match joined(alloc, shards) {
+    match join_words(alloc, shards) {
         Err(Error::Memory(e)) => Err(e),
         Ok(found) => Ok(found.as_slice() == data),
         _ => Ok(false),
@@ -316,7 +316,7 @@ fn give_back(alloc: Global, shards: &[Shard], data: &[u64]) -> Mem<bool> {
 
 /// Whether the shards of a set give these words back.
 fn set_gives_back(alloc: Global, shards: &[Shard], set: u64, data: &[u64]) -> Mem<bool> {
-    let some = chosen(alloc, shards, set, 0, None)?;
+    let some = chosen_copies(alloc, shards, set, 0, None)?;
     give_back(alloc, &some, data)
 }
 
@@ -345,7 +345,7 @@ fn sets_joined(
 /// `join_each_set MIN TOTAL ; W ..`: how many sets of `min` shards give the words back, and in how
 /// many ways one more in a cell of such a set, beside a further shard, is refused as of no data.
 fn join_each_set(alloc: Global, arguments: &str, text: &mut String) -> Result<(), Fault> {
-    let (head, data) = parted(arguments, ';')?;
+    let (head, data) = split_at_mark(arguments, ';')?;
     let (min, total) = min_and_total(head)?;
     if total > 16 {
         return Err(Fault::OutOfRange("too many sets"));
@@ -387,7 +387,7 @@ fn write_shard(alloc: Global, arguments: &str, text: &mut String) -> Result<(), 
 /// `write_shard_after BYTE .. @ INDEX MIN TOTAL : CELL ..`: these bytes, and then those of the
 /// shard.
 fn write_shard_after(alloc: Global, arguments: &str, text: &mut String) -> Result<(), Fault> {
-    let (before, shard) = parted(arguments, '@')?;
+    let (before, shard) = split_at_mark(arguments, '@')?;
     let mut out = bytes(alloc, before)?;
     let shard = shard_in(alloc, shard)?;
     let _size = append(alloc, &shard, &mut out)?;
@@ -403,7 +403,7 @@ fn fault_of(error: codec::Error) -> Fault {
 }
 
 /// Reads a shard of at most so many cells from the front of the input.
-fn taken(alloc: Global, most: u32, input: &mut &[u8]) -> Result<Shard, codec::Error> {
+fn read_first_shard(alloc: Global, most: u32, input: &mut &[u8]) -> Result<Shard, codec::Error> {
     let given = begin(alloc, &*input);
     let shard = Shard::read_cfg(alloc, input, &most);
     end(
@@ -419,7 +419,7 @@ fn taken(alloc: Global, most: u32, input: &mut &[u8]) -> Result<Shard, codec::Er
 /// stand as it was.
 fn read_all(alloc: Global, most: u32, all: &[u8], text: &mut String) -> Result<(), Fault> {
     let mut input = all;
-    let shard = taken(alloc, most, &mut input);
+    let shard = read_first_shard(alloc, most, &mut input);
     if shard.is_err() && input.len() != all.len() {
         return Err(Fault::Unreadable("input that stands"));
     }
@@ -429,7 +429,7 @@ fn read_all(alloc: Global, most: u32, all: &[u8], text: &mut String) -> Result<(
 
 /// `read_shard MOST @ BYTE ..`: the shard, `rest` and how many bytes are left.
 fn read_shard(alloc: Global, arguments: &str, text: &mut String) -> Result<(), Fault> {
-    let (most, given) = parted(arguments, '@')?;
+    let (most, given) = split_at_mark(arguments, '@')?;
     let most = short(most)?;
     let given = bytes(alloc, given)?;
     read_all(alloc, most, &given, text)

@@ -4,10 +4,10 @@ use crate::polynomials::polynomial;
 use math_fields::goldilocks::F;
 use rows_base::answer::put_debug;
 use rows_base::fault::Fault;
-use rows_base::words::{element, number, parted};
+use rows_base::words::{element, number, split_at_mark};
 use rows_ntt::bitmaps::{empty, set};
 use rows_ntt::matrices::matrix;
-use rows_ntt::vectors::{filled, padded};
+use rows_ntt::vectors::{filled_vector, padded_columns};
 use std::alloc::Global;
 
 /// Runs a call of this module; `false` where it is none.
@@ -23,7 +23,7 @@ pub fn run(alloc: Global, call: &str, arguments: &str, text: &mut String) -> Res
 /// for the end of a line. A kind is `element A`, `poly C ..`, `matrix M`, `bitmap LG I ..`,
 /// `polynomials N @ M` or `values LG COLUMNS @ ROW : CELL .. @ ..`.
 fn put_text(alloc: Global, arguments: &str, text: &mut String) -> Result<(), Fault> {
-    let (kind, value) = parted(arguments, ' ')?;
+    let (kind, value) = split_at_mark(arguments, ' ')?;
     match kind {
         "element" => put_element(alloc, value, text),
         "poly" => put_polynomial(alloc, value, text),
@@ -55,7 +55,7 @@ fn put_matrix(alloc: Global, value: &str, text: &mut String) -> Result<(), Fault
 
 /// Adds the text of a bitmap of 2^LG points, of which those that are listed don't vanish.
 fn put_bitmap(alloc: Global, value: &str, text: &mut String) -> Result<(), Fault> {
-    let (size, indices) = parted(value, ' ')?;
+    let (size, indices) = split_at_mark(value, ' ')?;
     let mut points = empty(alloc, size)?;
     for word in indices.split_whitespace() {
         set(&mut points, number(word)?)?;
@@ -65,10 +65,10 @@ fn put_bitmap(alloc: Global, value: &str, text: &mut String) -> Result<(), Fault
 
 /// Adds the text of the columns of M as polynomials of N coefficients at least.
 fn put_polynomials(alloc: Global, value: &str, text: &mut String) -> Result<(), Fault> {
-    let (n, m) = parted(value, '@')?;
+    let (n, m) = split_at_mark(value, '@')?;
     let n = number(n.trim())? as usize;
     let m = matrix::<F>(alloc, m)?;
-    match padded(alloc, &m, n)? {
+    match padded_columns(alloc, &m, n)? {
         Some(v) => put_debug(alloc, &v, text).map_err(Fault::Memory),
         None => Err(Fault::OutOfRange("no polynomials")),
     }
@@ -76,6 +76,6 @@ fn put_polynomials(alloc: Global, value: &str, text: &mut String) -> Result<(), 
 
 /// Adds the text of 2^LG rows of values, of which some are filled.
 fn put_values(alloc: Global, value: &str, text: &mut String) -> Result<(), Fault> {
-    let values = filled::<F>(alloc, value)?;
+    let values = filled_vector::<F>(alloc, value)?;
     put_debug(alloc, &values.vector, text).map_err(Fault::Memory)
 }

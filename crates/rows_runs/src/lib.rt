@@ -111,7 +111,7 @@ fn run_once<R: Field>(rt: &HostRuntime, line: Line<'_>) -> io::Result<bool> {
 
 /// Prints what the calls of a row did wrong while its n-th allocation was refused, and says whether
 /// they did nothing wrong.
-fn kept<R: Field>(rt: &HostRuntime, line: Line<'_>, n: u32) -> io::Result<bool> {
+fn try_refused<R: Field>(rt: &HostRuntime, line: Line<'_>, n: u32) -> io::Result<bool> {
     let mut right = true;
     for breach in Breach::ALL {
         if was_told(rt.alloc(), breach) {
@@ -135,7 +135,7 @@ fn run_refused<R: Field>(rt: &HostRuntime, line: Line<'_>, n: u32) -> io::Result
     refuse(rt.alloc(), n);
     let known = R::run(rt.alloc(), line.row, &mut answer);
     let come = has_come(rt.alloc());
-    let kept = kept::<R>(rt, line, n)?;
+    let kept = try_refused::<R>(rt, line, n)?;
     if come {
         if matches!(known, Err(Fault::Memory(_))) {
             return Ok((true, kept));

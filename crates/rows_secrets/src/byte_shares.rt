@@ -7,7 +7,7 @@ use math_samples::sources::Listed;
 use rows_base::answer::{put, put_bytes};
 use rows_base::fault::Fault;
 use rows_base::refusals::{begin, end};
-use rows_base::words::{bytes, numbers, parted, short};
+use rows_base::words::{bytes, numbers, short, split_at_mark};
 use secret_bytes::{
     CombineError, Combined, DealError, LineError, LineFault, Lines, MOST_BYTES, SecretShare,
     combine, deal, read_lines, text_of,
@@ -79,15 +79,15 @@ fn deal_from(
 
 /// `T N`.
 fn counts(text: &str) -> Result<(u32, u32), Fault> {
-    let (t, n) = parted(text.trim(), ' ')?;
+    let (t, n) = split_at_mark(text.trim(), ' ')?;
     Ok((short(t)?, short(n)?))
 }
 
 /// `deal_bytes T N @ BYTE .. @ W ..`: the shares, with `;` between them, and how many words are
 /// left.
 fn deal_bytes(alloc: Global, arguments: &str, text: &mut String) -> Result<(), Fault> {
-    let (head, rest) = parted(arguments, '@')?;
-    let (all, words) = parted(rest, '@')?;
+    let (head, rest) = split_at_mark(arguments, '@')?;
+    let (all, words) = split_at_mark(rest, '@')?;
     let (t, n) = counts(head)?;
     let words = numbers(alloc, words)?;
     let all = bytes(alloc, all)?;

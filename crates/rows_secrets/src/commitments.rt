@@ -10,7 +10,7 @@ use math_samples::sources::Listed;
 use rows_base::answer::Answer;
 use rows_base::fault::Fault;
 use rows_base::refusals::{begin, end};
-use rows_base::words::{element, numbers, parted};
+use rows_base::words::{element, numbers, split_at_mark};
 use shared_secret::{DealError, Share, deal_committed, verify};
 use std::alloc::Global;
 
@@ -83,7 +83,7 @@ fn deal_shares<G: Element + Random + CryptoGroup<Scalar = G>>(
     arguments: &str,
     answer: &mut Answer<G>,
 ) -> Result<(), Fault> {
-    let (head, words) = parted(arguments, '@')?;
+    let (head, words) = split_at_mark(arguments, '@')?;
     let (secret, t, n) = secret_and_counts(head)?;
     let words = numbers(alloc, words)?;
     let secret = element::<G>(alloc, secret)?;
@@ -109,7 +109,7 @@ fn verify_share<G: Element + CryptoGroup<Scalar = G>>(
     arguments: &str,
     answer: &mut Answer<G>,
 ) -> Result<(), Fault> {
-    let (share, commitment) = parted(arguments, '@')?;
+    let (share, commitment) = split_at_mark(arguments, '@')?;
     let commitment = polynomial_of::<G>(alloc, commitment)?;
     let share = share_of::<G>(alloc, share.trim())?;
     put_verified(alloc, &share, &commitment, &mut answer.text).map_err(Fault::Memory)

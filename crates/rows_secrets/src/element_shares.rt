@@ -7,7 +7,7 @@ use math_samples::sources::Listed;
 use rows_base::answer::{Answer, put};
 use rows_base::fault::Fault;
 use rows_base::refusals::{begin, end};
-use rows_base::words::{element, elements, numbers, parted, short};
+use rows_base::words::{element, elements, numbers, short, split_at_mark};
 use shared_secret::{
     CombineError, Corrected, DealError, Share, Weights, combine, combine_corrected, deal, point,
     secret_of, shares_of, weigh,
@@ -71,7 +71,7 @@ pub(crate) fn put_left(text: &mut String, count: usize) -> Mem<()> {
 pub(crate) fn put_shares<R: Element>(shares: Vec<Share<R>>, answer: &mut Answer<R>) -> Mem<()> {
     for share in shares {
         let Share { index, value } = share;
-        answer.keyed(u64::from(index), value)?;
+        answer.add_keyed(u64::from(index), value)?;
     }
     Ok(())
 }
@@ -137,7 +137,7 @@ fn deal_shares<R: Element + Random>(
     arguments: &str,
     answer: &mut Answer<R>,
 ) -> Result<(), Fault> {
-    let (head, words) = parted(arguments, '@')?;
+    let (head, words) = split_at_mark(arguments, '@')?;
     let (secret, t, n) = secret_and_counts(head)?;
     let words = numbers(alloc, words)?;
     let secret = element::<R>(alloc, secret)?;
@@ -180,7 +180,7 @@ fn shares_of_polynomial<R: Element>(
     arguments: &str,
     answer: &mut Answer<R>,
 ) -> Result<(), Fault> {
-    let (n, coefficients) = parted(arguments, '@')?;
+    let (n, coefficients) = split_at_mark(arguments, '@')?;
     let n = short(n)?;
     let p = polynomial_of::<R>(alloc, coefficients)?;
     put_shares_of(alloc, &p, n, answer).map_err(Fault::Memory)
@@ -188,7 +188,7 @@ fn shares_of_polynomial<R: Element>(
 
 /// The share that a word `INDEX:VALUE` writes.
 pub(crate) fn share_of<R: Element>(alloc: Global, word: &str) -> Result<Share<R>, Fault> {
-    let (index, value) = parted(word, ':')?;
+    let (index, value) = split_at_mark(word, ':')?;
     let index = short(index)?;
     let value = element::<R>(alloc, value)?;
     Ok(Share { index, value })
@@ -230,7 +230,7 @@ fn combine_shares<R: Element>(
     arguments: &str,
     answer: &mut Answer<R>,
 ) -> Result<(), Fault> {
-    let (t, shares) = parted(arguments, '@')?;
+    let (t, shares) = split_at_mark(arguments, '@')?;
     let t = short(t)?;
     let shares = shares_in::<R>(alloc, shares)?;
     put_combined(alloc, t, &shares, answer).map_err(Fault::Memory)
@@ -277,7 +277,7 @@ fn correct_shares<R: Element>(
     arguments: &str,
     answer: &mut Answer<R>,
 ) -> Result<(), Fault> {
-    let (t, shares) = parted(arguments, '@')?;
+    let (t, shares) = split_at_mark(arguments, '@')?;
     let t = short(t)?;
     let shares = shares_in::<R>(alloc, shares)?;
     put_found(alloc, t, &shares, answer).map_err(Fault::Memory)
@@ -330,7 +330,7 @@ fn weigh_shares<R: Element>(
     arguments: &str,
     answer: &mut Answer<R>,
 ) -> Result<(), Fault> {
-    let (t, shares) = parted(arguments, '@')?;
+    let (t, shares) = split_at_mark(arguments, '@')?;
     let t = short(t)?;
     let shares = shares_in::<R>(alloc, shares)?;
     put_weighed(alloc, t, &shares, answer).map_err(Fault::Memory)
@@ -384,7 +384,7 @@ fn weighed_secret<R: Element>(
     arguments: &str,
     answer: &mut Answer<R>,
 ) -> Result<(), Fault> {
-    let (t, shares) = parted(arguments, '@')?;
+    let (t, shares) = split_at_mark(arguments, '@')?;
     let t = short(t)?;
     let shares = shares_in::<R>(alloc, shares)?;
     put_secret_of(alloc, t, shares, answer).map_err(Fault::Memory)

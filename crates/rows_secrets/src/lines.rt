@@ -7,7 +7,7 @@ use rows_base::answer::{put, put_bytes, put_rest};
 use rows_base::fault::Fault;
 use rows_base::goldilocks::put_element;
 use rows_base::refusals::{begin, end};
-use rows_base::words::{bytes, number, numbers, parted, short};
+use rows_base::words::{bytes, number, numbers, short, split_at_mark};
 use secret_bytes::{LineError, SecretShare, bytes_of, elements_of, line_of, share_in};
 use std::alloc::{AllocError, Global};
 
@@ -46,7 +46,7 @@ fn values_of(alloc: Global, text: &str) -> Result<Vec<F>, Fault> {
 
 /// The share that a text writes: `DEAL THRESHOLD INDEX : VALUE ..`.
 pub(crate) fn share_of(alloc: Global, text: &str) -> Result<SecretShare, Fault> {
-    let (head, values) = parted(text, ':')?;
+    let (head, values) = split_at_mark(text, ':')?;
     let mut words = head.split_whitespace();
     let (Some(deal), Some(threshold), Some(index)) = (words.next(), words.next(), words.next())
     else {
@@ -118,7 +118,7 @@ fn append(alloc: Global, share: &SecretShare, out: &mut Vec<u8>) -> Result<(), F
 
 /// `write_secret_share BYTE .. @ SHARE`: these bytes, and then those of the share.
 fn write_share(alloc: Global, arguments: &str, text: &mut String) -> Result<(), Fault> {
-    let (before, share) = parted(arguments, '@')?;
+    let (before, share) = split_at_mark(arguments, '@')?;
     let mut out = bytes(alloc, before)?;
     let share = share_of(alloc, share)?;
     append(alloc, &share, &mut out)?;
@@ -134,7 +134,11 @@ fn fault_of(error: codec::Error) -> Fault {
 }
 
 /// Reads a share of at most so many values from the front of the input.
-fn taken(alloc: Global, most: u32, input: &mut &[u8]) -> Result<SecretShare, codec::Error> {
+fn read_first_share(
+    alloc: Global,
+    most: u32,
+    input: &mut &[u8],
+) -> Result<SecretShare, codec::Error> {
     let given = begin(alloc, &*input);
     let share = SecretShare::read_cfg(alloc, input, &most);
     end(
@@ -150,7 +154,7 @@ fn taken(alloc: Global, most: u32, input: &mut &[u8]) -> Result<SecretShare, cod
 /// stand as it was.
 fn read_all(alloc: Global, most: u32, all: &[u8], text: &mut String) -> Result<(), Fault> {
     let mut input = all;
-    let share = taken(alloc, most, &mut input);
+    let share = read_first_share(alloc, most, &mut input);
     if share.is_err() && input.len() != all.len() {
         return Err(Fault::Unreadable("input that stands"));
     }
@@ -160,7 +164,7 @@ fn read_all(alloc: Global, most: u32, all: &[u8], text: &mut String) -> Result<(
 
 /// `read_secret_share MOST @ BYTE ..`: the share, `rest` and how many bytes are left.
 fn read_share(alloc: Global, arguments: &str, text: &mut String) -> Result<(), Fault> {
-    let (most, all) = parted(arguments, '@')?;
+    let (most, all) = split_at_mark(arguments, '@')?;
     let most = short(most)?;
     let all = bytes(alloc, all)?;
     read_all(alloc, most, &all, text)

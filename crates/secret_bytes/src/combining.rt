@@ -18,8 +18,8 @@ ghost use Rattle.secret_bytes.specs.Combined.{AreCombined, AreElementsOfShares, 
 ghost use Rattle.secret_bytes.specs.Passes.{AreFirstElements, AreReady, IsDecodedAt, IsDueRecovering, IsPass, indices_at};
 
 use crate::error::CombineError;
-use crate::keyed::unkeyed;
-use crate::one_deal::{Deal, firsts, settled};
+use crate::keyed::bytes_under_key;
+use crate::one_deal::{Deal, firsts, require_one_deal};
 use crate::share::SecretShare;
 use math_base::algebra::Mem;
 use math_decoding::decoding::decode;
@@ -82,13 +82,13 @@ pub fn combine(alloc: Global, shares: Vec<SecretShare>) -> Result<Combined, Comb
         deal: first.deal,
         width: first.values.len(),
     };
-    settled(alloc, &of, &shares)?;
+    require_one_deal(alloc, &of, &shares)?;
     let kept = firsts(alloc, shares)?;
     if kept.len() < t as usize {
         return Err(CombineError::TooFew(kept.len(), t));
     }
     let found = recover(alloc, t, of.width, kept)?;
-    let Some(bytes) = unkeyed(alloc, &found.elements)? else {
+    let Some(bytes) = bytes_under_key(alloc, &found.elements)? else {
         return Err(CombineError::Changed);
     };
     Ok(Combined {

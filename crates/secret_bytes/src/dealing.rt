@@ -16,7 +16,7 @@ ghost use Rattle.secret_bytes.specs.Deals.{AreDealtBytes, IsDueSampling, sample_
 ghost use Rattle.secret_bytes.specs.Rows.{AreDealtRows, AreRows, IsGrown};
 
 use crate::error::DealError;
-use crate::keyed::{drawn, keyed};
+use crate::keyed::{draw, elements_under_key};
 use crate::share::SecretShare;
 use math_base::algebra::Mem;
 use math_fields::goldilocks::F;
@@ -59,9 +59,9 @@ pub fn deal<G: Rng + CryptoRng>(
     ensures due { IfErr result (λ error. IsDueSampling (sample_count t (length bytes.now))
         (G.stream rng.old) (G.stream rng.new) error) }
 {
-    let deal = drawn(alloc, rng)?;
-    let key = drawn(alloc, rng)?;
-    let all = keyed(alloc, bytes, key)?;
+    let deal = draw(alloc, rng)?;
+    let key = draw(alloc, rng)?;
+    let all = elements_under_key(alloc, bytes, key)?;
     let mut rows = rows_at(alloc, t, n, deal, all.len())?;
     deal_all(alloc, &all, t, &mut rows, rng)?;
     let shares = shares_of(alloc, rows)?;
@@ -113,7 +113,7 @@ fn deal_all<G: Rng + CryptoRng>(
         (G.stream rng.old) (G.stream rng.new) error) }
 {
     for element in elements {
-        let p = sampled(alloc, *element, t, rng)?;
+        let p = sample_polynomial(alloc, *element, t, rng)?;
         push_values(rows, &p)?;
     }
     Ok(())
@@ -121,7 +121,7 @@ fn deal_all<G: Rng + CryptoRng>(
 
 /// The polynomial of t coefficients whose constant is the element, and whose others are the next
 /// elements of the source.
-fn sampled<G: Rng + CryptoRng>(
+fn sample_polynomial<G: Rng + CryptoRng>(
     alloc: Global,
     element: F,
     t: u32,
@@ -136,7 +136,7 @@ fn sampled<G: Rng + CryptoRng>(
     let mut p = Vec::with_capacity(alloc, t as usize)?;
     p.push(element)?;
     for _drawn in 0..t - 1 {
-        p.push(drawn(alloc, rng)?)?;
+        p.push(draw(alloc, rng)?)?;
     }
     Ok(p)
 }

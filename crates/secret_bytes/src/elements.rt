@@ -53,13 +53,6 @@ pub fn elements_of(alloc: Global, bytes: &[u8]) -> Mem<Vec<F>>
     Ok(elements)
 }
 
-/// The number of an element.
-fn word(a: &F) -> u64
-    ensures { result ≡ number a.now }
-{
-    u64::from_le_bytes(a.to_le_bytes())
-}
-
 /// Appends so many of the lowest bytes of the number, the lowest first, and says whether it has no
 /// more. What is appended stays where memory runs out.
 fn push_lowest(n: u64, count: usize, out: &mut Vec<u8>) -> Result<bool, AllocError>
@@ -77,7 +70,7 @@ fn push_lowest(n: u64, count: usize, out: &mut Vec<u8>) -> Result<bool, AllocErr
 }
 
 /// So many bytes of the elements, seven of each but the last; `None` where an element has more.
-fn unpacked(alloc: Global, count: usize, elements: &[F]) -> Mem<Option<Vec<u8>>>
+fn unpack(alloc: Global, count: usize, elements: &[F]) -> Mem<Option<Vec<u8>>>
     ensures some { IfOk result (λ answer. IfSome answer (λ bytes.
         (bytes.items ≡ unpacked count (map number elements.now))
         × AllFit count (map number elements.now))) }
@@ -89,7 +82,7 @@ fn unpacked(alloc: Global, count: usize, elements: &[F]) -> Mem<Option<Vec<u8>>>
     let mut rest = elements;
     while let Some((element, after)) = rest.split_first() {
         let taken = BYTES.min(left);
-        if !push_lowest(word(element), taken, &mut bytes)? {
+        if !push_lowest(element.number(), taken, &mut bytes)? {
             return Ok(None);
         }
         left -= taken;
@@ -114,7 +107,7 @@ pub fn bytes_of(alloc: Global, elements: &[F]) -> Mem<Option<Vec<u8>>>
     let Some((count, rest)) = elements.split_first() else {
         return Ok(None);
     };
-    let count = word(count);
+    let count = count.number();
     if count >= 1 << 32 {
         return Ok(None);
     }
@@ -122,5 +115,5 @@ pub fn bytes_of(alloc: Global, elements: &[F]) -> Mem<Option<Vec<u8>>>
     if rest.len() != count.div_ceil(BYTES) {
         return Ok(None);
     }
-    unpacked(alloc, count, rest)
+    unpack(alloc, count, rest)
 }

@@ -15,7 +15,7 @@ use rand_core::{CryptoRng, Rng};
 use std::alloc::Global;
 
 /// An element of the source, or `TooManyWords` where the source gives none.
-pub(crate) fn drawn<G: Rng + CryptoRng>(alloc: Global, rng: &mut G) -> Result<F, DealError>
+pub(crate) fn draw<G: Rng + CryptoRng>(alloc: Global, rng: &mut G) -> Result<F, DealError>
     ensures sampled { IfOk result
         (λ a. sample_of (G.stream rng.old) ≡ (Some a, G.stream rng.new)) }
     ensures refused { IfErr result (λ error.
@@ -26,7 +26,7 @@ pub(crate) fn drawn<G: Rng + CryptoRng>(alloc: Global, rng: &mut G) -> Result<F,
 }
 
 /// The elements of the bytes, of which there are fewer than 2^32, a key, and their check under it.
-pub(crate) fn keyed(alloc: Global, bytes: &[u8], key: F) -> Mem<Vec<F>>
+pub(crate) fn elements_under_key(alloc: Global, bytes: &[u8], key: F) -> Mem<Vec<F>>
     requires { length bytes.now < 2 ^ 32 }
     ensures { IfOk result (λ all. AreKeyedBy key bytes.now all.items) }
 {
@@ -40,7 +40,7 @@ pub(crate) fn keyed(alloc: Global, bytes: &[u8], key: F) -> Mem<Vec<F>>
 /// The bytes whose elements, with a key and a check, these are; `None` exactly where there are no
 /// such bytes: the check is not that of the elements under the key, or the elements are those of no
 /// bytes.
-pub(crate) fn unkeyed(alloc: Global, all: &[F]) -> Mem<Option<Vec<u8>>>
+pub(crate) fn bytes_under_key(alloc: Global, all: &[F]) -> Mem<Option<Vec<u8>>>
     ensures some { IfOk result
         (λ answer. IfSome answer (λ bytes. AreKeyed bytes.items all.now)) }
     ensures none { IfOk result

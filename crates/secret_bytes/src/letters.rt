@@ -92,7 +92,7 @@ pub(super) fn bytes_in_front(alloc: Global, text: &[u8]) -> Result<Vec<u8>, Allo
 }
 
 /// The bytes that the text has as letters, where it is so many letters in groups.
-pub(super) fn ungrouped(alloc: Global, text: &[u8]) -> Result<Option<Vec<u8>>, AllocError>
+pub(super) fn read_groups(alloc: Global, text: &[u8]) -> Result<Option<Vec<u8>>, AllocError>
     ensures some { IfOk result (λ answer. IfSome answer (λ bytes. text.now ≡ grouped true bytes.items)) }
     ensures again { IfOk result (λ answer. (bytes : List ℕ) → All (λ b. b < 256) bytes
         → text.now ≡ grouped true bytes → IfSome answer (λ found. found.items ≡ bytes)) }

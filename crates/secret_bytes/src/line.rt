@@ -14,7 +14,7 @@ ghost use Rattle.secret_bytes.specs.Lines.{body_spelling, line_spelling};
 ghost use Rattle.secret_bytes.specs.Refusals.{IsDueRefusal, IsMemory};
 ghost use Rattle.secret_bytes.specs.declared.line.LineError.TheVariants.{Memory, NoShare};
 
-use crate::letters::{bytes_in_front, push_grouped, ungrouped};
+use crate::letters::{bytes_in_front, push_grouped, read_groups};
 use crate::share::{MOST_VALUES, SecretShare};
 use math_codec::codec::{Error, Mem, Read, Write, decode};
 use math_fields::goldilocks::F;
@@ -184,7 +184,7 @@ fn share_of_body(alloc: Global, body: &[u8]) -> Result<SecretShare, LineError>
     let Some(letters) = after_mark(body) else {
         return Err(LineError::NoShare);
     };
-    let Some(bytes) = ungrouped(alloc, letters)? else {
+    let Some(bytes) = read_groups(alloc, letters)? else {
         return Err(LineError::NoShare);
     };
     match decode::<SecretShare>(alloc, &bytes, &MOST_VALUES) {

@@ -80,7 +80,11 @@ fn fault_of(
 ///
 /// It refuses at the first share that does not stand with those before it. Each share is compared
 /// with the first of its index alone, which a map finds.
-pub(crate) fn settled(alloc: Global, of: &Deal, shares: &[SecretShare]) -> Result<(), CombineError>
+pub(crate) fn require_one_deal(
+    alloc: Global,
+    of: &Deal,
+    shares: &[SecretShare],
+) -> Result<(), CombineError>
     ensures stand { IfOk result (λ _. StandBelow of.now.threshold of.now.deal of.now.width
         shares.now (length shares.now)) }
     ensures small { IfOk result (λ _. All (λ s. s.index < 2 ^ 32) shares.now) }

@@ -75,7 +75,7 @@ fn space_size(text: &[u8]) -> usize
 }
 
 /// The text without white space and marks of the byte order.
-fn unspaced(alloc: Global, text: &[u8]) -> Mem<Vec<u8>>
+fn without_space(alloc: Global, text: &[u8]) -> Mem<Vec<u8>>
     ensures { IfOk result (λ out. out.items ≡ unspaced 0 text.now) }
 {
     let mut out = Vec::with_capacity(alloc, text.len())?;
@@ -96,7 +96,7 @@ fn unspaced(alloc: Global, text: &[u8]) -> Mem<Vec<u8>>
 }
 
 /// The text without the marks of a quotation at its beginning.
-fn unquoted(text: &[u8]) -> &[u8]
+fn without_quotation(text: &[u8]) -> &[u8]
     ensures { result.now ≡ unquoted text.now }
 {
     let mut rest = text;
@@ -124,7 +124,7 @@ fn digit_count(text: &[u8]) -> usize
 }
 
 /// The text without the number and the colon at its beginning, where both are there.
-fn unnumbered(text: &[u8]) -> &[u8]
+fn without_number(text: &[u8]) -> &[u8]
     ensures { result.now ≡ unnumbered text.now }
 {
     let count = digit_count(text);
@@ -152,9 +152,9 @@ fn push_capitals(text: &[u8], out: &mut Vec<u8>) -> Mem<()>
 pub(crate) fn letters_of(alloc: Global, line: &[u8]) -> Mem<Vec<u8>>
     ensures { IfOk result (λ out. out.items ≡ letters_of line.now) }
 {
-    let text = unspaced(alloc, line)?;
+    let text = without_space(alloc, line)?;
     let mut out = Vec::with_capacity(alloc, text.len())?;
-    push_capitals(unnumbered(unquoted(&text)), &mut out)?;
+    push_capitals(without_number(without_quotation(&text)), &mut out)?;
     Ok(out)
 }
 

@@ -78,7 +78,7 @@ pub fn dealt<G: Rng + CryptoRng>(
 /// It refuses as `secret_bytes::read_lines` does; then the first share whose threshold or index is
 /// above 255; and then shares as `secret_bytes::combine` does, with the line and the index of the
 /// share that is meant.
-pub fn combined(alloc: Global, text: &[u8]) -> Result<Told, Fault>
+pub fn combine_lines(alloc: Global, text: &[u8]) -> Result<Told, Fault>
     ensures answer { IfOk result (λ told. IsAnswerTo text.now told.out.items) }
     ensures due { IfErr result (IsDueFor text.now) }
 {
@@ -96,7 +96,7 @@ pub fn combined(alloc: Global, text: &[u8]) -> Result<Told, Fault>
     }
     let found = match combine(alloc, shares) {
         Ok(found) => found,
-        Err(error) => return Err(named(&numbers, &indices, error)),
+        Err(error) => return Err(fault_in_line(&numbers, &indices, error)),
     };
     let mut err = String::new(alloc);
     for index in &in_order(alloc, &indices, &found.wrong)? {
@@ -169,7 +169,7 @@ fn fault_of(fault: LineFault) -> Fault
 }
 
 /// The fault with the line and the index of the share that is meant.
-fn named(numbers: &[usize], indices: &[u32], error: CombineError) -> Fault
+fn fault_in_line(numbers: &[usize], indices: &[u32], error: CombineError) -> Fault
     ensures { IsNamed numbers.now indices.now error result }
 {
     let place = match &error {

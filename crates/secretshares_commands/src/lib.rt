@@ -12,7 +12,7 @@
 mod calls;
 mod fault;
 
-use calls::{Told, combined, counts, dealt};
+use calls::{Told, combine_lines, counts, dealt};
 use fault::{Fault, WrongWord};
 use rand::make_rng;
 use rand::rngs::StdRng;
@@ -122,7 +122,7 @@ fn combine(rt: &HostRuntime, words: &[String]) -> Result<(), Fault> {
         return Err(Fault::Usage(WrongWord::NoMore("combine")));
     }
     let text = input(rt, u64::MAX, LINES_AT_TERMINAL)?;
-    let told = combined(rt.alloc(), &text)?;
+    let told = combine_lines(rt.alloc(), &text)?;
     print_told(rt, &told)
 }
 

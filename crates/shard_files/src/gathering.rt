@@ -8,7 +8,7 @@ use crate::names::{name_before_number, shard_name};
 use crate::sources::{IMPOSSIBLE_HEADER, MOST_KEPT_OPEN, ShardFile, is_shard_file};
 use crate::split::Split;
 use crate::wanted::{WantedFiles, distinct, numbers_there};
-use partial_files::fault::owned;
+use partial_files::fault::copy_of;
 use shard_format::header::{Header, Verdict};
 use shard_format::splits::{Choice, chosen_split};
 use std::alloc::{AllocError, Global};
@@ -44,7 +44,7 @@ fn open_beside(rt: &HostRuntime, file: &str, files: &mut Vec<ShardFile>) -> Resu
 fn open_named(rt: &HostRuntime, names: &[&str], files: &mut Vec<ShardFile>) -> Result<(), Fault> {
     for name in &distinct(rt, names)? {
         let is_kept = files.len() < MOST_KEPT_OPEN;
-        files.push(ShardFile::open(rt, owned(rt.alloc(), name)?, None, is_kept)?)?;
+        files.push(ShardFile::open(rt, copy_of(rt.alloc(), name)?, None, is_kept)?)?;
     }
     files.sort_by_key(|file| file.number)?;
     Ok(())
@@ -62,7 +62,7 @@ fn leave_out_others(file: &mut ShardFile, split: &Header) {
     let Some(header) = file.header() else {
         return;
     };
-    match header.judged(file.number.unwrap_or(header.index), split) {
+    match header.judge(file.number.unwrap_or(header.index), split) {
         Verdict::Fits => {}
         Verdict::Impossible => file.leave_out(IMPOSSIBLE_HEADER),
         Verdict::OtherIndex => file.leave_out("has the header of a shard with another number"),
@@ -97,7 +97,7 @@ pub fn gather(
         note_length(shard, is_long);
     }
     if !is_long && count_there(files) >= split.header.min as usize {
-        return Err(Fault::Length(owned(rt.alloc(), wanted.label())?));
+        return Err(Fault::Length(copy_of(rt.alloc(), wanted.label())?));
     }
     Ok(split)
 }
@@ -135,16 +135,16 @@ fn tie(
     other: &Header,
 ) -> Result<Fault, AllocError> {
     Ok(Fault::Tie(
-        owned(alloc, wanted.label())?,
-        owned(alloc, name_of(files, one))?,
-        owned(alloc, name_of(files, other))?,
+        copy_of(alloc, wanted.label())?,
+        copy_of(alloc, name_of(files, one))?,
+        copy_of(alloc, name_of(files, other))?,
     ))
 }
 
 /// The fault of files of which none counts. Where the name that is meant is that of a shard file,
 /// it says what is to be given in its place.
 pub(crate) fn no_shard(rt: &HostRuntime, wanted: &WantedFiles) -> Result<Fault, Fault> {
-    let label = owned(rt.alloc(), wanted.label())?;
+    let label = copy_of(rt.alloc(), wanted.label())?;
     let WantedFiles::Beside(name) = wanted else {
         return Ok(Fault::NoShard(label));
     };
@@ -155,7 +155,7 @@ pub(crate) fn no_shard(rt: &HostRuntime, wanted: &WantedFiles) -> Result<Fault, 
         return Ok(Fault::IsShard(label, named));
     }
     if is_shard_file(rt, name)? {
-        let named = owned(rt.alloc(), "--shards and shard files")?;
+        let named = copy_of(rt.alloc(), "--shards and shard files")?;
         return Ok(Fault::IsShard(label, named));
     }
     Ok(Fault::NoShard(label))
@@ -259,7 +259,7 @@ pub fn check_count(
     let there = count_there(files);
     let min = split.header.min;
     if there < min as usize {
-        return Err(Fault::TooFew(owned(alloc, wanted.label())?, there, min));
+        return Err(Fault::TooFew(copy_of(alloc, wanted.label())?, there, min));
     }
     Ok(())
 }

@@ -11,7 +11,7 @@ pub use crate::tree::BlockTree;
 use crate::tree::{Claim, claim_of, majority_of};
 use crate::wanted::WantedFiles;
 use hash_trees::Digest;
-use partial_files::fault::owned;
+use partial_files::fault::copy_of;
 use shard_format::header::Header;
 
 /// How shard files are read.
@@ -113,7 +113,7 @@ fn no_claimant(
     if !is_used {
         return no_shard(rt, wanted);
     }
-    let label = owned(rt.alloc(), wanted.label())?;
+    let label = copy_of(rt.alloc(), wanted.label())?;
     if has_paths {
         Ok(Fault::NoRoot(label, root))
     } else {

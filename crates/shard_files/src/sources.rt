@@ -2,7 +2,7 @@
 
 use crate::fault::Fault;
 use math_codec::codec::{self, Read};
-use partial_files::fault::{Fault as FileFault, owned};
+use partial_files::fault::{Fault as FileFault, copy_of};
 use partial_files::identity::{Identity, check_no_input};
 use partial_files::rights::rights_of;
 use shard_format::header::{Header, LARGEST_HEADER};
@@ -163,7 +163,7 @@ fn open_file(rt: &HostRuntime, name: &str) -> Result<Option<File>, FileFault> {
     match fs::open(rt, name) {
         Ok(file) => Ok(Some(file)),
         Err(error) if is_want_of_room(&error) => {
-            Err(FileFault::File(owned(rt.alloc(), name)?, error))
+            Err(FileFault::File(copy_of(rt.alloc(), name)?, error))
         }
         Err(_) => Ok(None),
     }
@@ -254,7 +254,7 @@ pub fn check_no_source(rt: &HostRuntime, out: &str, files: &[ShardFile]) -> Resu
         return Ok(());
     }
     if is_shard_file(rt, out)? {
-        return Err(FileFault::Input(owned(rt.alloc(), out)?));
+        return Err(FileFault::Input(copy_of(rt.alloc(), out)?));
     }
     for shard in files {
         if let Some(input) = Identity::at(rt, shard.name.as_str()) {

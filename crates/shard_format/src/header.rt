@@ -290,13 +290,6 @@ fn read_keys(alloc: Global, input: &mut &[u8]) -> Result<Keys, Error>
     Ok(Keys { first, second })
 }
 
-/// The number of an element.
-pub(crate) fn number_of(a: F) -> u64
-    ensures { result ≡ number a }
-{
-    u64::from_le_bytes(a.to_le_bytes())
-}
-
 /// Reads the fingerprints of some words under two keys.
 #[tactic(auto, unfolding(crate::specs::Headers::scan_fingerprints))]
 fn read_fingerprints(
@@ -313,8 +306,8 @@ fn read_fingerprints(
         (scan_fingerprints words.now keys.now.first keys.now.second input.old.now) }
 {
     let fingerprints = words_fingerprints(keys, words);
-    let first = number_of(fingerprints.first);
-    let second = number_of(fingerprints.second);
+    let first = fingerprints.first.number();
+    let second = fingerprints.second.number();
     let mut rest = *input;
     read_fixed(alloc, &mut rest, first, "fingerprint")?;
     read_fixed(alloc, &mut rest, second, "fingerprint")?;
@@ -554,7 +547,7 @@ impl Header {
 
     /// Returns the verdict on this header: whether it is that of the shard with this number, of the
     /// split that the other header belongs to.
-    pub fn judged(&self, number: u32, split: &Header) -> Verdict
+    pub fn judge(&self, number: u32, split: &Header) -> Verdict
         ensures fits { result ≡ Fits ↔ IsThatOf self.now number split.now }
         ensures impossible { result ≡ Impossible ↔ ¬ (IsPossible self.now) }
         ensures index { result ≡ OtherIndex → ¬ (self.now.index ≡ number) }

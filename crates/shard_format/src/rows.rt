@@ -18,7 +18,7 @@ ghost use Rattle.shard_format.specs.Rows.{BeginsWith, HaveWords, IsRowOfHeader, 
 ghost use Rattle.shard_format.specs.Rows.{bound_of_row, row_elements, row_record_spelling};
 ghost use Rattle.shard_format.specs.Rows.{row_spelling, row_words};
 
-use crate::header::{Header, number_of, read_number, write_pair};
+use crate::header::{Header, read_number, write_pair};
 use crate::records::record_numbers;
 use math_base::algebra::Mem;
 use math_codec::codec::Write;
@@ -211,7 +211,7 @@ pub fn row_at<'a>(
 fn are_word_of(element: F, bytes: &[u8]) -> bool
     ensures { IsTrue result ↔ (bytes.now ≡ to_be_bytes w64 (number element)) }
 {
-    bytes == number_of(element).to_be_bytes().as_slice()
+    bytes == element.number().to_be_bytes().as_slice()
 }
 
 /// Whether the bytes are the words of the two fingerprints.

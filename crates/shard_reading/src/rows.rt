@@ -135,7 +135,7 @@ impl RowReader {
         }
         self.find(rt, files, block, usize::MAX)?;
         self.used.forget_paths();
-        self.corrected_block(rt.alloc(), files, block)?;
+        self.correct_block(rt.alloc(), files, block)?;
         Ok(())
     }
 
@@ -250,11 +250,11 @@ impl RowReader {
             }
         }
         self.find(rt, files, block, usize::MAX)?;
-        self.corrected_block(rt.alloc(), files, block)
+        self.correct_block(rt.alloc(), files, block)
     }
 
     /// The block that all rows but a few give. Those few are noted at their files.
-    fn corrected_block(
+    fn correct_block(
         &mut self,
         alloc: Global,
         files: &mut [ShardFile],

@@ -122,6 +122,5 @@ pub(crate) fn block_root(alloc: Global, split: Split, block: &[u8]) -> Result<Di
     ensures bytes { All (λ b. b < 256) block.now }
 {
     let shards = shards_of(alloc, split, block)?;
-    let top = root(alloc, &shards.leaves)?;
-    Ok(top)
+    root(alloc, &shards.leaves)
 }

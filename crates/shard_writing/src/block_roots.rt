@@ -4,7 +4,7 @@
 //! the levels of the tree, one behind the other: so a file of any length takes the same memory.
 
 use hash_trees::{Digest, Tree, above};
-use partial_files::fault::owned;
+use partial_files::fault::copy_of;
 use partial_files::partial::Manner;
 use partial_files::scratch::Scratch;
 use shard_files::fault::Fault;
@@ -49,7 +49,7 @@ impl BlockRoots {
             scratch: None,
             tree: None,
             levels: Vec::new(alloc),
-            beside: owned(alloc, beside)?,
+            beside: copy_of(alloc, beside)?,
             how,
         })
     }

@@ -8,7 +8,7 @@ use crate::listing::{list, list_unsound};
 use crate::progress::Progress;
 use crate::refusal::Refusal;
 use hash_trees::Digest;
-use partial_files::fault::owned;
+use partial_files::fault::copy_of;
 use shard_files::fault::Fault;
 use shard_files::gathering::{check_count, count_there};
 use shard_files::roots::{BlockTree, Reading, gather_split};
@@ -112,7 +112,7 @@ fn try_block(
 fn reason_of(alloc: Global, fault: &Fault) -> Result<String, AllocError> {
     let text = format!(in alloc; "{fault}")?;
     let reason = text.as_str().strip_prefix("refused: ");
-    owned(alloc, reason.unwrap_or(text.as_str()))
+    copy_of(alloc, reason.unwrap_or(text.as_str()))
 }
 
 /// A line for each shard of the split and each other file that is meant, and one for what they
@@ -133,7 +133,7 @@ pub fn check(
     match gather_split(rt, wanted, &reading, &mut files) {
         Ok((split, tree)) => check_split(rt, wanted, &split, tree, &mut files, compares_all),
         Err(fault) if is_of_headers(&fault) => {
-            let text = unjudged(rt.alloc(), &files, &fault)?;
+            let text = lines_of_faults(rt.alloc(), &files, &fault)?;
             Ok(Checked {
                 text,
                 refusal: Some(Refusal::Files(fault)),
@@ -161,7 +161,11 @@ fn is_of_headers(fault: &Fault) -> bool {
 }
 
 /// A line for each of the files with which something is wrong, and one for the fault of all.
-fn unjudged(alloc: Global, files: &[ShardFile], fault: &Fault) -> Result<String, AllocError> {
+fn lines_of_faults(
+    alloc: Global,
+    files: &[ShardFile],
+    fault: &Fault,
+) -> Result<String, AllocError> {
     let mut text = String::new(alloc);
     list_unsound(alloc, files, &mut text)?;
     writeln!(text, "cannot be restored: {}", reason_of(alloc, fault)?)?;
@@ -183,7 +187,7 @@ fn check_split(
     let is_restored = write_findings(rt.alloc(), wanted, split, files, &findings, &mut text)?;
     let is_whole = count_there(files) == split.header.total as usize
         && files.iter().all(|shard| shard.is_sound());
-    let refusal = refusal_of(owned(rt.alloc(), wanted.label())?, is_restored, is_whole);
+    let refusal = refusal_of(copy_of(rt.alloc(), wanted.label())?, is_restored, is_whole);
     Ok(Checked { text, refusal })
 }
 

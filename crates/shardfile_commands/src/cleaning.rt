@@ -1,7 +1,7 @@
 //! The partial files that stopped and refused runs left.
 
 use crate::refusal::Refusal;
-use partial_files::fault::{Fault as FileFault, name_error, owned};
+use partial_files::fault::{Fault as FileFault, copy_of, name_error};
 use partial_files::names::{first_of_run, is_partial_name};
 use shard_files::fault::Fault;
 use std::alloc::{AllocError, Global};
@@ -50,18 +50,18 @@ fn partial_names(rt: &HostRuntime, folder: &str) -> Result<Vec<String>, Fault> {
     let mut names = Vec::new(rt.alloc());
     let entries = match read_dir(rt, folder) {
         Ok(entries) => entries,
-        Err(error) => return Err(Fault::Folder(owned(rt.alloc(), folder)?, error)),
+        Err(error) => return Err(Fault::Folder(copy_of(rt.alloc(), folder)?, error)),
     };
     for entry in entries {
         match entry {
             Ok(entry) => {
                 if is_partial_name(entry.file_name()) {
-                    names.push(owned(rt.alloc(), entry.file_name())?)?;
+                    names.push(copy_of(rt.alloc(), entry.file_name())?)?;
                 }
             }
             // A name that is no text is not a partial file's.
             Err(error) if error.kind() == ErrorKind::InvalidFilename => {}
-            Err(error) => return Err(Fault::Folder(owned(rt.alloc(), folder)?, error)),
+            Err(error) => return Err(Fault::Folder(copy_of(rt.alloc(), folder)?, error)),
         }
     }
     names.sort()?;
@@ -87,7 +87,7 @@ fn is_free(rt: &HostRuntime, path: &str) -> Result<bool, Refusal> {
 
 /// Why the file with this name is refused of which the system does not say whether there is a lock.
 fn lock_refusal(alloc: Global, path: &str, error: io::Error) -> Result<Refusal, AllocError> {
-    let path = owned(alloc, path)?;
+    let path = copy_of(alloc, path)?;
     if has_no_locks(&error) {
         return Ok(Refusal::NoLock(path, error));
     }

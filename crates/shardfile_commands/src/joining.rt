@@ -6,7 +6,7 @@ use crate::listing::print_unsound;
 use crate::progress::Progress;
 use crate::refusal::Refusal;
 use hash_trees::Digest;
-use partial_files::fault::{Fault as FileFault, owned};
+use partial_files::fault::{Fault as FileFault, copy_of};
 use partial_files::partial::Manner;
 use partial_files::restored::Restored;
 use shard_files::fault::Fault;
@@ -57,7 +57,7 @@ pub fn join(rt: &HostRuntime, order: &Order) -> Result<(), Refusal> {
         println!(rt; "{from} {to}")?;
     }
     if !holes.is_empty() {
-        let label = owned(rt.alloc(), order.wanted.label())?;
+        let label = copy_of(rt.alloc(), order.wanted.label())?;
         return Err(Refusal::Holes(label));
     }
     Ok(())
@@ -73,7 +73,7 @@ fn check_out(
 ) -> Result<(), FileFault> {
     if let WantedFiles::Beside(file) = wanted {
         if is_shard_name(rt, file, out)? {
-            return Err(FileFault::Input(owned(rt.alloc(), out)?));
+            return Err(FileFault::Input(copy_of(rt.alloc(), out)?));
         }
     }
     check_no_source(rt, out, files)
@@ -135,10 +135,10 @@ fn new_output(
         return Ok(Restored::to_standard_output(length));
     }
     if length > MOST_BYTES {
-        return Err(FileFault::TooLong(owned(rt.alloc(), order.out)?));
+        return Err(FileFault::TooLong(copy_of(rt.alloc(), order.out)?));
     }
     let how = Manner::new(rt, order.force, first_rights(files))?;
-    Restored::create(rt, owned(rt.alloc(), order.out)?, &how, length)
+    Restored::create(rt, copy_of(rt.alloc(), order.out)?, &how, length)
 }
 
 /// Writes the blocks in order, each from the first shards that fit, or from all compared; where

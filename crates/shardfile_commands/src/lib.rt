@@ -19,7 +19,7 @@ mod rooting;
 mod splitting;
 mod status;
 
-use partial_files::fault::owned;
+use partial_files::fault::copy_of;
 use refusal::Refusal;
 use shardfile_words::command::{Command, print_usage};
 use shardfile_words::fault::WrongWord;
@@ -87,7 +87,7 @@ fn words_given(rt: &HostRuntime) -> Result<Vec<String>, Refusal> {
 fn command_given(rt: &HostRuntime) -> Option<Command> {
     let mut room = [0u8; 8];
     match rt.arg(1, &mut room) {
-        Ok(length) => Command::named(&room[..length]),
+        Ok(length) => Command::from_word(&room[..length]),
         Err(_) => None,
     }
 }
@@ -127,7 +127,7 @@ fn answer(rt: &HostRuntime, word: &str, rest: &[String], level: &str) -> Result<
         ("--version" | "-V", []) => print_version(rt, level),
         ("help", [name]) => explain(rt, name.as_str()),
         ("help" | "--help" | "-h" | "--version" | "-V", _) => {
-            Err(Refusal::Usage(WrongWord::NoMore(owned(rt.alloc(), word)?)))
+            Err(Refusal::Usage(WrongWord::NoMore(copy_of(rt.alloc(), word)?)))
         }
         _ => Err(no_command(rt.alloc(), word)?),
     }
@@ -135,7 +135,7 @@ fn answer(rt: &HostRuntime, word: &str, rest: &[String], level: &str) -> Result<
 
 /// Says how the command with this name is used.
 fn explain(rt: &HostRuntime, name: &str) -> Result<(), Refusal> {
-    match Command::named(name.as_bytes()) {
+    match Command::from_word(name.as_bytes()) {
         Some(command) => {
             print!(rt; "usage: {}", command.usage())?;
             Ok(())
@@ -146,7 +146,7 @@ fn explain(rt: &HostRuntime, name: &str) -> Result<(), Refusal> {
 
 /// The refusal of a word that names no command.
 fn no_command(alloc: Global, word: &str) -> Result<Refusal, Refusal> {
-    Ok(Refusal::Usage(WrongWord::Command(owned(alloc, word)?)))
+    Ok(Refusal::Usage(WrongWord::Command(copy_of(alloc, word)?)))
 }
 
 /// Says on standard error why the work was not done, and where the words are wrong how the program

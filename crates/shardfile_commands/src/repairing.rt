@@ -11,7 +11,7 @@ use crate::listing::print_unsound;
 use crate::progress::Progress;
 use crate::refusal::Refusal;
 use hash_trees::Digest;
-use partial_files::fault::owned;
+use partial_files::fault::copy_of;
 use partial_files::partial::Manner;
 use shard_files::fault::Fault;
 use shard_files::gathering::{check_count, first_rights, split_of};
@@ -107,8 +107,9 @@ impl NewFiles {
         requires { number < self.old.writer.split.header.total }
         ensures { self.new.writer.left ≡ self.old.writer.left }
     {
-        self.names.push((number, owned(rt.alloc(), name)?))?;
-        self.writer.add(rt, owned(rt.alloc(), name)?, number, keys)
+        self.names.push((number, copy_of(rt.alloc(), name)?))?;
+        self.writer
+            .add(rt, copy_of(rt.alloc(), name)?, number, keys)
     }
 }
 
@@ -139,7 +140,7 @@ fn check_left(
     if !files.iter().any(|file| order.is_left(file)) {
         return Ok(());
     }
-    let label = owned(alloc, order.wanted.label())?;
+    let label = copy_of(alloc, order.wanted.label())?;
     if files.iter().any(|file| order.is_spared(file, total)) {
         Err(Refusal::Stays(label))
     } else {
@@ -321,7 +322,7 @@ fn copy_records(
         let root = writer.root_before(rt, number as usize)?;
         match reader.record(rt, file, block, root.as_ref())? {
             Some(record) => writer.append_to_last(rt, record)?,
-            None => return Err(Refusal::Changed(owned(rt.alloc(), file.name.as_str())?)),
+            None => return Err(Refusal::Changed(copy_of(rt.alloc(), file.name.as_str())?)),
         }
     }
     Ok(())

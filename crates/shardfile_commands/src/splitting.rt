@@ -5,7 +5,7 @@ ghost use Rattle.std.specs.Prelude.{◌≡◌, ◌≤◌, IfOk, OnOk};
 use crate::progress::Progress;
 use crate::refusal::Refusal;
 use crate::rooting::root_line;
-use partial_files::fault::{Fault as FileFault, name_error, owned};
+use partial_files::fault::{Fault as FileFault, copy_of, name_error};
 use partial_files::identity::{Identity, check_no_input};
 use partial_files::names::name_of;
 use partial_files::partial::Manner;
@@ -115,7 +115,7 @@ pub fn split_stream(rt: &HostRuntime, order: &Order) -> Result<(), Refusal> {
 /// another one.
 fn target_of(alloc: Global, file: &str, to: Option<&str>) -> Result<String, AllocError> {
     let Some(folder) = to else {
-        return owned(alloc, file);
+        return copy_of(alloc, file);
     };
     format!(in alloc; "{folder}/{}", name_of(file))
 }
@@ -125,13 +125,13 @@ fn target_of(alloc: Global, file: &str, to: Option<&str>) -> Result<String, Allo
 fn open_source(rt: &HostRuntime, file: &str) -> Result<(File, Metadata), Refusal> {
     let metadata = name_error(rt.alloc(), file, fs::metadata(rt, file))?;
     if !metadata.is_file() {
-        let name = owned(rt.alloc(), file)?;
+        let name = copy_of(rt.alloc(), file)?;
         return Err(Refusal::from(FileFault::NotRegular(name)));
     }
     let source = name_error(rt.alloc(), file, fs::open(rt, file))?;
     // Where the system has no locks, there is none.
     match source.try_lock() {
-        Err(TryLockError::WouldBlock) => Err(Refusal::Busy(owned(rt.alloc(), file)?)),
+        Err(TryLockError::WouldBlock) => Err(Refusal::Busy(copy_of(rt.alloc(), file)?)),
         _ => Ok((source, metadata)),
     }
 }
@@ -218,7 +218,7 @@ fn fill<R: Read>(alloc: Global, source: &mut R, buffer: &mut [u8]) -> Result<usi
             Ok(0) => return Ok(count),
             Ok(more) => count += more,
             Err(error) if error.kind() == ErrorKind::Interrupted => {}
-            Err(error) => return Err(FileFault::File(owned(alloc, "standard input")?, error)),
+            Err(error) => return Err(FileFault::File(copy_of(alloc, "standard input")?, error)),
         }
     }
     Ok(count)
@@ -274,7 +274,7 @@ fn read_next(
 ) -> Result<(), Refusal> {
     match source.read_exact(buffer) {
         Err(error) if error.kind() == ErrorKind::UnexpectedEof => {
-            Err(Refusal::Changed(owned(alloc, file)?))
+            Err(Refusal::Changed(copy_of(alloc, file)?))
         }
         read => Ok(name_error(alloc, file, read)?),
     }
@@ -283,7 +283,7 @@ fn read_next(
 /// Refuses where the file goes on after what was read.
 fn check_end(alloc: Global, source: &mut File, file: &str) -> Result<(), Refusal> {
     if name_error(alloc, file, source.read(&mut [0u8; 1]))? > 0 {
-        return Err(Refusal::Changed(owned(alloc, file)?));
+        return Err(Refusal::Changed(copy_of(alloc, file)?));
     }
     Ok(())
 }

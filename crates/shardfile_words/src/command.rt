@@ -47,7 +47,7 @@ shardfile help [COMMAND] | --help | -h
 
 impl Command {
     /// The command that a word names.
-    pub fn named(word: &[u8]) -> Option<Command> {
+    pub fn from_word(word: &[u8]) -> Option<Command> {
         match word {
             b"split" => Some(Command::Split),
             b"join" => Some(Command::Join),

@@ -2,7 +2,7 @@
 
 use crate::fault::{Fault, WrongWord};
 use crate::options::Options;
-use partial_files::fault::owned;
+use partial_files::fault::copy_of;
 use shard_files::names::{can_be_file, name_before_number};
 use shard_files::wanted::WantedFiles;
 use std::alloc::Global;
@@ -12,7 +12,7 @@ fn check_name(alloc: Global, name: &str) -> Result<(), Fault> {
     if can_be_file(name) {
         return Ok(());
     }
-    Err(Fault::Word(WrongWord::Name(owned(alloc, name)?)))
+    Err(Fault::Word(WrongWord::Name(copy_of(alloc, name)?)))
 }
 
 /// The name of the file that is split, or what the shard files of standard input are called, and
@@ -56,7 +56,7 @@ fn wrong_files(
         Some(file) => Ok(Fault::Word(WrongWord::Shards(
             wanted,
             options.words.len(),
-            owned(alloc, file)?,
+            copy_of(alloc, file)?,
             with_shards,
         ))),
         None => Ok(wrong_count(wanted, options)),

@@ -4,7 +4,7 @@ ghost use Rattle.std.specs.Prelude.{◌≡◌, None, OnOk};
 
 use crate::command::Command;
 use crate::fault::{Fault, WrongWord};
-use partial_files::fault::owned;
+use partial_files::fault::copy_of;
 use std::alloc::Global;
 
 /// An option that wants a word after it.
@@ -18,7 +18,7 @@ enum Wanting {
 
 impl Wanting {
     /// The one that the word is. Of `split` the root is what is printed, and not what is given.
-    fn named(word: &str, command: Command) -> Option<Wanting> {
+    fn from_word(word: &str, command: Command) -> Option<Wanting> {
         match word {
             "--root" if command != Command::Split => Some(Wanting::Root),
             "--to" => Some(Wanting::Folder),
@@ -99,7 +99,7 @@ impl<'a> Options<'a> {
             "--partial" => self.partial = true,
             "--root" => self.has_root = true,
             "--help" | "-h" => self.help = true,
-            _ => return Err(Fault::Word(WrongWord::Option(owned(alloc, option)?))),
+            _ => return Err(Fault::Word(WrongWord::Option(copy_of(alloc, option)?))),
         }
         Ok(())
     }
@@ -142,7 +142,7 @@ pub fn read_options<'a>(
         } else if word == "--" {
             have_ended = true;
         } else {
-            wanting = Wanting::named(word, command);
+            wanting = Wanting::from_word(word, command);
             if wanting.is_none() {
                 options.set(alloc, word)?;
             }

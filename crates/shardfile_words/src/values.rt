@@ -5,7 +5,7 @@ ghost use Rattle.std.specs.Prelude.{◌≤◌, ◌<◌, IfOk, IfSome};
 use crate::fault::{Fault, WrongWord};
 use crate::options::Options;
 use hash_trees::Digest;
-use partial_files::fault::owned;
+use partial_files::fault::copy_of;
 use shard_files::names::number_written;
 use shard_format::header::MOST_SHARDS;
 use std::alloc::Global;
@@ -16,7 +16,7 @@ pub fn number(alloc: Global, name: &'static str, word: &str) -> Result<u32, Faul
 {
     match number_written(alloc, word)? {
         Some(number) if number >= 1 && number <= MOST_SHARDS => Ok(number),
-        _ => Err(Fault::Word(WrongWord::Number(name, owned(alloc, word)?))),
+        _ => Err(Fault::Word(WrongWord::Number(name, copy_of(alloc, word)?))),
     }
 }
 
@@ -37,7 +37,7 @@ fn add_numbers(alloc: Global, list: &str, numbers: &mut Vec<u32>) -> Result<(), 
     for part in list.split(',') {
         match number_written(alloc, part)? {
             Some(number) if number < MOST_SHARDS => numbers.push(number)?,
-            _ => return Err(Fault::Word(WrongWord::Only(owned(alloc, list)?))),
+            _ => return Err(Fault::Word(WrongWord::Only(copy_of(alloc, list)?))),
         }
     }
     Ok(())
@@ -50,7 +50,7 @@ pub fn root_asked(alloc: Global, options: &Options) -> Result<Option<Digest>, Fa
     };
     match root_of_word(word) {
         Some(root) => Ok(Some(root)),
-        None => Err(Fault::Word(WrongWord::Root(owned(alloc, word)?))),
+        None => Err(Fault::Word(WrongWord::Root(copy_of(alloc, word)?))),
     }
 }
 

@@ -48,7 +48,7 @@ pub fn deal<F: Field + Random, G: Rng + CryptoRng>(
         → samples F.sample (t - 1) (G.stream rng.old) ≡ (None, G.stream rng.new)) }
     ensures points { IfErr result (λ error. error ≡ TooManyShares → HasZeroPoint F.Ring n) }
 {
-    let p = sampled(alloc, secret, t, rng)?;
+    let p = sample_polynomial(alloc, secret, t, rng)?;
     let shares = shares_of(alloc, &p, n)?;
     Ok(shares)
 }
@@ -85,14 +85,14 @@ where
         → samples K.Scalar.sample (t - 1) (G.stream rng.old) ≡ (None, G.stream rng.new)) }
     ensures points { IfErr result (λ error. error ≡ TooManyShares → HasZeroPoint K.Scalar.Ring n) }
 {
-    let p = sampled(alloc, secret, t, rng)?;
+    let p = sample_polynomial(alloc, secret, t, rng)?;
     let shares = shares_of(alloc, &p, n)?;
     let commitment = Poly::commit(alloc, p)?;
     Ok((shares, commitment))
 }
 
 /// The polynomial of t coefficients whose constant is the secret.
-fn sampled<F: Field + Random, G: Rng + CryptoRng>(
+fn sample_polynomial<F: Field + Random, G: Rng + CryptoRng>(
     alloc: Global,
     secret: F,
     t: u32,

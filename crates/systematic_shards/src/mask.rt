@@ -31,7 +31,7 @@ pub(crate) fn element_of(word: u64, mask: u32) -> F
 pub(crate) fn word_of(element: F, mask: u32) -> u64
     ensures { result ≡ masked_number mask (number element) }
 {
-    masked_word(u64::from_le_bytes(element.to_le_bytes()), mask)
+    masked_word(element.number(), mask)
 }
 
 /// Whether the high half of the word is not all ones under the mask.

@@ -12,7 +12,7 @@ ghost use Rattle.commonware_math.specs.Synthetics.{combination_multiple};
 ghost use Rattle.commonware_math.specs.SyntheticLaws.{combinations_equality, combinations_group, combinations_module};
 
 use super::Synthetic;
-use super::merging::merged;
+use super::merging::merge;
 use math_base::algebra::{Additive, Mem, Object, Ring, Space};
 use std::alloc::Global;
 
@@ -86,7 +86,7 @@ impl<F: Ring, G: Space<F>> Synthetic<F, G> {
     }
 
     /// The sum, whose terms are moved.
-    fn joined(self, alloc: Global, other: Self) -> Mem<Self>
+    fn into_sum(self, alloc: Global, other: Self) -> Mem<Self>
         ensures indices { IfOk result
             (λ c. HasIndices c.0 (λ i. HasTerm self.0 i ⊎ HasTerm other.0 i)) }
         ensures ok { IfOk result (λ c.
@@ -97,7 +97,7 @@ impl<F: Ring, G: Space<F>> Synthetic<F, G> {
             free: other_free,
             concrete: mut other_concrete,
         } = other;
-        let free = merged(alloc, free, other_free)?;
+        let free = merge(alloc, free, other_free)?;
         concrete.append(&mut other_concrete)?;
         Ok(Synthetic { free, concrete })
     }
@@ -129,7 +129,7 @@ fn weighted_sum_by_halves<F: Ring, G: Space<F>>(
     let (low_scalars, high_scalars) = scalars.split_at(count / 2);
     let sum = weighted_sum_by_halves(alloc, low, low_scalars)?;
     let other_sum = weighted_sum_by_halves(alloc, high, high_scalars)?;
-    let out = sum.joined(alloc, other_sum)?;
+    let out = sum.into_sum(alloc, other_sum)?;
     Ok(out)
 }
 
@@ -209,7 +209,7 @@ impl<F: Ring, G: Space<F>> Additive for Synthetic<F, G> {
         ensures err { OnErr result (self.new ≡ self.old) }
     {
         let terms = rhs.clone(alloc)?;
-        *self = self.clone(alloc)?.joined(alloc, terms)?;
+        *self = self.clone(alloc)?.into_sum(alloc, terms)?;
         Ok(())
     }
 
@@ -224,7 +224,7 @@ impl<F: Ring, G: Space<F>> Additive for Synthetic<F, G> {
         ensures err { OnErr result (self.new ≡ self.old) }
     {
         let terms = rhs.negative(alloc)?;
-        *self = self.clone(alloc)?.joined(alloc, terms)?;
+        *self = self.clone(alloc)?.into_sum(alloc, terms)?;
         Ok(())
     }
 
@@ -248,7 +248,7 @@ impl<F: Ring, G: Space<F>> Additive for Synthetic<F, G> {
             (λ answer. HasIndices answer.0 (λ i. HasTerm self.0 i ⊎ HasTerm rhs.now.0 i)) }
     {
         let terms = rhs.clone(alloc)?;
-        let out = self.joined(alloc, terms)?;
+        let out = self.into_sum(alloc, terms)?;
         Ok(out)
     }
 
@@ -261,7 +261,7 @@ impl<F: Ring, G: Space<F>> Additive for Synthetic<F, G> {
             (λ answer. HasIndices answer.0 (λ i. HasTerm self.0 i ⊎ HasTerm rhs.now.0 i)) }
     {
         let terms = rhs.negative(alloc)?;
-        let out = self.joined(alloc, terms)?;
+        let out = self.into_sum(alloc, terms)?;
         Ok(out)
     }
 

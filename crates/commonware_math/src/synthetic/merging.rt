@@ -12,7 +12,7 @@ use std::alloc::Global;
 ///
 /// The lists are taken apart from their ends, always at the greater of the two last indices, so
 /// each term is moved once, and none is cloned.
-pub(super) fn merged<F: Additive>(
+pub(super) fn merge<F: Additive>(
     alloc: Global,
     a: Vec<(u32, F)>,
     b: Vec<(u32, F)>,

@@ -10,6 +10,6 @@ below-power (suc n) = omega (arith, below-power n, pow-suc 2 n)
 pub from_matrix-polynomials-requires : goal.from_matrix-polynomials-requires
 from_matrix-polynomials-requires c = (2, c.from_cells.ensures.size.0)
 
-pub recovered-requires-clause-domain : goal.recovered-requires-clause-domain
-recovered-requires-clause-domain c lg e =
+pub keep_and_recover-requires-clause-domain : goal.keep_and_recover-requires-clause-domain
+keep_and_recover-requires-clause-domain c lg e =
     omega (arith, below-power lg, e, ap (λ m. m.rows) c.from_matrix-polynomials.ensures, c.from_cells.ensures.size.0)

@@ -34,7 +34,7 @@ struct Weights {
 /// The products of the lanes of both. `AT_ONE` says that the weights are one: then no product is
 /// taken.
 #[inline(always)]
-fn scaled<const N: usize, const AT_ONE: bool>(
+fn scale_lanes<const N: usize, const AT_ONE: bool>(
     lanes: Simd<u64, N>,
     weights: Simd<u64, N>,
 ) -> Simd<u64, N>
@@ -49,7 +49,7 @@ fn scaled<const N: usize, const AT_ONE: bool>(
 
 /// Eight columns of two rows, combined.
 #[inline(always)]
-fn combined<const FORWARD: bool, const AT_ONE: bool>(
+fn combine_lanes<const FORWARD: bool, const AT_ONE: bool>(
     low: u64x8,
     high: u64x8,
     w: F,
@@ -64,12 +64,12 @@ fn combined<const FORWARD: bool, const AT_ONE: bool>(
 {
     let weights: u64x8 = splat(w);
     if FORWARD {
-        let product = scaled::<8, AT_ONE>(high, weights);
+        let product = scale_lanes::<8, AT_ONE>(high, weights);
         (plus(low, product), minus(low, product))
     } else {
         let sum = plus(low, high);
         let difference = minus(low, high);
-        (sum, scaled::<8, AT_ONE>(difference, weights))
+        (sum, scale_lanes::<8, AT_ONE>(difference, weights))
     }
 }
 
@@ -88,7 +88,7 @@ fn combine_eight<const FORWARD: bool, const AT_ONE: bool>(
 {
     let low = load(rows, i);
     let high = load(rows, cols + i);
-    let (first, second) = combined::<FORWARD, AT_ONE>(low, high, w);
+    let (first, second) = combine_lanes::<FORWARD, AT_ONE>(low, high, w);
     store(first, rows, i);
     store(second, rows, cols + i);
 }
@@ -153,11 +153,11 @@ pub(super) fn turn_lanes<const N: usize, const FORWARD: bool, const AT_ONE: bool
         → IsTurned goldilocks FORWARD p f q k l m n w x y z }
 {
     if FORWARD {
-        let third = scaled::<N, AT_ONE>(*c, g);
+        let third = scale_lanes::<N, AT_ONE>(*c, g);
         let more = plus(*a, third);
         let less = minus(*a, third);
-        let second = scaled::<N, AT_ONE>(*b, e);
-        let fourth = scaled::<N, AT_ONE>(*d, eg);
+        let second = scale_lanes::<N, AT_ONE>(*b, e);
+        let fourth = scale_lanes::<N, AT_ONE>(*d, eg);
         let first = plus(second, fourth);
         let change = minus(second, fourth);
         let turn = times_root(change);
@@ -179,9 +179,9 @@ pub(super) fn turn_lanes<const N: usize, const FORWARD: bool, const AT_ONE: bool
         let y = minus(front, behind);
         let z = plus(lower, back);
         let whole = plus(front, behind);
-        let by_e = scaled::<N, AT_ONE>(x, e);
-        let by_g = scaled::<N, AT_ONE>(y, g);
-        let by_eg = scaled::<N, AT_ONE>(z, eg);
+        let by_e = scale_lanes::<N, AT_ONE>(x, e);
+        let by_g = scale_lanes::<N, AT_ONE>(y, g);
+        let by_eg = scale_lanes::<N, AT_ONE>(z, eg);
         *a = whole;
         *b = by_e;
         *c = by_g;

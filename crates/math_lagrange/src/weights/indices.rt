@@ -47,7 +47,7 @@ where
 }
 
 /// Each weight with its index.
-pub(super) fn keyed<F: Drop>(
+pub(super) fn with_indices<F: Drop>(
     alloc: Global,
     indices: Vec<usize>,
     weights: Vec<F>,

@@ -43,7 +43,7 @@ pub fn domain_points<F: FieldNTT>(alloc: Global, lg: u8) -> Mem<Vec<F>>
 }
 
 /// Copies of the items at the places.
-pub(super) fn gathered<F: Additive>(alloc: Global, items: &[F], places: &[usize]) -> Mem<Vec<F>>
+pub(super) fn copies_at<F: Additive>(alloc: Global, items: &[F], places: &[usize]) -> Mem<Vec<F>>
     requires { All (λ place. place < length items.now) places.now }
     ensures count { IfOk result (λ v. length v.items ≡ length places.now) }
     ensures items { IfOk result (λ v. (k : ℕ) → k < length places.now
@@ -76,7 +76,7 @@ pub(super) fn differences<F: Ring>(alloc: Global, factor: &F, x: &F, points: &[F
 }
 
 /// Each item times the factor.
-pub(super) fn scaled<F: Ring>(alloc: Global, items: Vec<F>, factor: &F) -> Mem<Vec<F>>
+pub(super) fn scale_each<F: Ring>(alloc: Global, items: Vec<F>, factor: &F) -> Mem<Vec<F>>
     ensures count { IfOk result (λ v. length v.items ≡ length items.items) }
     ensures each { IfOk result (λ v. (k : ℕ) → k < length items.items
         → F.same (slice_index_or v.items k F.zero)

@@ -211,7 +211,7 @@ fn without_wrong_rows<F: FieldNTT>(
     let mut left = filled;
     let mut polynomials = recovered_copy(alloc, matrix, &left, lg, work)?;
     while let Some(column) = long_column(alloc, &polynomials, count)? {
-        let Some(less) = narrowed(alloc, matrix, &left, column, count, lg)? else {
+        let Some(less) = agreeing_rows(alloc, matrix, &left, column, count, lg)? else {
             return Ok(None);
         };
         if rows.len() - less.count_non_vanishing() as usize > most {
@@ -300,7 +300,7 @@ fn long_column<F: Additive>(
 
 /// The filled rows in which the column agrees with what is decoded from it; `None` where that is
 /// nothing.
-fn narrowed<F: FieldNTT>(
+fn agreeing_rows<F: FieldNTT>(
     alloc: Global,
     matrix: &Matrix<F>,
     filled: &VanishingPoints,

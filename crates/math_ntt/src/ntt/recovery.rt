@@ -62,7 +62,7 @@ use super::matrix::Matrix;
 use super::polynomials::PolynomialVector;
 use math_base::algebra::{Additive, FieldNTT, Mem};
 use math_base::weights::quotients;
-use math_transforms::below::{Points, evaluate_below, interpolate_below};
+use math_transforms::points_below::{Points, evaluate_below, interpolate_below};
 use math_transforms::row_products::multiply_rows;
 use math_transforms::transform::coset::move_rows;
 use math_transforms::transform::order::reverse_rows;
@@ -193,14 +193,14 @@ pub(super) fn recovered_cells<F: FieldNTT>(
     let filled = points.count_non_vanishing() as usize;
     if filled == 0 {
         zeros(alloc, cells)?;
-        interpolated(alloc, cells, cols, lg, work)?;
+        interpolate_cells(alloc, cells, cols, lg, work)?;
         return Ok(());
     }
     if filled == size_of(lg) {
-        interpolated(alloc, cells, cols, lg, work)?;
+        interpolate_cells(alloc, cells, cols, lg, work)?;
         return Ok(());
     }
-    recovered(alloc, cells, cols, points, lg, work)?;
+    recover_cells(alloc, cells, cols, points, lg, work)?;
     Ok(())
 }
 
@@ -216,7 +216,7 @@ fn zeros<F: Additive>(alloc: Global, cells: &mut [F]) -> Mem<()>
 }
 
 /// The coefficients of the polynomials whose values the cells are, by a table of its own.
-fn interpolated<F: FieldNTT>(
+fn interpolate_cells<F: FieldNTT>(
     alloc: Global,
     cells: &mut [F],
     cols: usize,
@@ -320,7 +320,7 @@ fn quotients_from_coset<F: FieldNTT>(
 /// The coefficients in each column of f V divided by V: the values of f V on the domain are the
 /// cells times those of V, both are moved to the coset, and there divided. The trees of the domain
 /// become those of the coset. Where it is refused, one butterfly or more is counted.
-fn divided<F: FieldNTT>(
+fn divide_by_vanishing<F: FieldNTT>(
     alloc: Global,
     cells: &mut [F],
     cols: usize,
@@ -362,7 +362,7 @@ fn divided<F: FieldNTT>(
 }
 
 /// The recovery where some rows are filled and some are missing.
-fn recovered<F: FieldNTT>(
+fn recover_cells<F: FieldNTT>(
     alloc: Global,
     cells: &mut [F],
     cols: usize,
@@ -399,6 +399,6 @@ fn recovered<F: FieldNTT>(
         points: evaluation,
         inverses: interpolation,
     };
-    divided(alloc, cells, cols, &mut vanishing, &mut trees, work)?;
+    divide_by_vanishing(alloc, cells, cols, &mut vanishing, &mut trees, work)?;
     Ok(())
 }

@@ -20,7 +20,7 @@ ghost use Rattle.math_shards.specs.Fitting.{AreCoefficientsOf, AreRowsOf, distin
 ghost use Rattle.math_shards.specs.Weights.{AreIndicesOf};
 
 use super::rows::Row;
-use super::weighing::{chosen, put_weighed};
+use super::weighing::{choose_rows, put_weighed};
 use math_base::algebra::Mem;
 use math_fields::goldilocks::F;
 use math_restoring::restoring::put_restored;
@@ -71,7 +71,7 @@ pub(super) fn coefficients<R: Row>(alloc: Global, rows: &[R], layout: Layout) ->
     ensures few { IfOk result (λ answer. IfNone answer
         (distinct_among layout.total (map R.index rows.now) < layout.min)) }
 {
-    let (indices, mut cells) = chosen(alloc, rows, layout)?;
+    let (indices, mut cells) = choose_rows(alloc, rows, layout)?;
     if indices.len() < layout.min as usize {
         return Ok(None);
     }

@@ -36,7 +36,11 @@ const STRIP: usize = 32;
 /// The indices of the first `min` rows of distinct indices, or of all such rows where they are
 /// fewer, and the cells of these rows, one row after the other. There is a bit for each point of
 /// the domain: it says whether a row of that index is chosen.
-pub(super) fn chosen<R: Row>(alloc: Global, rows: &[R], layout: Layout) -> Mem<(Vec<u32>, Vec<F>)>
+pub(super) fn choose_rows<R: Row>(
+    alloc: Global,
+    rows: &[R],
+    layout: Layout,
+) -> Mem<(Vec<u32>, Vec<F>)>
     requires { AreRowsOf R.index R.cells layout rows.now }
     ensures few { IfOk result (λ answer. length answer.0.items ≤ layout.min) }
     ensures rows { IfOk result

@@ -9,7 +9,7 @@ ghost use Rattle.math_transforms.specs.CosetValues.{AreMovedValues};
 ghost use Rattle.math_transforms.specs.CountedWork.{AddsAtMost};
 ghost use Rattle.math_transforms.specs.RootTrees.{IsTreeOf};
 
-use crate::below::{Points, evaluate_below, interpolate_below};
+use crate::points_below::{Points, evaluate_below, interpolate_below};
 use crate::work::Work;
 use math_base::algebra::{FieldNTT, Mem};
 use std::alloc::Global;

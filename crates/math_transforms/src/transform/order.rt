@@ -33,7 +33,7 @@ fn next_reversed(j: usize, lg: u8) -> usize
 }
 
 /// The number whose lg bits are those of i in the opposite order.
-pub fn reversed(i: usize, lg: u8) -> usize
+pub fn reverse_bits(i: usize, lg: u8) -> usize
     requires small { lg < 64 }
     requires below { i < 2 ^ lg }
     ensures { result ≡ bit_reversed lg i }
@@ -50,7 +50,7 @@ pub fn reversed_row<F>(cells: &[F], cols: usize, lg: u8, i: usize) -> &[F]
     ensures row { result.now ≡ row_of (matrix_of (2 ^ lg) cols cells.now) (bit_reversed lg i) }
     ensures count { length result.now ≡ cols }
 {
-    let at = reversed(i, lg) * cols;
+    let at = reverse_bits(i, lg) * cols;
     &cells[at..at + cols]
 }
 

@@ -7,7 +7,7 @@ use math_samples::elements::Element;
 use rows_base::answer::{Answer, are_equal, put, put_debug, put_firsts};
 use rows_base::fault::Fault;
 use rows_base::refusals::{Breach, begin, end, tell};
-use rows_base::words::{element, elements, number, numbers, parted};
+use rows_base::words::{element, elements, number, numbers, split_at_mark};
 use std::alloc::Global;
 
 /// Runs a call of this module; `false` where it is none.
@@ -35,7 +35,7 @@ pub fn run<R: Element>(
 
 /// `synthetic STEP .. @ G ..`: the greatest index that is stored, or `none`, and the value under the generators G.
 fn value<R: Element>(alloc: Global, arguments: &str, answer: &mut Answer<R>) -> Result<(), Fault> {
-    let (steps, generators) = parted(arguments, '@')?;
+    let (steps, generators) = split_at_mark(arguments, '@')?;
     let generators = elements::<R>(alloc, generators)?;
     put_value(alloc, combination::<R>(alloc, steps)?, &generators, answer)
 }
@@ -64,7 +64,7 @@ fn put_value<R: Element>(
 
 /// `synthetic_clone STEP .. @ G ..`: the same of a copy.
 fn copy<R: Element>(alloc: Global, arguments: &str, answer: &mut Answer<R>) -> Result<(), Fault> {
-    let (steps, generators) = parted(arguments, '@')?;
+    let (steps, generators) = split_at_mark(arguments, '@')?;
     let generators = elements::<R>(alloc, generators)?;
     let c = combination::<R>(alloc, steps)?;
     let given = begin(alloc, &c);
@@ -79,12 +79,7 @@ fn same<R: Element>(alloc: Global, arguments: &str, answer: &mut Answer<R>) -> R
     for steps in arguments.split(';') {
         items.push(combination::<R>(alloc, steps)?)?;
     }
-    put_firsts(
-        &mut answer.text,
-        &items,
-        |a: &Synthetic<R, R>, b: &Synthetic<R, R>| { are_equal(alloc, a, b) },
-    )?;
-    Ok(())
+    put_firsts(alloc, &items, &mut answer.text).map_err(Fault::Memory)
 }
 
 /// The next generator, or `None` at the end. After an `Err` there has to be no further one.
@@ -143,7 +138,7 @@ fn put_three<R: Element>(
 
 /// The commitment to a polynomial whose coefficients are numbers: the first generator, scaled by
 /// each.
-fn committed<R: Element>(alloc: Global, text: &str) -> Result<Poly<Synthetic<R, R>>, Fault> {
+fn commitment<R: Element>(alloc: Global, text: &str) -> Result<Poly<Synthetic<R, R>>, Fault> {
     let generator = generator::<R>(alloc, 0)?;
     let mut coefficients = Vec::new(alloc);
     for n in &numbers(alloc, text)? {
@@ -162,11 +157,11 @@ fn commitments<R: Element>(
     arguments: &str,
     answer: &mut Answer<R>,
 ) -> Result<(), Fault> {
-    let (a, rest) = parted(arguments, '@')?;
-    let (b, c) = parted(rest, '@')?;
-    let mut sum = committed::<R>(alloc, a)?;
-    add_commitment(alloc, &mut sum, &committed::<R>(alloc, b)?)?;
-    let equal = are_equal(alloc, &sum, &committed::<R>(alloc, c)?)?;
+    let (a, rest) = split_at_mark(arguments, '@')?;
+    let (b, c) = split_at_mark(rest, '@')?;
+    let mut sum = commitment::<R>(alloc, a)?;
+    add_commitment(alloc, &mut sum, &commitment::<R>(alloc, b)?)?;
+    let equal = are_equal(alloc, &sum, &commitment::<R>(alloc, c)?)?;
     answer
         .text
         .push_str(if equal { " equal" } else { " not equal" })?;
@@ -189,7 +184,7 @@ fn add_commitment<R: Element>(
 fn combination<R: Element>(alloc: Global, steps: &str) -> Result<Synthetic<R, R>, Fault> {
     let mut stack = Vec::new(alloc);
     for step in steps.split_whitespace() {
-        let next = taken::<R>(alloc, step, &mut stack)?;
+        let next = take_step::<R>(alloc, step, &mut stack)?;
         stack.push(next)?;
     }
     top(&mut stack)
@@ -205,7 +200,7 @@ fn top<R: Element>(stack: &mut Vec<Synthetic<R, R>>) -> Result<Synthetic<R, R>, 
 /// What a step puts on top: `gI` generator I, `cS*P,..` the points P with the weights S, and of
 /// what it takes from the top `*X` the multiple by X, and `*=X` the same in place, `sN` the N-fold
 /// sum, and what the other steps make of it.
-fn taken<R: Element>(
+fn take_step<R: Element>(
     alloc: Global,
     step: &str,
     stack: &mut Vec<Synthetic<R, R>>,
@@ -222,14 +217,14 @@ fn taken<R: Element>(
     }
     if let Some(factor) = step.strip_prefix('*') {
         let factor = element::<R>(alloc, factor)?;
-        return scaled(alloc, top(stack)?, &factor);
+        return multiple_of(alloc, top(stack)?, &factor);
     }
     if let Some(count) = step.strip_prefix('s') {
         let count = number(count)?;
         return multiple(alloc, &top(stack)?, count);
     }
     if let Some(scalars) = step.strip_prefix('m') {
-        return weighted(alloc, scalars, stack);
+        return weighted_sum(alloc, scalars, stack);
     }
     of_top(alloc, step, stack)
 }
@@ -243,7 +238,7 @@ fn concrete<R: Element>(alloc: Global, terms: Vec<(R, R)>) -> Result<Synthetic<R
 }
 
 /// The multiple by an element.
-fn scaled<R: Element>(
+fn multiple_of<R: Element>(
     alloc: Global,
     c: Synthetic<R, R>,
     factor: &R,
@@ -296,7 +291,7 @@ fn generator<R: Element>(alloc: Global, index: u64) -> Result<Synthetic<R, R>, F
 fn weighted_points<R: Element>(alloc: Global, terms: &str) -> Result<Vec<(R, R)>, Fault> {
     let mut out = Vec::new(alloc);
     for term in terms.split_terminator(',') {
-        let (weight, point) = parted(term, '*')?;
+        let (weight, point) = split_at_mark(term, '*')?;
         let weight = element::<R>(alloc, weight)?;
         out.push((weight, element::<R>(alloc, point)?))?;
     }
@@ -304,12 +299,12 @@ fn weighted_points<R: Element>(alloc: Global, terms: &str) -> Result<Vec<(R, R)>
 }
 
 /// `mX,Y`: the sum of the two on top, the lower one times X and the upper one times Y.
-fn weighted<R: Element>(
+fn weighted_sum<R: Element>(
     alloc: Global,
     scalars: &str,
     stack: &mut Vec<Synthetic<R, R>>,
 ) -> Result<Synthetic<R, R>, Fault> {
-    let (x, y) = parted(scalars, ',')?;
+    let (x, y) = split_at_mark(scalars, ',')?;
     let mut weights = Vec::new(alloc);
     weights.push(element::<R>(alloc, x)?)?;
     weights.push(element::<R>(alloc, y)?)?;
@@ -343,7 +338,7 @@ fn of_top<R: Element>(
     match step {
         "z" => zero(alloc),
         "n" => negative(alloc, top(stack)?),
-        "d" => doubled(alloc, top(stack)?),
+        "d" => double(alloc, top(stack)?),
         "+" | "-" => {
             let b = top(stack)?;
             of_two(alloc, step, top(stack)?, &b)
@@ -373,7 +368,7 @@ fn negative<R: Element>(alloc: Global, c: Synthetic<R, R>) -> Result<Synthetic<R
 }
 
 /// Twice the combination.
-fn doubled<R: Element>(alloc: Global, c: Synthetic<R, R>) -> Result<Synthetic<R, R>, Fault> {
+fn double<R: Element>(alloc: Global, c: Synthetic<R, R>) -> Result<Synthetic<R, R>, Fault> {
     let mut c = c;
     let given = begin(alloc, &c);
     let done = c.double(alloc);

@@ -7,7 +7,7 @@ use math_samples::elements::Element;
 use rows_base::answer::Answer;
 use rows_base::fault::Fault;
 use rows_base::refusals::{begin, end};
-use rows_base::words::{element, elements, keyed, parted};
+use rows_base::words::{element, elements, keyed_elements, split_at_mark};
 use rows_poly::polynomials::{polynomials, put_stored};
 use std::alloc::Global;
 
@@ -30,7 +30,7 @@ pub fn run<R: Element>(
 }
 
 /// Pairs of the numbers from 0 upwards and of these values.
-fn counted<V: Drop>(alloc: Global, values: Vec<V>) -> Mem<Vec<(u64, V)>> {
+fn with_numbers<V: Drop>(alloc: Global, values: Vec<V>) -> Mem<Vec<(u64, V)>> {
     let mut out = Vec::new(alloc);
     for (i, value) in values.into_iter().enumerate() {
         out.push((i as u64, value))?;
@@ -43,9 +43,9 @@ fn interpolator_at<R: Element>(
     alloc: Global,
     arguments: &str,
 ) -> Result<Interpolator<u64, R>, Fault> {
-    let (x, points) = parted(arguments, '@')?;
+    let (x, points) = split_at_mark(arguments, '@')?;
     let x = element::<R>(alloc, x)?;
-    let points = keyed::<R>(alloc, points)?;
+    let points = keyed_elements::<R>(alloc, points)?;
     let given = begin(alloc, &x);
     let out = Interpolator::at(alloc, points, &x);
     end(alloc, given, &x, out.is_err());
@@ -68,7 +68,7 @@ pub fn put_weights<R: Element>(
 ) -> Mem<()> {
     let weights = interpolator.weights();
     for (key, weight) in weights.keys().iter().zip(weights.values()) {
-        answer.keyed(*key, weight.clone(alloc)?)?;
+        answer.add_keyed(*key, weight.clone(alloc)?)?;
     }
     Ok(())
 }
@@ -79,7 +79,7 @@ fn weights<R: Element>(
     arguments: &str,
     answer: &mut Answer<R>,
 ) -> Result<(), Fault> {
-    let points = counted(alloc, elements::<R>(alloc, arguments)?)?;
+    let points = with_numbers(alloc, elements::<R>(alloc, arguments)?)?;
     let interpolator = at_zero(alloc, points)?;
     answer.copies(alloc, interpolator.weights().values())?;
     Ok(())
@@ -91,7 +91,7 @@ fn interpolator<R: Element>(
     arguments: &str,
     answer: &mut Answer<R>,
 ) -> Result<(), Fault> {
-    let interpolator = at_zero(alloc, keyed::<R>(alloc, arguments)?)?;
+    let interpolator = at_zero(alloc, keyed_elements::<R>(alloc, arguments)?)?;
     put_weights(alloc, &interpolator, answer)?;
     Ok(())
 }
@@ -111,7 +111,7 @@ fn map_of<V: Drop>(alloc: Global, pairs: Vec<(u64, V)>) -> Mem<Map<u64, V>> {
 }
 
 /// The value that these weights give, or `None`.
-fn interpolated<R: Element, K: Space<R>>(
+fn value_by_weights<R: Element, K: Space<R>>(
     alloc: Global,
     interpolator: &Interpolator<u64, R>,
     values: &Map<u64, K>,
@@ -128,10 +128,10 @@ fn interpolate<R: Element>(
     arguments: &str,
     answer: &mut Answer<R>,
 ) -> Result<(), Fault> {
-    let (values, points) = parted(arguments, '@')?;
-    let values = map_of(alloc, keyed::<R>(alloc, values)?)?;
+    let (values, points) = split_at_mark(arguments, '@')?;
+    let values = map_of(alloc, keyed_elements::<R>(alloc, values)?)?;
     let interpolator = interpolator_at::<R>(alloc, points)?;
-    match interpolated(alloc, &interpolator, &values)? {
+    match value_by_weights(alloc, &interpolator, &values)? {
         Some(value) => answer.element(value)?,
         None => answer.text.push_str(" none")?,
     }
@@ -145,11 +145,11 @@ fn interpolate_polynomials<R: Element>(
     arguments: &str,
     answer: &mut Answer<R>,
 ) -> Result<(), Fault> {
-    let (values, points) = parted(arguments, '@')?;
-    let values = counted(alloc, polynomials::<R>(alloc, values)?)?;
+    let (values, points) = split_at_mark(arguments, '@')?;
+    let values = with_numbers(alloc, polynomials::<R>(alloc, values)?)?;
     let values = map_of(alloc, values)?;
     let interpolator = interpolator_at::<R>(alloc, points)?;
-    match interpolated(alloc, &interpolator, &values)? {
+    match value_by_weights(alloc, &interpolator, &values)? {
         Some(value) => put_stored(alloc, &value, answer)?,
         None => answer.text.push_str(" none")?,
     }

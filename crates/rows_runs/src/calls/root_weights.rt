@@ -12,7 +12,7 @@ use math_samples::elements::Element;
 use rows_base::answer::{Answer, put};
 use rows_base::fault::Fault;
 use rows_base::refusals::{begin, end};
-use rows_base::words::{element, elements, number, parted, short};
+use rows_base::words::{element, elements, number, short, split_at_mark};
 use rows_ntt::transforms::has_domain;
 use std::alloc::Global;
 use std::num::NonZeroU32;
@@ -73,7 +73,7 @@ fn indices(alloc: Global, text: &str) -> Result<Vec<u32>, Fault> {
 fn keys(alloc: Global, text: &str) -> Result<BiMap<u64, u32>, Fault> {
     let mut pairs = Vec::new(alloc);
     for word in text.split_whitespace() {
-        let (key, index) = parted(word, ':')?;
+        let (key, index) = split_at_mark(word, ':')?;
         pairs.push((number(key)?, short(index)?))?;
     }
     Ok(BiMap::try_from_iter(alloc, pairs)?)
@@ -82,7 +82,7 @@ fn keys(alloc: Global, text: &str) -> Result<BiMap<u64, u32>, Fault> {
 /// Adds weights with their indices.
 fn put_indexed<R: Element>(weights: Vec<(u32, R)>, answer: &mut Answer<R>) -> Mem<()> {
     for (index, weight) in weights {
-        answer.keyed(u64::from(index), weight)?;
+        answer.add_keyed(u64::from(index), weight)?;
     }
     Ok(())
 }
@@ -118,7 +118,7 @@ fn lagrange<R: Element>(
     arguments: &str,
     answer: &mut Answer<R>,
 ) -> Result<(), Fault> {
-    let (total, list) = parted(arguments, ';')?;
+    let (total, list) = split_at_mark(arguments, ';')?;
     let total = total_in::<R>(total)?;
     let weights = weights(alloc, total, indices(alloc, list)?)?;
     put_indexed(weights, answer)?;
@@ -131,8 +131,8 @@ fn lagrange_at<R: Element>(
     arguments: &str,
     answer: &mut Answer<R>,
 ) -> Result<(), Fault> {
-    let (x, rest) = parted(arguments, '@')?;
-    let (total, list) = parted(rest, ';')?;
+    let (x, rest) = split_at_mark(arguments, '@')?;
+    let (total, list) = split_at_mark(rest, ';')?;
     let total = total_in::<R>(total)?;
     let x = element::<R>(alloc, x)?;
     let weights = weights_at(alloc, total, indices(alloc, list)?, &x)?;
@@ -146,7 +146,7 @@ fn roots_of_unity<R: Element>(
     arguments: &str,
     answer: &mut Answer<R>,
 ) -> Result<(), Fault> {
-    let (total, points) = parted(arguments, ';')?;
+    let (total, points) = split_at_mark(arguments, ';')?;
     let total = total_in::<R>(total)?;
     let points = keys(alloc, points)?;
     let given = begin(alloc, &());
@@ -162,8 +162,8 @@ fn roots_of_unity_at<R: Element>(
     arguments: &str,
     answer: &mut Answer<R>,
 ) -> Result<(), Fault> {
-    let (x, rest) = parted(arguments, '@')?;
-    let (total, points) = parted(rest, ';')?;
+    let (x, rest) = split_at_mark(arguments, '@')?;
+    let (total, points) = split_at_mark(rest, ';')?;
     let total = total_in::<R>(total)?;
     let points = keys(alloc, points)?;
     let x = element::<R>(alloc, x)?;
@@ -204,7 +204,7 @@ fn multiples(alloc: Global, total: NonZeroU32, d: u32) -> Mem<Vec<u32>> {
 }
 
 /// The points of indices, each with its index.
-fn indexed<R: Element>(alloc: Global, indices: &[u32], points: &[R]) -> Mem<Vec<(u32, R)>> {
+fn with_indices<R: Element>(alloc: Global, indices: &[u32], points: &[R]) -> Mem<Vec<(u32, R)>> {
     let mut out = Vec::new(alloc);
     for index in indices {
         if let Some(point) = points.get(*index as usize) {
@@ -239,7 +239,7 @@ fn is_as_at<R: Element>(
     requires { HasDomainOf R.MAX_LG_ROOT_ORDER total.value }
 {
     let indices = multiples(alloc, total, d)?;
-    let pairs = indexed(alloc, &indices, points)?;
+    let pairs = with_indices(alloc, &indices, points)?;
     let expected = Interpolator::at(alloc, pairs, x)?;
     let weights = weights_at(alloc, total, indices, x)?;
     let weights = Map::from_iter_dedup(alloc, weights)?;
@@ -270,7 +270,7 @@ fn lagrange_as_at<R: Element>(
     arguments: &str,
     answer: &mut Answer<R>,
 ) -> Result<(), Fault> {
-    let (total, d) = parted(arguments.trim(), ' ')?;
+    let (total, d) = split_at_mark(arguments.trim(), ' ')?;
     let total = total_in::<R>(total)?;
     let d = short(d)?;
     let points = domain::<R>(alloc, total)?;
@@ -288,7 +288,7 @@ fn roots_of_unity_as_new<R: Element>(
     arguments: &str,
     answer: &mut Answer<R>,
 ) -> Result<(), Fault> {
-    let (first, last) = parted(arguments.trim(), ' ')?;
+    let (first, last) = split_at_mark(arguments.trim(), ' ')?;
     let mut fits = 0u64;
     for total in short(first)?..=short(last)? {
         fits = fits.saturating_add(u64::from(is_as_new::<R>(alloc, total)?));
@@ -319,7 +319,7 @@ fn of_all_indices<R: Element>(
 fn of_points<R: Element>(alloc: Global, total: NonZeroU32) -> Result<Interpolator<u32, R>, Fault> {
     let points = domain::<R>(alloc, total)?;
     let indices = multiples(alloc, total, 1)?;
-    let pairs = indexed(alloc, &indices, &points)?;
+    let pairs = with_indices(alloc, &indices, &points)?;
     Ok(Interpolator::new(alloc, pairs)?)
 }
 

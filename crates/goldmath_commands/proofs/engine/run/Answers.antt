@@ -2,11 +2,11 @@ use Rattle.std.proofs.Common.{map, string_bytes, rules}
 use Rattle.goldmath_commands.proofs.WrongWords.{wrong_for_both}
 use Rattle.goldmath_commands.proofs.engine.run.Goals as goal
 
-pub returns-in_err-evaluated-in-Some-clause-words : goal.returns-in_err-evaluated-in-Some-clause-words
-returns-in_err-evaluated-in-Some-clause-words c = record { usage = search rules; wrong = λ wrong. absurd (wrong.0 _ c.in-Some.ensures.written) }
+pub returns-in_err-evaluate_polynomial-in-Some-clause-words : goal.returns-in_err-evaluate_polynomial-in-Some-clause-words
+returns-in_err-evaluate_polynomial-in-Some-clause-words c = record { usage = search rules; wrong = λ wrong. absurd (wrong.0 _ c.in-Some.ensures.written) }
 
-pub returns-in_ok-evaluated-in-Some-clause-words : goal.returns-in_ok-evaluated-in-Some-clause-words
-returns-in_ok-evaluated-in-Some-clause-words c = record { usage = tt; wrong = λ wrong. absurd (wrong.0 _ c.in-Some.ensures.written) }
+pub returns-in_ok-evaluate_polynomial-in-Some-clause-words : goal.returns-in_ok-evaluate_polynomial-in-Some-clause-words
+returns-in_ok-evaluate_polynomial-in-Some-clause-words c = record { usage = tt; wrong = λ wrong. absurd (wrong.0 _ c.in-Some.ensures.written) }
 
 pub returns-in-None-clause-words : goal.returns-in-None-clause-words
 returns-in-None-clause-words c = record {

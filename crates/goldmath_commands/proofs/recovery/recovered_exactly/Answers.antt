@@ -17,14 +17,14 @@ returns-clause-answer c =
     let lg = c.args.recovery.now.lg in
     let rows = c.args.recovery.now.rows.items in
     let m = c.in_ok-matrix.matrix in
-    let v = c.in_ok-placed.field-0 in
+    let v = c.in_ok-place_rows.field-0 in
     let q = c.in_ok-recover.field-0 in
     let taken = c.in_ok-matrix.ensures.taken in (
       m,
       encoded c.args.bytes.now m taken.0 taken.1,
-      encodes lg rows m v q c.write.new.out.items c.in_ok-placed.ensures c.in_ok-recover.ensures.size c.args.recovery.now.below
-          (λ k t. c.in_ok-recover.ensures.fits lg k c.in_ok-placed.ensures.size.0 t)
-          (λ k t p e f. c.in_ok-recover.ensures.only lg k c.in_ok-placed.ensures.size.0 t p e f)
+      encodes lg rows m v q c.write.new.out.items c.in_ok-place_rows.ensures c.in_ok-recover.ensures.size c.args.recovery.now.below
+          (λ k t. c.in_ok-recover.ensures.fits lg k c.in_ok-place_rows.ensures.size.0 t)
+          (λ k t p e f. c.in_ok-recover.ensures.only lg k c.in_ok-place_rows.ensures.size.0 t p e f)
           (rw (c.new-out.ensures.items, c.data-polynomials.ensures) at c.in_ok-write.ensures.ok),
     )
 
@@ -35,4 +35,4 @@ returns-clause-exact c =
     scan_rows-read c.args.recovery.now.lg _ c.args.bytes.now m taken.0.rows_counted taken.0.cols_counted taken.1 c.in_ok-matrix.ensures.exact ∙ c.in_ok-check_size.ensures
 
 pub recover-requires : goal.recover-requires
-recover-requires c = record { domain = has_domain c.args.recovery.now.lg c.in_ok-placed.field-0.matrix.rows c.args.recovery.now.small c.in_ok-placed.ensures.size.0 }
+recover-requires c = record { domain = has_domain c.args.recovery.now.lg c.in_ok-place_rows.field-0.matrix.rows c.args.recovery.now.small c.in_ok-place_rows.ensures.size.0 }

@@ -8,9 +8,9 @@ loop-alloc-init g c =
     let items : c.push.new.self.items ≡ c.in_ok-one.field-0 ∷ [] = c.in_ok-push.ensures.items ∙ ap (λ xs. xs ++ (c.in_ok-one.field-0 ∷ [])) c.new-one.ensures.items in
     record {
       remainders = rw (items, c.new.ensures.items) (remainders-begun F.Object.equality F.Additive.group F.Multiplicative.commutes F.Ring.ring F.Field.field c.args.points.now c.args.values.now
-          c.in_ok-product.product.items c.in_ok-product.through.items c.in_ok-trimmed.field-0.items c.in_ok-one.field-0 c.in_ok-one.ensures.ok
+          c.in_ok-product.product.items c.in_ok-product.through.items c.in_ok-trim.field-0.items c.in_ok-one.field-0 c.in_ok-one.ensures.ok
           c.in_ok-product.ensures.product.0 c.in_ok-product.ensures.product.1 c.in_ok-product.ensures.zeros
-          (omega (arith, c.in_ok-trimmed.ensures.length, c.in_ok-product.ensures.count)) c.in_ok-product.ensures.through c.in_ok-trimmed.ensures.same c.in_ok-trimmed.ensures.trimmed);
+          (omega (arith, c.in_ok-trim.ensures.length, c.in_ok-product.ensures.count)) c.in_ok-product.ensures.through c.in_ok-trim.ensures.same c.in_ok-trim.ensures.trimmed);
       long = omega (arith, c.in_ok-product.ensures.product.0, c.requires.count);
     }
 

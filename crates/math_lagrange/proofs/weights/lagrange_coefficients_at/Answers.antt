@@ -7,8 +7,8 @@ use Rattle.math_transforms.proofs.PresentIndices.{lg-only, places-below}
 use Rattle.math_lagrange.proofs.RootWeightCases.{indices-of}
 use Rattle.math_lagrange.proofs.weights.lagrange_coefficients_at.Goals as goal
 
-pub keyed-requires-clause-below : goal.keyed-requires-clause-below
-keyed-requires-clause-below g c k d l =
+pub with_indices-requires-clause-below : goal.with_indices-requires-clause-below
+with_indices-requires-clause-below g c k d l =
     let points = c.in_ok-points.points in
     let within : k < length (filled_places points) = rw c.in_ok-places.ensures at l in
     let most : 2 ^ c.lg_of_domain-lg.result ≤ 2 ^ 32 = pow_mono c.lg_of_domain-lg.ensures.small in

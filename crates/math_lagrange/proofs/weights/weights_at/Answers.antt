@@ -10,8 +10,8 @@ use Rattle.math_transforms.specs.RootWeights.{ArePointsAt}
 use Rattle.math_lagrange.proofs.RootWeightCases.{places-count, places-inside, points-at, gathered-points}
 use Rattle.math_lagrange.proofs.weights.weights_at.Goals as goal
 
-pub gathered-requires : goal.gathered-requires
-gathered-requires g c = places-inside c.args.present c.args.places.now c.requires.places _ (ap length c.deref.ensures.value ∙ c.in_ok-domain.ensures.count ∙ sym c.requires.size)
+pub copies_at-requires : goal.copies_at-requires
+copies_at-requires g c = places-inside c.args.present c.args.places.now c.requires.places _ (ap length c.deref.ensures.value ∙ c.in_ok-domain.ensures.count ∙ sym c.requires.size)
 
 pub weights_at_missing-requires-clause-points : goal.weights_at_missing-requires-clause-points
 weights_at_missing-requires-clause-points g c =

@@ -16,8 +16,8 @@ vanishing-requires-clause-domain g c = domain-of _ _ c.args.lg (ap length c.set_
 pub vanishing-requires-clause-some : goal.vanishing-requires-clause-some
 vanishing-requires-clause-some g c = rw c.set_non_vanishing.ensures (some-set c.args.present c.args.m (omega (arith, c.requires.inside, c.requires.size)))
 
-pub gathered-requires : goal.gathered-requires
-gathered-requires g c =
+pub copies_at-requires : goal.copies_at-requires
+copies_at-requires g c =
     let size = ap length c.set_non_vanishing.ensures ∙ length-set c.args.present c.args.m true in
     places-inside c.args.present c.args.places.now c.requires.places _ (ap length c.values-values.ensures ∙ (c.in_ok-column.ensures.vanishing c.args.lg (size ∙ c.requires.size)).lengths ∙ size)
 

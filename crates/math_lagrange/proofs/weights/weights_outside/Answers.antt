@@ -16,8 +16,8 @@ vanishing-requires-clause-domain g c = domain-of _ _ c.args.lg c.requires.size c
 pub vanishing-requires-clause-some : goal.vanishing-requires-clause-some
 vanishing-requires-clause-some g c = omega (arith, c.requires.some, places-count c.args.present.now c.args.places.now c.requires.places)
 
-pub gathered-requires : goal.gathered-requires
-gathered-requires g c =
+pub copies_at-requires : goal.copies_at-requires
+copies_at-requires g c =
     places-inside c.args.present.now c.args.places.now c.requires.places _
     (ap length c.values.ensures ∙ (c.in_ok-column.ensures.vanishing c.args.lg c.requires.size).lengths)
 

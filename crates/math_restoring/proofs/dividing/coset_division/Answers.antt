@@ -13,7 +13,7 @@ divided_inverses-requires-clause-vanishes c =
     rw copied c.in_ok-factors.ensures.vanishes
 
 pub divided_inverses-requires-clause-step : goal.divided_inverses-requires-clause-step
-divided_inverses-requires-clause-step c = rw (same_number c.in_ok-shift.shift shift_of c.in_ok-shift.ensures.ok) at c.squared-step.ensures
+divided_inverses-requires-clause-step c = rw (same_number c.in_ok-shift.shift shift_of c.in_ok-shift.ensures.ok) at c.square_times-step.ensures
 
 pub divided_inverses-requires-clause-tree : goal.divided_inverses-requires-clause-tree
 divided_inverses-requires-clause-tree c = rw c.deref-4.ensures.value (rw (same_number c.in_ok-shift.shift shift_of c.in_ok-shift.ensures.ok) at c.in_ok-coset.ensures)
@@ -30,7 +30,7 @@ returns-clause-division c =
     let p = c.in_ok-factors.factors in
     let long : length new ≡ 2 ^ c.args.lg = c.write_factors.auto.cells ∙ ap length c.deref_mut-2.ensures.value ∙ count in
     let written : take p.len (new ++ drop (length new) p.items) ≡ new = take-written p.len p.items new p.ok.0 (c.write_factors.auto.cells ∙ ap length c.deref_mut-2.ensures.value) in
-    let factors : AreFactors c.args.lg c.args.part c.squared-step.result v new = rw c.deref_mut-2.ensures.value at c.in_ok-write_factors.ensures in
+    let factors : AreFactors c.args.lg c.args.part c.square_times-step.result v new = rw c.deref_mut-2.ensures.value at c.in_ok-write_factors.ensures in
     let inverses : AreDividedInverses c.args.part v c.in_ok-inverses.inverses.items = rw copied at c.in_ok-inverses.ensures.inverses in
     record {
       tables = record {
@@ -40,7 +40,7 @@ returns-clause-division c =
         points = c.requires.points;
         some = c.requires.some;
         few = c.requires.few;
-        step = rw shift at c.squared-step.ensures;
+        step = rw shift at c.square_times-step.ensures;
         factor_count = rw written long;
         domain_inverses = c.in_ok-domain.ensures;
         coset_tree = rw shift at c.in_ok-coset.ensures;

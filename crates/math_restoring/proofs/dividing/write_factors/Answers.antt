@@ -27,12 +27,12 @@ returns-in_ok-multiply_rows-2 c = record {
   whole = λ t e l. absurd (c.if-part-lg.false e);
   low = λ t e l.
       low-factors c.args.lg c.args.part c.args.step c.requires.some c.requires.domain c.args.cells.now c.evaluate.new.cells c.args.roots.now c.requires.size c.requires.tree
-      c.evaluate.ensures c.in_ok-factor.factor c.squared-power.result c.both_factors-factors.result.0 c.both_factors-factors.result.1
-      c.multiply_rows-else-part-lg.new.cells c.in_ok-factor.ensures.inverse c.squared-power.ensures c.both_factors-factors.ensures.first c.both_factors-factors.ensures.second
+      c.evaluate.ensures c.in_ok-factor.factor c.square_times-power.result c.both_factors-factors.result.0 c.both_factors-factors.result.1
+      c.multiply_rows-else-part-lg.new.cells c.in_ok-factor.ensures.inverse c.square_times-power.ensures c.both_factors-factors.ensures.first c.both_factors-factors.ensures.second
       (rw c.size_of-else-part-lg.ensures at c.in_ok-multiply_rows-2.ensures.products) t l;
   high = λ t e l.
       high-factors c.args.lg c.args.part c.args.step c.requires.some c.requires.domain c.args.cells.now c.evaluate.new.cells c.args.roots.now c.requires.size c.requires.tree
-      c.evaluate.ensures c.in_ok-factor.factor c.squared-power.result c.both_factors-factors.result.0 c.both_factors-factors.result.1
-      c.multiply_rows-else-part-lg.new.cells c.in_ok-factor.ensures.inverse c.squared-power.ensures c.both_factors-factors.ensures.first c.both_factors-factors.ensures.second
+      c.evaluate.ensures c.in_ok-factor.factor c.square_times-power.result c.both_factors-factors.result.0 c.both_factors-factors.result.1
+      c.multiply_rows-else-part-lg.new.cells c.in_ok-factor.ensures.inverse c.square_times-power.ensures c.both_factors-factors.ensures.first c.both_factors-factors.ensures.second
       (rw c.size_of-else-part-lg.ensures at c.in_ok-multiply_rows-2.ensures.products) t l;
 }

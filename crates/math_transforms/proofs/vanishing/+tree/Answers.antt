@@ -66,8 +66,8 @@ overflow_mul-stride g t c = omega (arith, stride-within c.args.trees.now.lg c.ar
 pub overflow_add-start : goal.overflow_add-start
 overflow_add-start g t c = omega (arith, stride-within c.args.trees.now.lg c.args.spaced.now.stride (length c.args.spaced.now.points.now) (omega arith) c.requires.spaced.covers)
 
-pub merged-requires-clause-room : goal.merged-requires-clause-room
-merged-requires-clause-room g t c =
+pub merge-requires-clause-room : goal.merge-requires-clause-room
+merge-requires-clause-room g t c =
     let left = c.in_ok-left.ensures.bounded in
     let right = c.in_ok-right.ensures.bounded in
     omega (arith, merges c.args.trees.now.lg (omega arith), left.no_more, right.no_more)

@@ -55,6 +55,6 @@ returns-clause-lanes c = λ column j l long is.
     let r : ℕ = c.loop-r.r in
     let none : drop r column ≡ [] = drop_all r column (omega (arith, long, c.loop-r-test.false)) in
     let whole : ℕ = from_parts (get_or c.loop-r.a j 0) (get_or c.loop-r.b j 0) (get_or c.loop-r.c j 0) (get_or c.loop-r.d j 0) in
-    c.joined.ensures.lanes j l
+    c.join_parts.ensures.lanes j l
     ∙ sym (ap (λ xs. (whole + number (weighted_sum (residue 0) sum product xs (drop r weights))) % P) none ∙ omega arith)
     ∙ c.loop-r.invariant.sums column j l long is

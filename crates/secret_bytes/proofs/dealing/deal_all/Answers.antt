@@ -17,7 +17,7 @@ returns-in_err-p-clause-due g c =
     let v = c.loop-element.invariant in
     let all = c.args.elements.now in
     let before = g.G.Rng.stream c.args.rng.now in
-    let after = g.G.Rng.stream c.sampled.new.rng in
+    let after = g.G.Rng.stream c.sample_polynomial.new.rng in
     let error = c.in_err-p.field-0.0 in
     passed c.from_residual.result error (IsDueSampling (length all * (c.args.t - 1)) before after) c.from_residual.ensures.1
     (due-in-turn c.args.t c.loop-element.element-index before (g.G.Rng.stream c.loop-element.rng) after all v.polynomials error v.sampled c.loop-element-test.true c.in_err-p.ensures.due)
@@ -28,7 +28,7 @@ returns-in_err-push_values-clause-due g c =
     let t = c.args.t in
     let all = c.args.elements.now in
     let before = g.G.Rng.stream c.args.rng.now in
-    let after = g.G.Rng.stream c.sampled.new.rng in
+    let after = g.G.Rng.stream c.sample_polynomial.new.rng in
     let error = Memory c.in_err-push_values.field-0.0 in
     passed c.from_residual-in_err-push_values.result error (IsDueSampling (length all * (t - 1)) before after) c.from_residual-in_err-push_values.ensures.1
     (due-in-turn t c.loop-element.element-index before (g.G.Rng.stream c.loop-element.rng) after all v.polynomials error v.sampled c.loop-element-test.true
@@ -45,7 +45,7 @@ loop-element-preserved g c =
     let grown : AllZip (IsGrown p) c.loop-element.rows c.push_values.new.rows = rw c.deref.ensures.value at c.in_ok-push_values.ensures in
     record {
       polynomials = v.polynomials ++ (p ∷ []);
-      sampled = rw more (sampled-push c.args.t (g.G.Rng.stream c.args.rng.now) (g.G.Rng.stream c.loop-element.rng) (g.G.Rng.stream c.sampled.new.rng) (take i all) v.polynomials a p v.sampled c.in_ok-p.ensures.sampled);
+      sampled = rw more (sampled-push c.args.t (g.G.Rng.stream c.args.rng.now) (g.G.Rng.stream c.loop-element.rng) (g.G.Rng.stream c.sample_polynomial.new.rng) (take i all) v.polynomials a p v.sampled c.in_ok-p.ensures.sampled);
       rows = λ deal n h. rows-grown c.args.t deal v.polynomials p (range_with_len 1 n) c.loop-element.rows c.push_values.new.rows (v.rows deal n h) grown;
     }
 

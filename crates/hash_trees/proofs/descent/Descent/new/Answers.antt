@@ -8,8 +8,8 @@ use Rattle.hash_trees.proofs.descent.Descent.new.Goals as goal
 
 pub invariant_of-result : goal.invariant_of-result
 invariant_of-result c =
-    let node = c.lowered.ensures ∙ lowered_top c.args.count 64 c.args.count c.args.top (omega arith) (below_power c.args.count) in
-    let items = pushed_top c.push.new.self.items c.new-waiting.result.items c.lowered.result c.args.count c.args.top c.in_ok-push.ensures.items c.new-waiting.ensures.items node in
+    let node = c.lower.ensures ∙ lowered_top c.args.count 64 c.args.count c.args.top (omega arith) (below_power c.args.count) in
+    let items = pushed_top c.push.new.self.items c.new-waiting.result.items c.lower.result c.args.count c.args.top c.in_ok-push.ensures.items c.new-waiting.ensures.items node in
     let way = way_from_top sha512_256 c.args.count c.args.top c.requires in (
       subst (λ l. IsWay sha512_256 (record { count = c.args.count; top = c.args.top; nodes = l })) (sym items) way.0,
       subst (λ l. 0 ≡ first_of c.args.count l) (sym items) (sym way.1),
@@ -18,18 +18,18 @@ invariant_of-result c =
 
 pub returns-clause-top : goal.returns-clause-top
 returns-clause-top c =
-    let node = c.lowered.ensures ∙ lowered_top c.args.count 64 c.args.count c.args.top (omega arith) (below_power c.args.count) in
-    let items = pushed_top c.push.new.self.items c.new-waiting.result.items c.lowered.result c.args.count c.args.top c.in_ok-push.ensures.items c.new-waiting.ensures.items node in
+    let node = c.lower.ensures ∙ lowered_top c.args.count 64 c.args.count c.args.top (omega arith) (below_power c.args.count) in
+    let items = pushed_top c.push.new.self.items c.new-waiting.result.items c.lower.result c.args.count c.args.top c.in_ok-push.ensures.items c.new-waiting.ensures.items node in
     ap (λ l. record { count = c.args.count; top = c.args.top; nodes = l }) items
 
 pub returns-clause-leaf : goal.returns-clause-leaf
 returns-clause-leaf c =
-    let node = c.lowered.ensures ∙ lowered_top c.args.count 64 c.args.count c.args.top (omega arith) (below_power c.args.count) in
-    let items = pushed_top c.push.new.self.items c.new-waiting.result.items c.lowered.result c.args.count c.args.top c.in_ok-push.ensures.items c.new-waiting.ensures.items node in
+    let node = c.lower.ensures ∙ lowered_top c.args.count 64 c.args.count c.args.top (omega arith) (below_power c.args.count) in
+    let items = pushed_top c.push.new.self.items c.new-waiting.result.items c.lower.result c.args.count c.args.top c.in_ok-push.ensures.items c.new-waiting.ensures.items node in
     ap (λ l. first_leaf (record { count = c.args.count; top = c.args.top; nodes = l })) items ∙ (way_from_top sha512_256 c.args.count c.args.top c.requires).1
 
 pub returns-clause-pair : goal.returns-clause-pair
 returns-clause-pair c =
-    let node = c.lowered.ensures ∙ lowered_top c.args.count 64 c.args.count c.args.top (omega arith) (below_power c.args.count) in
-    let items = pushed_top c.push.new.self.items c.new-waiting.result.items c.lowered.result c.args.count c.args.top c.in_ok-push.ensures.items c.new-waiting.ensures.items node in
+    let node = c.lower.ensures ∙ lowered_top c.args.count 64 c.args.count c.args.top (omega arith) (below_power c.args.count) in
+    let items = pushed_top c.push.new.self.items c.new-waiting.result.items c.lower.result c.args.count c.args.top c.in_ok-push.ensures.items c.new-waiting.ensures.items node in
     ap (λ l. pair_place (record { count = c.args.count; top = c.args.top; nodes = l })) items ∙ none_behind sha512_256 c.args.count c.args.top c.requires

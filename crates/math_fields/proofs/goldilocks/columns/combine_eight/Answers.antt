@@ -17,9 +17,9 @@ returns g c =
           let small : j < 8 = omega (arith, l, m) in
           let place0 : i + j ≡ p = omega (arith, l) in
           let place1 : cols + i + j ≡ cols + p = omega (arith, l) in
-          let new0 : IsLane c.combined.result.0 j (at new (p)) = subst (λ x. IsLane c.combined.result.0 j x) (sym (c.store-2.ensures.before (residue 0) (p) (omega (arith, m, c.requires.within)))) (subst (λ q. IsLane c.combined.result.0 j (at c.store.new.cells q)) place0 (c.store.ensures.stored (residue 0) j small)) in
-          let new1 : IsLane c.combined.result.1 j (at new (cols + p)) = subst (λ q. IsLane c.combined.result.1 j (at c.store-2.new.cells q)) place1 (c.store-2.ensures.stored (residue 0) j small) in
-          c.combined.ensures.combined j (at old (p)) (at old (cols + p)) (at new (p)) (at new (cols + p)) small
+          let new0 : IsLane c.combine_lanes.result.0 j (at new (p)) = subst (λ x. IsLane c.combine_lanes.result.0 j x) (sym (c.store-2.ensures.before (residue 0) (p) (omega (arith, m, c.requires.within)))) (subst (λ q. IsLane c.combine_lanes.result.0 j (at c.store.new.cells q)) place0 (c.store.ensures.stored (residue 0) j small)) in
+          let new1 : IsLane c.combine_lanes.result.1 j (at new (cols + p)) = subst (λ q. IsLane c.combine_lanes.result.1 j (at c.store-2.new.cells q)) place1 (c.store-2.ensures.stored (residue 0) j small) in
+          c.combine_lanes.ensures.combined j (at old (p)) (at old (cols + p)) (at new (p)) (at new (cols + p)) small
           (subst (λ q. IsLane c.load-low.result j (at old q)) place0 (c.load-low.ensures.lanes (residue 0) j small))
           (subst (λ q. IsLane c.load-high.result j (at old q)) place1 (c.load-high.ensures.lanes (residue 0) j small))
           new0 new1;

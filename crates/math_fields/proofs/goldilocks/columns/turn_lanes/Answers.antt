@@ -6,23 +6,23 @@ use Rattle.math_fields.specs.Elements.{negative, number, product, residue, sum}
 use Rattle.math_fields.proofs.TurnedElements.{turned_back, turned_forward}
 use Rattle.math_fields.proofs.goldilocks.columns.turn_lanes.Goals as goal
 
-pub scaled-third-requires : goal.scaled-third-requires
-scaled-third-requires g c = (search rules, (search rules, λ one j small. (c.requires.one one j small).1))
+pub scale_lanes-third-requires : goal.scale_lanes-third-requires
+scale_lanes-third-requires g c = (search rules, (search rules, λ one j small. (c.requires.one one j small).1))
 
-pub scaled-second-requires : goal.scaled-second-requires
-scaled-second-requires g c = (search rules, (search rules, λ one j small. (c.requires.one one j small).0))
+pub scale_lanes-second-requires : goal.scale_lanes-second-requires
+scale_lanes-second-requires g c = (search rules, (search rules, λ one j small. (c.requires.one one j small).0))
 
-pub scaled-fourth-requires : goal.scaled-fourth-requires
-scaled-fourth-requires g c = (search rules, (search rules, λ one j small. (c.requires.one one j small).2))
+pub scale_lanes-fourth-requires : goal.scale_lanes-fourth-requires
+scale_lanes-fourth-requires g c = (search rules, (search rules, λ one j small. (c.requires.one one j small).2))
 
-pub scaled-by_e-requires : goal.scaled-by_e-requires
-scaled-by_e-requires g c = (search rules, (search rules, λ one j small. (c.requires.one one j small).0))
+pub scale_lanes-by_e-requires : goal.scale_lanes-by_e-requires
+scale_lanes-by_e-requires g c = (search rules, (search rules, λ one j small. (c.requires.one one j small).0))
 
-pub scaled-by_g-requires : goal.scaled-by_g-requires
-scaled-by_g-requires g c = (search rules, (search rules, λ one j small. (c.requires.one one j small).1))
+pub scale_lanes-by_g-requires : goal.scale_lanes-by_g-requires
+scale_lanes-by_g-requires g c = (search rules, (search rules, λ one j small. (c.requires.one one j small).1))
 
-pub scaled-by_eg-requires : goal.scaled-by_eg-requires
-scaled-by_eg-requires g c = (search rules, (search rules, λ one j small. (c.requires.one one j small).2))
+pub scale_lanes-by_eg-requires : goal.scale_lanes-by_eg-requires
+scale_lanes-by_eg-requires g c = (search rules, (search rules, λ one j small. (c.requires.one one j small).2))
 
 pub returns-then-this-ne0-clause-turned : goal.returns-then-this-ne0-clause-turned
 returns-then-this-ne0-clause-turned g c = λ j p q k l m n w x y z f small he hg heg ha hb hc hd hw hx hy hz odd.
@@ -32,9 +32,9 @@ returns-then-this-ne0-clause-turned g c = λ j p q k l m n w x y z f small he hg
     let le = product l p in
     let ng = product n pq in
     let root = residue (2 ^ 48) in
-    let third = c.scaled-third.ensures.lanes j m q small hc hg in
-    let second = c.scaled-second.ensures.lanes j l p small hb he in
-    let fourth = c.scaled-fourth.ensures.lanes j n pq small hd heg in
+    let third = c.scale_lanes-third.ensures.lanes j m q small hc hg in
+    let second = c.scale_lanes-second.ensures.lanes j l p small hb he in
+    let fourth = c.scale_lanes-fourth.ensures.lanes j n pq small hd heg in
     let more = c.plus-more.ensures.lanes j k mg small ha third in
     let less = c.minus-less.ensures.lanes j k mg small ha third in
     let first = c.plus-first.ensures.lanes j le ng small second fourth in
@@ -66,6 +66,6 @@ returns-else-this-ne0-clause-turned g c = λ j p q k l m n w x y z f small he hg
     (turned_back k l m n p q root pq f refl w x y z
     ((rw back at odd) ∙ ap (λ t. number p * (t % P) % P) (power_mod-by_squaring 64 P 281474976710656 18446744069414584319 (lit< tt)))
     (sym hw ∙ c.plus-whole.ensures.lanes j (sum k l) (sum m n) small front_is behind_is)
-    (sym hx ∙ c.scaled-by_e.ensures.lanes j (sum lower (negative (product upper root))) p small x_is he)
-    (sym hy ∙ c.scaled-by_g.ensures.lanes j (sum (sum k l) (negative (sum m n))) q small y_is hg)
-    (sym hz ∙ c.scaled-by_eg.ensures.lanes j (sum lower (product upper root)) pq small z_is heg))
+    (sym hx ∙ c.scale_lanes-by_e.ensures.lanes j (sum lower (negative (product upper root))) p small x_is he)
+    (sym hy ∙ c.scale_lanes-by_g.ensures.lanes j (sum (sum k l) (negative (sum m n))) q small y_is hg)
+    (sym hz ∙ c.scale_lanes-by_eg.ensures.lanes j (sum lower (product upper root)) pq small z_is heg))

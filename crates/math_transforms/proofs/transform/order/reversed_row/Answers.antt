@@ -12,7 +12,7 @@ pub offset_bounds-cells-at : goal.offset_bounds-cells-at
 offset_bounds-cells-at g c = grind (arith, reversed-row_within)
 
 pub slice_bounds-result-end : goal.slice_bounds-result-end
-slice_bounds-result-end g c = reversed-row_within c.args.lg c.args.i c.args.cols (length c.args.cells.now) c.reversed.result c.requires.size c.reversed.ensures
+slice_bounds-result-end g c = reversed-row_within c.args.lg c.args.i c.args.cols (length c.args.cells.now) c.reverse_bits.result c.requires.size c.reverse_bits.ensures
 
 pub returns-clause-row : goal.returns-clause-row
 returns-clause-row g c = grind arith

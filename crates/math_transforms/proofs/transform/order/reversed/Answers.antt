@@ -1,5 +1,0 @@
-use Rattle.math_transforms.proofs.ReversedBits.{reversed-word}
-use Rattle.math_transforms.proofs.transform.order.reversed.Goals as goal
-
-pub returns : goal.returns
-returns c = rw c.reverse_bits.ensures (reversed-word c.args.lg c.args.i c.requires.small c.requires.below)
