@@ -39,7 +39,7 @@ ghost use Rattle.std.specs.Prelude.{
   length,
 };
 ghost use Rattle.math_transforms.specs.CombinedCells.{AreCombined};
-ghost use Rattle.math_transforms.specs.CountedWork.{AddsAtMost};
+ghost use Rattle.math_transforms.specs.CountedWork.{AddsAllOrSome, AddsAtMost};
 ghost use Rattle.math_transforms.specs.Quarters.{AreTurned};
 ghost use Rattle.math_transforms.specs.StepsBelow.{AreStepped, AreTransformed};
 ghost use Rattle.math_transforms.specs.RootTrees.{
@@ -207,10 +207,8 @@ fn transform_few<F: FieldNTT, const FORWARD: bool>(
     requires size { length cells.old ≡ 2 ^ points.now.lg * cols }
     requires room { 2 * work.old.butterflies + cols * 2 ^ points.now.lg * points.now.lg < 2 ^ 129 }
     ensures done { OnOk result (AreTransformed F.Ring FORWARD points.now cols cells.old cells.new) }
-    ensures counted { OnOk result (2 * work.new.butterflies
-        ≡ 2 * work.old.butterflies + cols * 2 ^ points.now.lg * points.now.lg) }
-    ensures bounded { AddsAtMost (cols * 2 ^ points.now.lg * points.now.lg) work.old work.new }
-    ensures refused { OnErr result (work.old.butterflies < work.new.butterflies) }
+    ensures counted { AddsAllOrSome (cols * 2 ^ points.now.lg * points.now.lg) result
+        work.old work.new }
     ensures never { IsTrue F.NEVER_REFUSES → IsOk result }
 {
     let count = cells.len();
@@ -270,10 +268,8 @@ fn transform_below<F: FieldNTT, const FORWARD: bool>(
     requires size { length cells.old ≡ 2 ^ points.now.lg * cols }
     requires room { 2 * work.old.butterflies + cols * 2 ^ points.now.lg * points.now.lg < 2 ^ 129 }
     ensures done { OnOk result (AreTransformed F.Ring FORWARD points.now cols cells.old cells.new) }
-    ensures counted { OnOk result (2 * work.new.butterflies
-        ≡ 2 * work.old.butterflies + cols * 2 ^ points.now.lg * points.now.lg) }
-    ensures bounded { AddsAtMost (cols * 2 ^ points.now.lg * points.now.lg) work.old work.new }
-    ensures refused { OnErr result (work.old.butterflies < work.new.butterflies) }
+    ensures counted { AddsAllOrSome (cols * 2 ^ points.now.lg * points.now.lg) result
+        work.old work.new }
     ensures never { IsTrue F.NEVER_REFUSES → IsOk result }
 {
     let count = cells.len();
@@ -325,10 +321,8 @@ pub fn evaluate_below<F: FieldNTT>(
     requires room { 2 * work.old.butterflies + cols * 2 ^ points.now.lg * points.now.lg < 2 ^ 129 }
     ensures size { length cells.new ≡ length cells.old }
     ensures values { OnOk result (AreValuesAtPoints F.Ring points.now cols cells.old cells.new) }
-    ensures counted { OnOk result (2 * work.new.butterflies
-        ≡ 2 * work.old.butterflies + cols * 2 ^ points.now.lg * points.now.lg) }
-    ensures bounded { AddsAtMost (cols * 2 ^ points.now.lg * points.now.lg) work.old work.new }
-    ensures refused { OnErr result (work.old.butterflies < work.new.butterflies) }
+    ensures counted { AddsAllOrSome (cols * 2 ^ points.now.lg * points.now.lg) result
+        work.old work.new }
     ensures never { IsTrue F.NEVER_REFUSES → IsOk result }
 {
     transform_below::<F, true>(alloc, cells, cols, points, work)?;
@@ -401,10 +395,8 @@ pub fn interpolate_below<F: FieldNTT>(
     ensures size { length cells.new ≡ length cells.old }
     ensures values { OnOk result
         (AreMultiplesAtPoints F.Ring inverses.now cols cells.old cells.new) }
-    ensures counted { OnOk result (2 * work.new.butterflies
-        ≡ 2 * work.old.butterflies + cols * 2 ^ inverses.now.lg * inverses.now.lg) }
-    ensures bounded { AddsAtMost (cols * 2 ^ inverses.now.lg * inverses.now.lg) work.old work.new }
-    ensures refused { OnErr result (work.old.butterflies < work.new.butterflies) }
+    ensures counted { AddsAllOrSome (cols * 2 ^ inverses.now.lg * inverses.now.lg) result
+        work.old work.new }
     ensures never { IsTrue F.NEVER_REFUSES → IsOk result }
 {
     transform_below::<F, false>(alloc, cells, cols, inverses, work)?;

@@ -22,13 +22,12 @@ ghost use Rattle.std.specs.Prelude.{
   IsOk,
   IsTrue,
   OnOk,
-  OnErr,
   length,
 };
 ghost use Rattle.std.specs.Int.{IsPowerOfTwo};
 ghost use Rattle.math_theory.specs.Powers.{power};
 ghost use Rattle.math_transforms.specs.CosetValues.{AreMultiplesAtPowers};
-ghost use Rattle.math_transforms.specs.CountedWork.{AddsAtMost};
+ghost use Rattle.math_transforms.specs.CountedWork.{AddsAllOrSome, AddsAtMost};
 ghost use Rattle.math_transforms.specs.DomainValues.{
   matrix_of,
   AreReversedValuesAtPowers,
@@ -108,10 +107,7 @@ pub fn evaluate_rows<F: FieldNTT>(
     ensures size { length cells.new ≡ length cells.old }
     ensures values { OnOk result (AreValuesAtPowers F.Ring (F.root lg)
         (matrix_of (2 ^ lg) cols cells.old) (matrix_of (2 ^ lg) cols cells.new)) }
-    ensures counted { OnOk result
-        (2 * work.new.butterflies ≡ 2 * work.old.butterflies + cols * 2 ^ lg * lg) }
-    ensures bounded { AddsAtMost (cols * 2 ^ lg * lg) work.old work.new }
-    ensures refused { OnErr result (work.old.butterflies < work.new.butterflies) }
+    ensures counted { AddsAllOrSome (cols * 2 ^ lg * lg) result work.old work.new }
     ensures never { IsTrue F.NEVER_REFUSES → IsOk result }
 {
     evaluate_rows_reversed(alloc, cells, cols, lg, table, work)?;
@@ -138,10 +134,7 @@ pub fn evaluate_rows_reversed<F: FieldNTT>(
     ensures size { length cells.new ≡ length cells.old }
     ensures values { OnOk result (AreReversedValuesAtPowers F.Ring (F.root lg) lg
         (matrix_of (2 ^ lg) cols cells.old) (matrix_of (2 ^ lg) cols cells.new)) }
-    ensures counted { OnOk result
-        (2 * work.new.butterflies ≡ 2 * work.old.butterflies + cols * 2 ^ lg * lg) }
-    ensures bounded { AddsAtMost (cols * 2 ^ lg * lg) work.old work.new }
-    ensures refused { OnErr result (work.old.butterflies < work.new.butterflies) }
+    ensures counted { AddsAllOrSome (cols * 2 ^ lg * lg) result work.old work.new }
     ensures never { IsTrue F.NEVER_REFUSES → IsOk result }
 {
     let points = Points {
@@ -215,10 +208,7 @@ pub fn interpolate_rows<F: FieldNTT>(
     ensures size { length cells.new ≡ length cells.old }
     ensures values { OnOk result (AreValuesAtPowers F.Ring (F.root lg)
         (matrix_of (2 ^ lg) cols cells.new) (matrix_of (2 ^ lg) cols cells.old)) }
-    ensures counted { OnOk result
-        (2 * work.new.butterflies ≡ 2 * work.old.butterflies + cols * 2 ^ lg * lg) }
-    ensures bounded { AddsAtMost (cols * 2 ^ lg * lg) work.old work.new }
-    ensures refused { OnErr result (work.old.butterflies < work.new.butterflies) }
+    ensures counted { AddsAllOrSome (cols * 2 ^ lg * lg) result work.old work.new }
     ensures never { IsTrue F.NEVER_REFUSES → IsOk result }
 {
     interpolate_multiples(alloc, cells, cols, lg, table, work)?;
@@ -249,10 +239,7 @@ pub fn interpolate_multiples<F: FieldNTT>(
     ensures size { length cells.new ≡ length cells.old }
     ensures values { OnOk result (AreMultiplesAtPowers F.Ring (F.root lg) lg
         (matrix_of (2 ^ lg) cols cells.new) (matrix_of (2 ^ lg) cols cells.old)) }
-    ensures counted { OnOk result
-        (2 * work.new.butterflies ≡ 2 * work.old.butterflies + cols * 2 ^ lg * lg) }
-    ensures bounded { AddsAtMost (cols * 2 ^ lg * lg) work.old work.new }
-    ensures refused { OnErr result (work.old.butterflies < work.new.butterflies) }
+    ensures counted { AddsAllOrSome (cols * 2 ^ lg * lg) result work.old work.new }
     ensures never { IsTrue F.NEVER_REFUSES → IsOk result }
 {
     if lg == 0 {

@@ -35,7 +35,7 @@ ghost use Rattle.std.specs.Prelude.{
 ghost use Rattle.std.specs.List.{All};
 ghost use Rattle.math_theory.specs.Recovery.{count_true};
 ghost use Rattle.math_transforms.specs.CosetValues.{AreMovedValues};
-ghost use Rattle.math_transforms.specs.CountedWork.{AddsAtMost};
+ghost use Rattle.math_transforms.specs.CountedWork.{AddsAllOrSome};
 ghost use Rattle.math_transforms.specs.DomainValues.{matrix_of, AreValuesAtPowers, HasDomain};
 ghost use Rattle.math_transforms.specs.Matrices.{IsOfSize};
 ghost use Rattle.math_transforms.specs.MissingPoints.{count_false};
@@ -255,11 +255,8 @@ fn moved_to_coset<F: FieldNTT>(
         cols cells.old cells.new) }
     ensures vanishing { OnOk result (AreMovedValues F.Ring (F.root trees.now.lg) F.shift
         trees.now.lg 1 vanishing.old vanishing.new) }
-    ensures counted { OnOk result (2 * work.new.butterflies ≡ 2 * work.old.butterflies
-        + (cols + cols + 2) * 2 ^ trees.now.lg * trees.now.lg) }
-    ensures bounded { AddsAtMost ((cols + cols + 2) * 2 ^ trees.now.lg * trees.now.lg)
+    ensures counted { AddsAllOrSome ((cols + cols + 2) * 2 ^ trees.now.lg * trees.now.lg) result
         work.old work.new }
-    ensures refused { OnErr result (work.old.butterflies < work.new.butterflies) }
     ensures never { IsTrue F.NEVER_REFUSES → IsOk result }
 {
     move_rows(
@@ -335,11 +332,8 @@ fn divide_by_vanishing<F: FieldNTT>(
         + (3 * cols + 3) * 2 ^ trees.old.lg * trees.old.lg < 2 ^ 129 }
     ensures divided { OnOk result (AreDivided F.Ring (F.root trees.old.lg) F.shift
         (2 ^ trees.old.lg) cols cells.old vanishing.old cells.new) }
-    ensures counted { OnOk result (2 * work.new.butterflies ≡ 2 * work.old.butterflies
-        + (3 * cols + 3) * 2 ^ trees.old.lg * trees.old.lg) }
-    ensures bounded { AddsAtMost ((3 * cols + 3) * 2 ^ trees.old.lg * trees.old.lg)
+    ensures counted { AddsAllOrSome ((3 * cols + 3) * 2 ^ trees.old.lg * trees.old.lg) result
         work.old work.new }
-    ensures refused { OnErr result (work.old.butterflies < work.new.butterflies) }
     ensures late { OnErr result (IsTrue F.NEVER_REFUSES → 2 * work.new.butterflies
         ≡ 2 * work.old.butterflies + (2 * cols + 3) * 2 ^ trees.old.lg * trees.old.lg) }
 {

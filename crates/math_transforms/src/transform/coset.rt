@@ -4,9 +4,9 @@
 //! coset leads from these to the values on it. The rows of values are in bit-reversed order in
 //! both, so that no row changes its place.
 
-ghost use Rattle.std.specs.Prelude.{◌≡◌, ◌+◌, ◌*◌, ◌<◌, ◌≤◌, ◌^◌, IsOk, IsTrue, OnOk, OnErr, length};
+ghost use Rattle.std.specs.Prelude.{◌≡◌, ◌+◌, ◌*◌, ◌<◌, ◌≤◌, ◌^◌, IsOk, IsTrue, OnOk, length};
 ghost use Rattle.math_transforms.specs.CosetValues.{AreMovedValues};
-ghost use Rattle.math_transforms.specs.CountedWork.{AddsAtMost};
+ghost use Rattle.math_transforms.specs.CountedWork.{AddsAllOrSome};
 ghost use Rattle.math_transforms.specs.RootTrees.{IsTreeOf};
 
 use crate::points_below::{Points, evaluate_below, interpolate_below};
@@ -40,10 +40,7 @@ pub fn move_rows<F: FieldNTT>(
     ensures size { length cells.new ≡ length cells.old }
     ensures moved { OnOk result
         (AreMovedValues F.Ring (F.root lg) F.shift lg cols cells.old cells.new) }
-    ensures counted { OnOk result (2 * work.new.butterflies
-        ≡ 2 * work.old.butterflies + (cols + cols) * 2 ^ lg * lg) }
-    ensures bounded { AddsAtMost ((cols + cols) * 2 ^ lg * lg) work.old work.new }
-    ensures refused { OnErr result (work.old.butterflies < work.new.butterflies) }
+    ensures counted { AddsAllOrSome ((cols + cols) * 2 ^ lg * lg) result work.old work.new }
     ensures never { IsTrue F.NEVER_REFUSES → IsOk result }
 {
     let inverses = Points {

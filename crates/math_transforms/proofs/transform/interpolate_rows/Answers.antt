@@ -1,4 +1,4 @@
-use Rattle.std.proofs.Common.{◌≡◌, ◌∙◌, ◌*◌, ◌<◌, ◌^◌, length, arith}
+use Rattle.std.proofs.Common.{◌≡◌, ◌∙◌, ◌*◌, ◌<◌, ◌^◌, length, rules, arith}
 use Rattle.math_base.proofs.Members.{ring_members}
 use Rattle.math_transforms.proofs.BelowSteps.{one_level, some-columns, some-level}
 use Rattle.math_transforms.proofs.SomeCells.{some-cells}
@@ -24,8 +24,8 @@ returns-then-count-cols-clause-values g c = λ j k l b.
     (halved-no_times F.Object.equality F.Additive.group F.Multiplicative.commutes F.Ring.ring c.args.lg (omega (arith, none)))
     many many c.in_ok-interpolate_multiples.ensures.values (λ p l. scaled-by_one F.Object.equality F.Additive.group F.Multiplicative.commutes F.Ring.ring _) j k l b
 
-pub returns-in_err-factor-clause-refused : goal.returns-in_err-factor-clause-refused
-returns-in_err-factor-clause-refused g c = grind (arith, some-columns, some-level, some-cells)
+pub returns-in_err-factor-clause-counted : goal.returns-in_err-factor-clause-counted
+returns-in_err-factor-clause-counted g c = record { all = search rules; bounded = search rules; some = grind (arith, some-columns, some-level, some-cells) }
 
-pub returns-in_err-multiply_row-clause-refused : goal.returns-in_err-multiply_row-clause-refused
-returns-in_err-multiply_row-clause-refused g c = grind (arith, some-columns, some-level, some-cells)
+pub returns-in_err-multiply_row-clause-counted : goal.returns-in_err-multiply_row-clause-counted
+returns-in_err-multiply_row-clause-counted g c = record { all = search rules; bounded = search rules; some = grind (arith, some-columns, some-level, some-cells) }

@@ -1,4 +1,4 @@
-use Rattle.std.proofs.Common.{◌≡◌, ◌≢◌, ◌∙◌, ◌++◌, ℕ, ◌^◌, List, length, take, drop, refl, sym, ap, subst, arith}
+use Rattle.std.proofs.Common.{◌≡◌, ◌≢◌, ◌∙◌, ◌++◌, ℕ, ◌^◌, List, length, take, drop, refl, sym, ap, subst, rules, arith}
 use Rattle.math_base.proofs.Members.{ring_members}
 use Rattle.math_base.proofs.WholeWrites.{take-written}
 use Rattle.math_transforms.specs.RootTrees.{IsTreeOf}
@@ -91,26 +91,54 @@ returns-clause-divided g c =
       quotients = c.in_ok-quotients_from_coset.ensures.quotients moved.polynomials divisor.polynomials size moved.multiples divisor.multiples;
     }
 
-pub returns-in_err-multiply_rows-clause-refused : goal.returns-in_err-multiply_rows-clause-refused
-returns-in_err-multiply_rows-clause-refused g c = on-err c.from_residual-in_err-multiply_rows.result (omega (arith, some-cells 1 c.args.trees.now.lg (let h : 1 ≢ 0 = omega arith in h) (omega arith), c.in_ok-evaluate_below.ensures.counted))
+pub returns-in_err-multiply_rows-clause-counted : goal.returns-in_err-multiply_rows-clause-counted
+returns-in_err-multiply_rows-clause-counted g c = record {
+  all = search rules;
+  bounded = search rules;
+  some = on-err c.from_residual-in_err-multiply_rows.result (omega (arith, some-cells 1 c.args.trees.now.lg (let h : 1 ≢ 0 = omega arith in h) (omega arith), c.in_ok-evaluate_below.ensures.counted.all));
+}
 
-pub returns-in_err-shift-clause-refused : goal.returns-in_err-shift-clause-refused
-returns-in_err-shift-clause-refused g c = on-err c.from_residual-in_err-shift.result (omega (arith, some-cells 1 c.args.trees.now.lg (let h : 1 ≢ 0 = omega arith in h) (omega arith), c.in_ok-evaluate_below.ensures.counted))
+pub returns-in_err-shift-clause-counted : goal.returns-in_err-shift-clause-counted
+returns-in_err-shift-clause-counted g c = record {
+  all = search rules;
+  bounded = search rules;
+  some = on-err c.from_residual-in_err-shift.result (omega (arith, some-cells 1 c.args.trees.now.lg (let h : 1 ≢ 0 = omega arith in h) (omega arith), c.in_ok-evaluate_below.ensures.counted.all));
+}
 
-pub returns-in_err-start_at-clause-refused : goal.returns-in_err-start_at-clause-refused
-returns-in_err-start_at-clause-refused g c = on-err c.from_residual-in_err-start_at.result (omega (arith, some-cells 1 c.args.trees.now.lg (let h : 1 ≢ 0 = omega arith in h) (omega arith), c.in_ok-evaluate_below.ensures.counted))
+pub returns-in_err-start_at-clause-counted : goal.returns-in_err-start_at-clause-counted
+returns-in_err-start_at-clause-counted g c = record {
+  all = search rules;
+  bounded = search rules;
+  some = on-err c.from_residual-in_err-start_at.result (omega (arith, some-cells 1 c.args.trees.now.lg (let h : 1 ≢ 0 = omega arith in h) (omega arith), c.in_ok-evaluate_below.ensures.counted.all));
+}
 
-pub returns-in_err-moved_to_coset-clause-refused : goal.returns-in_err-moved_to_coset-clause-refused
-returns-in_err-moved_to_coset-clause-refused g c = on-err c.from_residual-in_err-moved_to_coset.result (omega (arith, some-cells 1 c.args.trees.now.lg (let h : 1 ≢ 0 = omega arith in h) (omega arith), c.in_ok-evaluate_below.ensures.counted, c.in_err-moved_to_coset.ensures.bounded.no_fewer))
+pub returns-in_err-moved_to_coset-clause-counted : goal.returns-in_err-moved_to_coset-clause-counted
+returns-in_err-moved_to_coset-clause-counted g c = record {
+  all = search rules;
+  bounded = search rules;
+  some = on-err c.from_residual-in_err-moved_to_coset.result (omega (arith, some-cells 1 c.args.trees.now.lg (let h : 1 ≢ 0 = omega arith in h) (omega arith), c.in_ok-evaluate_below.ensures.counted.all, c.in_err-moved_to_coset.ensures.counted.bounded.no_fewer));
+}
 
-pub returns-in_err-back-clause-refused : goal.returns-in_err-back-clause-refused
-returns-in_err-back-clause-refused g c = on-err c.from_residual-in_err-back.result (omega (arith, some-cells 1 c.args.trees.now.lg (let h : 1 ≢ 0 = omega arith in h) (omega arith), c.in_ok-evaluate_below.ensures.counted, c.in_ok-moved_to_coset.ensures.bounded.no_fewer))
+pub returns-in_err-back-clause-counted : goal.returns-in_err-back-clause-counted
+returns-in_err-back-clause-counted g c = record {
+  all = search rules;
+  bounded = search rules;
+  some = on-err c.from_residual-in_err-back.result (omega (arith, some-cells 1 c.args.trees.now.lg (let h : 1 ≢ 0 = omega arith in h) (omega arith), c.in_ok-evaluate_below.ensures.counted.all, c.in_ok-moved_to_coset.ensures.counted.bounded.no_fewer));
+}
 
-pub returns-in_err-start_at-2-clause-refused : goal.returns-in_err-start_at-2-clause-refused
-returns-in_err-start_at-2-clause-refused g c = on-err c.from_residual-in_err-start_at-2.result (omega (arith, some-cells 1 c.args.trees.now.lg (let h : 1 ≢ 0 = omega arith in h) (omega arith), c.in_ok-evaluate_below.ensures.counted, c.in_ok-moved_to_coset.ensures.bounded.no_fewer))
+pub returns-in_err-start_at-2-clause-counted : goal.returns-in_err-start_at-2-clause-counted
+returns-in_err-start_at-2-clause-counted g c = record {
+  all = search rules;
+  bounded = search rules;
+  some = on-err c.from_residual-in_err-start_at-2.result (omega (arith, some-cells 1 c.args.trees.now.lg (let h : 1 ≢ 0 = omega arith in h) (omega arith), c.in_ok-evaluate_below.ensures.counted.all, c.in_ok-moved_to_coset.ensures.counted.bounded.no_fewer));
+}
 
-pub returns-in_err-quotients_from_coset-clause-refused : goal.returns-in_err-quotients_from_coset-clause-refused
-returns-in_err-quotients_from_coset-clause-refused g c = on-err c.from_residual-in_err-quotients_from_coset.result (omega (arith, some-cells 1 c.args.trees.now.lg (let h : 1 ≢ 0 = omega arith in h) (omega arith), c.in_ok-evaluate_below.ensures.counted, c.in_ok-moved_to_coset.ensures.bounded.no_fewer, c.in_err-quotients_from_coset.ensures.work.bounded.no_fewer))
+pub returns-in_err-quotients_from_coset-clause-counted : goal.returns-in_err-quotients_from_coset-clause-counted
+returns-in_err-quotients_from_coset-clause-counted g c = record {
+  all = search rules;
+  bounded = search rules;
+  some = on-err c.from_residual-in_err-quotients_from_coset.result (omega (arith, some-cells 1 c.args.trees.now.lg (let h : 1 ≢ 0 = omega arith in h) (omega arith), c.in_ok-evaluate_below.ensures.counted.all, c.in_ok-moved_to_coset.ensures.counted.bounded.no_fewer, c.in_err-quotients_from_coset.ensures.work.bounded.no_fewer));
+}
 
 pub returns-in_err-quotients_from_coset-clause-late : goal.returns-in_err-quotients_from_coset-clause-late
 returns-in_err-quotients_from_coset-clause-late g c = grind arith

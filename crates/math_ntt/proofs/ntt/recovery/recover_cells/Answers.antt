@@ -26,11 +26,11 @@ returns-in_err-vanishing-clause-most g c = within-part _ _ _ _ _ _ (omega (arith
 
 pub returns-in_err-divide_by_vanishing-clause-most : goal.returns-in_err-divide_by_vanishing-clause-most
 returns-in_err-divide_by_vanishing-clause-most g c =
-    within-part _ _ _ _ _ _ (omega (arith, whole-bound c.args.lg c.args.cols)) (omega arith) (within-transforms _ _ _ _ _ _ c.in_ok-vanishing.ensures.bounded c.in_err-divide_by_vanishing.ensures.bounded)
+    within-part _ _ _ _ _ _ (omega (arith, whole-bound c.args.lg c.args.cols)) (omega arith) (within-transforms _ _ _ _ _ _ c.in_ok-vanishing.ensures.bounded c.in_err-divide_by_vanishing.ensures.counted.bounded)
 
 pub returns-clause-most : goal.returns-clause-most
 returns-clause-most g c =
-    within-part _ _ _ _ _ _ (omega (arith, whole-bound c.args.lg c.args.cols)) (omega arith) (within-transforms _ _ _ _ _ _ c.in_ok-vanishing.ensures.bounded c.in_ok-divide_by_vanishing.ensures.bounded)
+    within-part _ _ _ _ _ _ (omega (arith, whole-bound c.args.lg c.args.cols)) (omega arith) (within-transforms _ _ _ _ _ _ c.in_ok-vanishing.ensures.bounded c.in_ok-divide_by_vanishing.ensures.counted.bounded)
 
 pub returns-clause-recovered : goal.returns-clause-recovered
 returns-clause-recovered g c =
@@ -70,8 +70,8 @@ returns-clause-recovered g c =
           (λ i l. rw (column-cell zero n c.args.cols k i c.args.cells.now l b) (products i k l b))
           (λ i l. let every : 1 * i ≡ i = omega arith in rw every (quotients i k l b)));
       exact = exact-some _ _ _ _ c.requires.some c.requires.missing
-          (λ small. (omega (arith, c.in_ok-vanishing.ensures.butterflies small, c.in_ok-divide_by_vanishing.ensures.counted), omega (arith, c.in_ok-vanishing.ensures.exact small, c.in_ok-divide_by_vanishing.ensures.bounded.root_products)))
-          (omega (arith, c.in_ok-vanishing.ensures.bounded.no_fewer, c.in_ok-divide_by_vanishing.ensures.counted));
+          (λ small. (omega (arith, c.in_ok-vanishing.ensures.butterflies small, c.in_ok-divide_by_vanishing.ensures.counted.all), omega (arith, c.in_ok-vanishing.ensures.exact small, c.in_ok-divide_by_vanishing.ensures.counted.bounded.root_products)))
+          (omega (arith, c.in_ok-vanishing.ensures.bounded.no_fewer, c.in_ok-divide_by_vanishing.ensures.counted.all));
     }
 
 pub returns-in_err-evaluation-clause-refused : goal.returns-in_err-evaluation-clause-refused
