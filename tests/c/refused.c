@@ -10,6 +10,8 @@
 
 enum { ROWS = 512, COLS = 3, POINTS = 20, WORDS = 40, MIN = 3, TOTAL = 7, SHARD = 14, FEW = 3, SMALL = 16 };
 enum { BLOCK = 100, BLOCK_SHARD = 48, ROW = 40, LOST = 2, PATH = 3 };
+/* So many data rows of a word, and as many of parity, that transforms make them. */
+enum { HALF = 64, HALF_BYTES = 8 * HALF };
 
 /* All that the calls are given. */
 struct given {
@@ -24,6 +26,8 @@ struct given {
   uint8_t rows_in_hand[TOTAL * ROW], spoiled_rows[TOTAL * ROW], out[LOST * ROW];
   uint32_t masks[TOTAL];
   uint8_t root[CWM_DIGEST_SIZE], paths[TOTAL * PATH * CWM_DIGEST_SIZE];
+  uint8_t many_rows[2 * HALF_BYTES], many_out[HALF_BYTES];
+  uint32_t many_indices[2 * HALF], many_mask;
 };
 
 static struct given now, before, answer;
@@ -79,6 +83,18 @@ static uint32_t systematic_decode(void) {
 static uint32_t systematic_verify(void) {
   return cwm_systematic_verify(now.indices, TOTAL, now.rows_in_hand, TOTAL * ROW, BLOCK, MIN, TOTAL, now.mask, &now.belong);
 }
+static uint32_t systematic_encode_many(void) {
+  return cwm_systematic_encode(now.many_rows, HALF_BYTES, HALF, 2 * HALF, now.many_rows + HALF_BYTES, HALF_BYTES, &now.many_mask);
+}
+/* All data rows are lost. */
+static uint32_t systematic_rebuild_many(void) {
+  return cwm_systematic_rebuild(now.many_indices + HALF, HALF, now.many_rows + HALF_BYTES, HALF_BYTES, HALF_BYTES, HALF, 2 * HALF,
+                                now.many_mask, now.many_indices, HALF, now.many_out, HALF_BYTES);
+}
+static uint32_t systematic_decode_many(void) {
+  return cwm_systematic_decode(now.many_indices + HALF, HALF, now.many_rows + HALF_BYTES, HALF_BYTES, HALF, 2 * HALF, now.many_mask,
+                               now.many_out, HALF_BYTES);
+}
 static uint32_t path_sizes(void) { return cwm_path_sizes(TOTAL, 2, &now.count, &now.many); }
 static uint32_t commit(void) {
   return cwm_commit(now.block, BLOCK, MIN, TOTAL, now.rows_in_hand + MIN * ROW, (TOTAL - MIN) * ROW, &now.mask, now.root, now.paths,
@@ -112,6 +128,8 @@ static const struct {
     {"cwm_weights_at_roots, many", weights_at_many, 1}, {"cwm_systematic_sizes", systematic_sizes, 0},
     {"cwm_systematic_encode", systematic_encode, 1}, {"cwm_systematic_rebuild", systematic_rebuild, 1},
     {"cwm_systematic_decode", systematic_decode, 1}, {"cwm_systematic_verify", systematic_verify, 1},
+    {"cwm_systematic_encode, many", systematic_encode_many, 1}, {"cwm_systematic_rebuild, many", systematic_rebuild_many, 1},
+    {"cwm_systematic_decode, many", systematic_decode_many, 1},
     {"cwm_systematic_rebuild_corrected", systematic_rebuild_corrected, 1}, {"cwm_path_sizes", path_sizes, 0},
     {"cwm_commit", commit, 1}, {"cwm_shard_is_under", shard_is_under, 0}, {"cwm_join_under", join_under, 1},
     {"cwm_join_under, strict", join_under_strictly, 1},
@@ -130,6 +148,8 @@ static int make(void) {
   for (int i = 0; i < BLOCK; i++) before.block[i] = i < 8 ? 255 : 3 * i;
   before.lost[1] = TOTAL - 1, before.mask = before.belong = 7;
   memcpy(before.rows_in_hand, before.block, BLOCK);
+  for (int i = 0; i < 2 * HALF; i++) before.many_indices[i] = i;
+  for (int i = 0; i < HALF_BYTES; i++) before.many_rows[i] = i < 8 ? 255 : 3 * i;
   size_t n = 0;
   int made = cwm_shard_bytes_sizes(BLOCK, MIN, TOTAL, &n) == CWM_DONE && n == BLOCK_SHARD
              && cwm_split_bytes(before.block, BLOCK, MIN, TOTAL, before.block_shards, TOTAL * BLOCK_SHARD) == CWM_DONE
@@ -139,7 +159,9 @@ static int make(void) {
              && cwm_systematic_encode(before.block, BLOCK, MIN, TOTAL, before.rows_in_hand + MIN * ROW, (TOTAL - MIN) * ROW,
                                       &before.mask) == CWM_DONE && before.mask != 0
              && cwm_commit(before.block, BLOCK, MIN, TOTAL, before.rows_in_hand + MIN * ROW, (TOTAL - MIN) * ROW, &before.mask, before.root,
-                           before.paths, TOTAL * PATH) == CWM_DONE;
+                           before.paths, TOTAL * PATH) == CWM_DONE
+             && cwm_systematic_encode(before.many_rows, HALF_BYTES, HALF, 2 * HALF, before.many_rows + HALF_BYTES, HALF_BYTES,
+                                      &before.many_mask) == CWM_DONE && before.many_mask != 0;
   for (int i = 0; i < TOTAL; i++) before.masks[i] = before.mask;
   memcpy(before.spoiled, before.shards, sizeof before.spoiled);
   before.spoiled[2 * SHARD] ^= 1;

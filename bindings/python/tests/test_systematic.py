@@ -246,7 +246,7 @@ class Coded(unittest.TestCase):
         source = random.Random(4)
         for strip in (16, 32, 64, 128, 256):
             for width in (strip - 1, strip, strip + 1):
-                for least, total in (1, 2), (3, 5), (5, 11):
+                for least, total in (1, 2), (2, 4), (3, 5), (5, 11), (8, 32):
                     data = self.some(source, 8 * least * width - source.randrange(8))
                     rows, mask = self.encode(data, least, total)
                     for count in (least, total):
@@ -260,6 +260,30 @@ class Coded(unittest.TestCase):
             wanted = source.sample(range(total), 9)
             self.come_back(data, rows, mask, least, range(total - least, total), wanted)
             self.come_back(data, rows, mask, least, source.sample(range(total), least + 2), wanted)
+
+    def test_many_rows_from_many(self):
+        # so many that they are made by transforms, in a strip of columns and past it
+        source = random.Random(8)
+        for least, total in (64, 128), (64, 256), (100, 200), (100, 256), (120, 240), (200, 400):
+            for width in (1, 3) if total != 128 else (1, 2, 15, 16, 17, 63, 64, 65):
+                data = self.some(source, 8 * least * width - source.randrange(8))
+                rows, mask = self.encode(data, least, total)
+                for kept in range(total - least, total), source.sample(range(total), least), source.sample(range(total), least + 3):
+                    self.come_back(data, rows, mask, least, kept)
+
+    def test_many_rows_in_a_large_domain(self):
+        source = random.Random(9)
+        for least, total in (2000, 2**16), (2000, 2**16 + 1):
+            data = self.some(source, 8 * least)
+            words = words_of(data)
+            mask = mask_of(words)
+            parity, found = encoded(data, least, total)
+            self.assertEqual(found, mask)
+            rows = [data[8 * i : 8 * i + 8] for i in range(least)] + [parity[8 * i : 8 * i + 8] for i in range(total - least)]
+            for i in (least, total - 1, *source.sample(range(least, total), 30)):
+                self.assertEqual(rows[i], bytes_of(row_of({j: [words[j]] for j in range(least)}, least, total, mask, i)))
+            kept = source.sample(range(least, total), least)
+            self.come_back(data, rows, mask, least, kept, [*range(least), *source.sample(range(least, total), 2 * least)])
 
     def test_large_domains(self):
         source = random.Random(6)
