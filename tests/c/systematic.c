@@ -14,7 +14,8 @@ enum { PAGE = 4096, NONE = 0, READ = 1, WRITE = 2, PRIVATE = 2, ANONYMOUS = 32 }
 void *mmap(void *at, size_t n, int protection, int flags, int file, long offset);
 int mprotect(void *at, size_t n, int protection);
 
-enum { MOST = 12, WIDTH = 3, WORDS = MOST * WIDTH, ROWS = 16, BYTES = 8 * WIDTH };
+/* Most calls have rows of FEW words or less, and some of up to WIDTH. */
+enum { MOST = 12, FEW = 3, WIDTH = 66, WORDS = MOST * WIDTH, ROWS = 16, BYTES = 8 * WIDTH };
 
 static uint64_t state;
 
@@ -259,7 +260,7 @@ static uint64_t some_word(void) {
     case 0: return 0;
     case 1: return CWM_MODULUS - 1 + below(3);
     case 2: return ~UINT64_C(0);
-    case 3: return ~UINT64_C(0) - ((uint64_t)below(WORDS) << 32);
+    case 3: return ~UINT64_C(0) - ((uint64_t)below(MOST * FEW) << 32);
     case 4: return below(3);
     default: return next();
   }
@@ -270,7 +271,7 @@ static uint32_t some_number(void) { return (uint32_t)next() >> below(32); }
 /* Numbers of a code, and data. */
 static void make_numbers(struct call *it) {
   it->total = 1 + below(MOST), it->min = 1 + below(it->total);
-  it->size = below(8 * it->min * WIDTH + 1);
+  it->size = below(8 * it->min * (one_in(32) ? WIDTH : FEW) + 1);
   if (one_in(4)) it->size -= it->size % (8 * it->min);
   for (int i = 0; i < WORDS; i++) put_word(it->data + 8 * i, some_word());
   if (one_in(3))
@@ -327,25 +328,30 @@ static void spoil_numbers(struct call *it) {
   if (it->n > sizeof it->rows) it->n = sizeof it->rows;
 }
 
-enum { BUFFERS = 10 };
+enum { BUFFERS = 10, LARGE = 3 * PAGE };
 static uint8_t *room[BUFFERS];
+
+/* The bytes of a buffer: those for rows, for data and for what is written are large. */
+static size_t size_of(int buffer) { return buffer == 1 || buffer == 3 || buffer == 4 ? LARGE : PAGE; }
 
 /* n bytes, filled from the source or with noise, that can't be overrun where `end`, and else not underrun; for none sometimes null. */
 static void *lay(int buffer, const void *source, size_t n, int end, int write) {
-  uint8_t *at = end ? room[buffer] + PAGE - n : room[buffer];
-  if (mprotect(room[buffer], PAGE, READ | WRITE) != 0) exit(3);
-  memset(room[buffer], 7 + buffer, PAGE);
+  size_t size = size_of(buffer);
+  uint8_t *at = end ? room[buffer] + size - n : room[buffer];
+  if (mprotect(room[buffer], size, READ | WRITE) != 0) exit(3);
+  memset(room[buffer], 7 + buffer, size);
   if (n && source) memcpy(at, source, n);
-  if (!write && mprotect(room[buffer], PAGE, READ) != 0) exit(3);
-  return n == 0 && one_in(2) ? NULL : n == 0 ? room[buffer] + PAGE : at;
+  if (!write && mprotect(room[buffer], size, READ) != 0) exit(3);
+  return n == 0 && one_in(2) ? NULL : n == 0 ? room[buffer] + size : at;
 }
 
 /* Whether the buffer holds the bytes, and noise around them. */
 static int holds(int buffer, const void *bytes, size_t n, int end) {
-  static uint8_t wanted[PAGE];
-  memset(wanted, 7 + buffer, PAGE);
-  memcpy(end ? wanted + PAGE - n : wanted, bytes, n);
-  return memcmp(room[buffer], wanted, PAGE) == 0;
+  static uint8_t wanted[LARGE];
+  size_t size = size_of(buffer);
+  memset(wanted, 7 + buffer, size);
+  memcpy(end ? wanted + size - n : wanted, bytes, n);
+  return memcmp(room[buffer], wanted, size) == 0;
 }
 
 /* Makes the call, and says whether it answers and writes what the model does, and nothing else. */
@@ -400,7 +406,7 @@ int main(int words, char **word) {
   state = words > 2 ? (uint64_t)atoi(word[2]) : 0;
   domains();
   for (int i = 0; i < BUFFERS; i++) {
-    uint8_t *at = mmap(NULL, 3 * PAGE, NONE, PRIVATE | ANONYMOUS, -1, 0);
+    uint8_t *at = mmap(NULL, LARGE + 2 * PAGE, NONE, PRIVATE | ANONYMOUS, -1, 0);
     if (at == (void *)-1) return 3;
     room[i] = at + PAGE;
   }

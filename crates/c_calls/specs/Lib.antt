@@ -9,5 +9,4 @@ pub mod WordDecodings
 pub mod WordCorrections
 pub mod ShardBytes
 pub mod SystematicRows
-pub mod PathSizes
 pub mod RootedShards

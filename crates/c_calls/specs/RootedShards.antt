@@ -2,6 +2,7 @@
 use Rattle.std.specs.Prelude.{◌≡◌, ◌≢◌, ◌⊎◌, ◌↔◌, ℕ, ◌-◌, ◌*◌, ◌<◌, ◌≤◌, ◌^◌, List, ◌++◌, length, replicate, take, drop, slice_index, slice_index_or, ⊤}
 use Rattle.sha2.specs.Sha512.{sha512_256}
 use Rattle.hash_trees.specs.Binding.{record_path}
+use Rattle.hash_trees.specs.Steps.{path_steps}
 use Rattle.systematic_shards.specs.declared.split.Split.{Split}
 use Rattle.systematic_shards.specs.Correcting.{ArePositionsWithout}
 use Rattle.shard_roots.specs.declared.Error.{Error}
@@ -11,7 +12,6 @@ use Rattle.shard_roots.specs.Commitments.{IsCommitment}
 use Rattle.shard_roots.specs.Joining.{AreJoined, IsCommitDue, IsShardUnder, IsStrictDue}
 use Rattle.shard_roots.specs.Records.{shard_records}
 use Rattle.c_calls.specs.declared.roots.in_hand.ShardsWithPaths.{ShardsWithPaths}
-pub use Rattle.c_calls.specs.PathSizes.{path_size}
 use Rattle.c_calls.specs.Statuses.{done, mismatch, out_of_memory, status_of_roots, wrong_size}
 use Rattle.c_calls.specs.SystematicRows.{HaveRowsFor, IsSplitOf}
 use Rattle.c_calls.specs.WordEncodings.{StandInFront}
@@ -33,7 +33,7 @@ pub record ArePlaces (room n : ℕ) (others : ℕ → List (List ℕ)) (digests 
 pub record AreCommitted (split : Split) (block : List ℕ) (mask : ℕ) (parity top : List ℕ) (paths : List (List ℕ)) : Type 0 where
   pub few : split.total ≤ 2 ^ 16
   pub commitment : IsCommitment sha512_256 split mask block parity top
-  pub places : ArePlaces (path_size split.total 0) split.total (λ index. record_path sha512_256 (shard_records split mask block parity) index) paths
+  pub places : ArePlaces (path_steps split.total 0) split.total (λ index. record_path sha512_256 (shard_records split mask block parity) index) paths
 
 -- the number is 1 where P holds, and 0 where it does not
 pub record IsAnswer (P : Type 0) (n : ℕ) : Type 0 where
@@ -47,7 +47,7 @@ pub record AreShardsIn (row total : ℕ) (indices masks bytes : List ℕ) (paths
   pub mask : (t : ℕ) (d : Shard) → t < n → (slice_index_or shards t d).mask ≡ slice_index masks t
   pub cells : (t : ℕ) (d : Shard) → t < n → (slice_index_or shards t d).cells.now ≡ take row (drop (t * row) bytes)
   pub path : (t : ℕ) (d : Shard) → t < n → slice_index indices t < total
-      → (slice_index_or shards t d).path.now ≡ take (path_size total (slice_index indices t)) (drop (t * path_size total 0) paths)
+      → (slice_index_or shards t d).path.now ≡ take (path_steps total (slice_index indices t)) (drop (t * path_steps total 0) paths)
 
 -- what a call was given: the split of its numbers, and the shards with their paths
 pub record GivenShards (size least total : ℕ) (indices masks bytes : List ℕ) (paths : List (List ℕ)) : Type 0 where
@@ -62,7 +62,7 @@ HoldsOfShards size least total indices masks bytes paths P = (it : GivenShards s
 
 -- for k shards there are as many masks, the bytes of k rows, and k places
 abbrev pub HaveShardsFor : ℕ → ℕ → ℕ → ℕ → ℕ → ℕ → ℕ → Type 0
-HaveShardsFor size least total k masks bytes digests = (masks ≡ k) × HaveRowsFor size least total k bytes × (digests ≡ k * path_size total 0)
+HaveShardsFor size least total k masks bytes digests = (masks ≡ k) × HaveRowsFor size least total k bytes × (digests ≡ k * path_steps total 0)
 
 -- the shards in hand are those of these numbers, indices, masks, bytes and paths
 pub record AreGiven (size least total : ℕ) (indices masks bytes : List ℕ) (paths : List (List ℕ)) (held : ShardsWithPaths) : Type 0 where

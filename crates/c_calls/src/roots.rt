@@ -4,7 +4,8 @@ ghost use Rattle.std.specs.Prelude.{◌≡◌, ◌↔◌, ◌≤◌, ◌<◌, �
 ghost use Rattle.std.specs.Prelude.{take, drop};
 ghost use Rattle.std.specs.Prelude.{IsTrue, IfOk, IfErr, IfSome, IfNone, OnOk, OnErr};
 ghost use Rattle.sha2.specs.Sha512.{sha512_256};
-ghost use Rattle.hash_trees.specs.Trees.{is_alone, path};
+ghost use Rattle.hash_trees.specs.Steps.{path_steps};
+ghost use Rattle.hash_trees.specs.Trees.{path};
 ghost use Rattle.systematic_shards.specs.declared.split.Split.{Split};
 ghost use Rattle.shard_roots.specs.Commitments.{IsRootOfBlock};
 ghost use Rattle.shard_roots.specs.Joining.{AreJoined, IsCommitDue, IsShardUnder, IsStrictDue};
@@ -14,7 +15,7 @@ ghost use Rattle.systematic_shards.specs.Correcting.{ArePositionsWithout};
 ghost use Rattle.c_calls.specs.RootedShards.{AreCommitted, AreGiven, ArePlaces};
 ghost use Rattle.c_calls.specs.RootedShards.{AreShardsOf, HaveShardsFor, IsAnswer};
 ghost use Rattle.c_calls.specs.RootedShards.{IsCommitDueTo, IsMemoryOrStrictDue, TellsNoSizes};
-ghost use Rattle.c_calls.specs.RootedShards.{WritesBlock, path_size};
+ghost use Rattle.c_calls.specs.RootedShards.{WritesBlock};
 ghost use Rattle.c_calls.specs.SystematicRows.{HaveRowsFor, IsSplitOf};
 ghost use Rattle.c_calls.specs.WordShards.{IsSplit};
 
@@ -22,43 +23,18 @@ mod in_hand;
 
 use crate::systematic::{have_rows, split_for};
 use commonware_math::algebra::Mem;
-use hash_trees::Digest;
+use hash_trees::{Digest, path_steps};
 pub use in_hand::ShardsWithPaths;
 use shard_roots::{Commitment, Error, Shard, commit, is_shard_under, join_committed, join_under};
 use std::alloc::Global;
 use systematic_shards::Split;
 
-/// Whether the node at this place of `total` has no neighbour.
-fn is_alone(total: usize, place: usize) -> bool
-    requires { place < total }
-    ensures { result ≡ is_alone total place }
-{
-    place % 2 == 0 && place + 1 == total
-}
-
-/// How many digests the path of the leaf at this index of `total` has.
-pub fn path_size(total: usize, index: usize) -> usize
-    requires { index < total }
-    ensures size { result ≡ path_size total index }
-    ensures few { result < total }
-{
-    if total == 1 {
-        return 0;
-    }
-    let higher = path_size(total / 2 + total % 2, index / 2);
-    if is_alone(total, index) {
-        higher
-    } else {
-        higher + 1
-    }
-}
-
 /// Whether so many digests are the places of the paths of `count` shards.
 fn have_places(total: u32, count: usize, digests: usize) -> bool
     requires { 1 ≤ total }
-    ensures { IsTrue result ↔ (digests ≡ count * path_size total 0) }
+    ensures { IsTrue result ↔ (digests ≡ count * path_steps total 0) }
 {
-    match count.checked_mul(path_size(total as usize, 0)) {
+    match count.checked_mul(path_steps(total as usize, 0)) {
         Some(all) => all == digests,
         None => false,
     }
@@ -67,7 +43,7 @@ fn have_places(total: u32, count: usize, digests: usize) -> bool
 /// Whether so many digests are a place for the path of each shard.
 pub fn have_all_places(total: u32, digests: usize) -> bool
     requires { 1 ≤ total }
-    ensures { IsTrue result ↔ (digests ≡ total * path_size total 0) }
+    ensures { IsTrue result ↔ (digests ≡ total * path_steps total 0) }
 {
     have_places(total, total as usize, digests)
 }
@@ -76,10 +52,10 @@ pub fn have_all_places(total: u32, digests: usize) -> bool
 fn places(alloc: Global, commitment: &Commitment, total: u32) -> Mem<Vec<Digest>>
     requires some { 1 ≤ total }
     requires all { length commitment.now.tree ≡ total }
-    ensures { IfOk result (λ places. ArePlaces (path_size total 0) total
+    ensures { IfOk result (λ places. ArePlaces (path_steps total 0) total
         (path sha512_256 commitment.now.tree) places.items) }
 {
-    let room = path_size(total as usize, 0);
+    let room = path_steps(total as usize, 0);
     let mut places = Vec::with_capacity(alloc, total as usize * room)?;
     for index in 0..total {
         let mut place = commitment.path(alloc, index)?;
@@ -132,7 +108,7 @@ pub fn write_commitment(
 ) -> Result<u32, Error>
     requires split { IsSplit min total }
     requires rows { HaveRowsFor (length block.now) min total (total - min) (length parity.old) }
-    requires places { length paths.old ≡ total * path_size total 0 }
+    requires places { length paths.old ≡ total * path_steps total 0 }
     ensures ok { IfOk result (λ mask. (split : Split) × IsSplitOf (length block.now) min total split
         × AreCommitted split block.now mask parity.new top.new paths.new) }
     ensures due { IfErr result (IsCommitDueTo (length block.now) min total) }
@@ -202,15 +178,15 @@ pub fn shards_with_paths<'a>(
 /// The path of shard number `t`, which has this index: the first digests of its place.
 fn path_at<'a>(total: u32, paths: &'a [Digest], t: usize, index: u32) -> &'a [Digest]
     requires some { 1 ≤ total }
-    requires within { (t + 1) * path_size total 0 ≤ length paths.now }
+    requires within { (t + 1) * path_steps total 0 ≤ length paths.now }
     ensures { index < total → result.now
-        ≡ take (path_size total index) (drop (t * path_size total 0) paths.now) }
+        ≡ take (path_steps total index) (drop (t * path_steps total 0) paths.now) }
 {
     if index >= total {
         return &paths[..0];
     }
-    let first = t * path_size(total as usize, 0);
-    &paths[first..first + path_size(total as usize, index as usize)]
+    let first = t * path_steps(total as usize, 0);
+    &paths[first..first + path_steps(total as usize, index as usize)]
 }
 
 /// The shards in hand, each for itself. Takes memory for six words each.

@@ -26,15 +26,8 @@ use commonware_math::algebra::Mem;
 use commonware_math::fields::goldilocks::F;
 use commonware_math::ntt::{EvaluationVector, Matrix, PolynomialVector, VanishingPoints};
 pub use filled::FilledRows;
+use math_transforms::transform::size_of;
 use std::alloc::Global;
-
-/// 2^lg.
-fn power_of_two(lg: u8) -> usize
-    requires { lg ≤ 32 }
-    ensures { result ≡ 2 ^ lg }
-{
-    1 << lg
-}
 
 /// The lg of the number, where it is 2^lg for an lg of at most 32.
 fn lg_of(n: usize) -> Option<u8>
@@ -42,7 +35,7 @@ fn lg_of(n: usize) -> Option<u8>
     ensures some { IsDomainSize n → IsSome result }
 {
     for lg in 0..33 {
-        if power_of_two(lg) == n {
+        if size_of(lg) == n {
             return Some(lg);
         }
     }
@@ -69,7 +62,7 @@ pub fn lg_of_these_rows(n: usize, cols: usize, rows: usize) -> Option<u8>
     ensures some { HasRowsFor n cols rows → IsSome result }
 {
     match lg_of_rows(n, cols) {
-        Some(lg) if power_of_two(lg) == rows => Some(lg),
+        Some(lg) if size_of(lg) == rows => Some(lg),
         _ => None,
     }
 }
@@ -144,7 +137,7 @@ pub fn evaluate(alloc: Global, cells: &mut [u64], items: Vec<F>, lg: u8, cols: u
     ensures ok { OnOk result (AreWordValues cols cells.old cells.new) }
     ensures err { OnErr result (cells.new ≡ cells.old) }
 {
-    let matrix = matrix_of(items, power_of_two(lg), cols);
+    let matrix = matrix_of(items, size_of(lg), cols);
     let polynomials = PolynomialVector::from_matrix(matrix);
     let values = polynomials.evaluate(alloc)?.data().into_cells();
     write_numbers(cells, &values);
@@ -158,7 +151,7 @@ pub fn interpolate(alloc: Global, cells: &mut [u64], items: Vec<F>, lg: u8, cols
     ensures ok { OnOk result (AreWordValues cols cells.new cells.old) }
     ensures err { OnErr result (cells.new ≡ cells.old) }
 {
-    let matrix = matrix_of(items, power_of_two(lg), cols);
+    let matrix = matrix_of(items, size_of(lg), cols);
     let points = VanishingPoints::all_non_vanishing(alloc, u32::from(lg))?;
     let values = EvaluationVector::from_parts(matrix, points);
     let coefficients = values.recover(alloc)?.data().into_cells();

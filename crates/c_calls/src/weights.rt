@@ -58,17 +58,6 @@ fn values(alloc: Global, pairs: Vec<(u32, F)>) -> Mem<Vec<F>>
     Ok(out)
 }
 
-/// The indices once more.
-fn copy_of(alloc: Global, indices: &[u32]) -> Mem<Vec<u32>>
-    ensures { IfOk result (λ v. v.items ≡ indices.now) }
-{
-    let mut out = Vec::new(alloc);
-    for index in indices {
-        out.push(*index)?;
-    }
-    Ok(out)
-}
-
 /// The lg of the number of points of the domain: `total` rounded up to a power of two.
 fn lg_of_total(total: NonZeroU32) -> u8
     ensures power { IsNextPowerOfTwo total.value (2 ^ result) }
@@ -120,7 +109,9 @@ fn weights_in_domain(alloc: Global, total: NonZeroU32, indices: &[u32], x: u64) 
     ensures { IfOk result
         (λ v. AreWordWeightsAtRoots x total.value indices.now (numbers v.items)) }
 {
-    let found = lagrange_coefficients_at(alloc, total, copy_of(alloc, indices)?, &F::from(x))?;
+    let mut copy = Vec::new(alloc);
+    copy.extend_from_slice(indices)?;
+    let found = lagrange_coefficients_at(alloc, total, copy, &F::from(x))?;
     let weights = values(alloc, found)?;
     Ok(weights)
 }

@@ -3,12 +3,13 @@
 ghost use Rattle.std.specs.Prelude.{◌≡◌, ◌≢◌, ◌↔◌, ◌<◌, ◌≤◌, ◌-◌, ◌*◌, ◌^◌, ◌⊎◌, ℕ, List, length};
 ghost use Rattle.sha2.specs.Sha512.{sha512_256};
 ghost use Rattle.hash_trees.specs.Binding.{IsUnder};
+ghost use Rattle.hash_trees.specs.Steps.{path_steps};
 ghost use Rattle.hash_trees.specs.Trees.{path};
 ghost use Rattle.systematic_shards.specs.declared.split.Split.{Split};
 ghost use Rattle.shard_roots.specs.Commitments.{IsRootOfBlock};
 ghost use Rattle.shard_roots.specs.Records.{record_of};
 ghost use Rattle.c_calls.specs.RootedShards.{AreCommitted, AreJoinedUnder, HaveShardsFor};
-ghost use Rattle.c_calls.specs.RootedShards.{HoldsOfShards, IsAnswer, IsJoiningDue, path_size};
+ghost use Rattle.c_calls.specs.RootedShards.{HoldsOfShards, IsAnswer, IsJoiningDue};
 ghost use Rattle.c_calls.specs.Statuses.{TestsSizes, done, inconsistent, mismatch};
 ghost use Rattle.c_calls.specs.Statuses.{out_of_memory, too_many, wrong_index, wrong_root};
 ghost use Rattle.c_calls.specs.Statuses.{wrong_size};
@@ -19,14 +20,15 @@ ghost use Rattle.c_calls.specs.WordShards.{IsSplit};
 use c_calls::shards::is_split;
 use c_calls::status::Status;
 use c_calls::{roots, status, systematic};
+use hash_trees::path_steps;
 use shard_roots::Shard;
 use std::alloc::Global;
 
 /// Writes how many digests the path of shard `index` has, and how many the longest path has.
 #[unsafe(no_mangle)]
 pub extern "C" fn cwm_path_sizes(total: u32, index: u32, steps: &mut usize, room: &mut usize) -> u32
-    ensures steps { result ≡ done → steps.new ≡ path_size total index }
-    ensures room { result ≡ done → room.new ≡ path_size total 0 }
+    ensures steps { result ≡ done → steps.new ≡ path_steps total index }
+    ensures room { result ≡ done → room.new ≡ path_steps total 0 }
     ensures paths { result ≡ done → (h : List ℕ → List ℕ) (leaves : List (List ℕ))
         → length leaves ≡ total → length (path h leaves index) ≡ steps.new }
     ensures longest { result ≡ done → steps.new ≤ room.new }
@@ -37,8 +39,8 @@ pub extern "C" fn cwm_path_sizes(total: u32, index: u32, steps: &mut usize, room
     if index >= total {
         return Status::WrongIndex.code();
     }
-    *steps = roots::path_size(total as usize, index as usize);
-    *room = roots::path_size(total as usize, 0);
+    *steps = path_steps(total as usize, index as usize);
+    *room = path_steps(total as usize, 0);
     Status::Done.code()
 }
 
@@ -62,7 +64,7 @@ pub extern "C" fn cwm_commit(
         × (root.new ≡ root.old) × (paths.new ≡ paths.old) }
     ensures sizes { TestsSizes (IsSplit min total)
         (HaveRowsFor (length block.now) min total (total - min) (length parity.old)
-        × (length paths.old ≡ total * path_size total 0)) result }
+        × (length paths.old ≡ total * path_steps total 0)) result }
     ensures many { result ≡ too_many → 2 ^ 16 < total }
     ensures statuses { (result ≡ done) ⊎ (result ≡ out_of_memory) ⊎ (result ≡ wrong_size)
         ⊎ (result ≡ mismatch) ⊎ (result ≡ too_many) }

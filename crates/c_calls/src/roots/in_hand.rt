@@ -1,7 +1,7 @@
 //! Shards with their paths in the caller's memory.
 
 ghost use Rattle.std.specs.Prelude.{◌≡◌, ◌*◌, length};
-ghost use Rattle.c_calls.specs.PathSizes.{path_size};
+ghost use Rattle.hash_trees.specs.Steps.{path_steps};
 
 use hash_trees::Digest;
 use systematic_shards::Split;
@@ -21,5 +21,5 @@ pub struct ShardsWithPaths<'a> {
     pub paths: &'a [Digest],
     ghost each: { length masks.now ≡ length indices.now },
     ghost whole: { length bytes.now ≡ length indices.now * (8 * split.width) },
-    ghost places: { length paths.now ≡ length indices.now * path_size split.total 0 },
+    ghost places: { length paths.now ≡ length indices.now * path_steps split.total 0 },
 }

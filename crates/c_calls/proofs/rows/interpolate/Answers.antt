@@ -10,7 +10,7 @@ recover-requires c = grind (arith, has_domain)
 pub returns-clause-ok : goal.returns-clause-ok
 returns-clause-ok c =
     let cells = c.args.cells.now in
-    let is_words = c.from_parts-values.ensures.matrix ∙ c.matrix_of-matrix.ensures ∙ ap₂ (λ n xs. matrix_of n c.args.cols xs) c.power_of_two.ensures c.requires.are in
+    let is_words = c.from_parts-values.ensures.matrix ∙ c.matrix_of-matrix.ensures ∙ ap₂ (λ n xs. matrix_of n c.args.cols xs) c.size_of.ensures c.requires.are in
     let all = c.from_parts-values.ensures.filled ∙ c.in_ok-points.ensures ∙ ap (λ n. replicate (2 ^ n) true) c.from.ensures in
     let written : c.write_numbers.new.words ≡ numbers c.in_ok-recover.field-0.cells =
     c.write_numbers.ensures ∙ ap numbers (c.deref.ensures.value ∙ c.into_cells-coefficients.ensures ∙ ap (λ m. m.cells) c.data.ensures) in

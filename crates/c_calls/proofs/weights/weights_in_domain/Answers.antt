@@ -1,5 +1,5 @@
 use Rattle.c_calls.proofs.weights.weights_in_domain.Goals as goal
-use Rattle.std.proofs.Common.{◌≡◌, ◌∙◌, ◌-◌, ap, subst, arith}
+use Rattle.std.proofs.Common.{◌≡◌, ◌∙◌, ◌++◌, ◌-◌, ℕ, List, ap, subst, arith}
 use Rattle.std.specs.Int.Count.{count_leading_zeros}
 use Rattle.std.specs.Map.{keys_of}
 use Rattle.math_codec.proofs.ItemsSoFar.{vec_items}
@@ -20,7 +20,8 @@ pub returns : goal.returns
 returns c =
     let pairs = c.in_ok-found.found.items in
     let q = c.in_ok-found.ensures.indices in
-    let copies : q.1 ≡ c.args.indices.now = vec_items q.0 q.1 c.in_ok-copy_of.field-0.items q.3 q.2.0 (q.2.1 ∙ c.in_ok-copy_of.field-0.ok.0) ∙ c.in_ok-copy_of.ensures in
+    let copies : q.1 ≡ c.args.indices.now = vec_items q.0 q.1 c.extend_from_slice.new.self.items q.3 q.2.0 (q.2.1 ∙ c.extend_from_slice.new.self.ok.0)
+    ∙ c.in_ok-extend_from_slice.ensures.items ∙ ap (λ (xs : List ℕ). xs ++ c.args.indices.now) c.new-copy.ensures.items in
     let h : AreIndicesBelow c.args.total.value c.args.indices.now (keys_of pairs) = subst (λ xs. AreIndicesBelow c.args.total.value xs (keys_of pairs)) copies q.4 in
     let keys : keys_of pairs ≡ c.args.indices.now = indices-given c.args.total.value c.args.indices.now (keys_of pairs) c.requires.rising h in
     let point : c.from.result ≡ residue c.args.x = same_number c.from.result (residue c.args.x) c.from.ensures in

@@ -64,7 +64,9 @@ impl<I: Ord + Drop, F: FieldNTT> Interpolator<I, F> {
             (pairs_below total.value points) m) }
     {
         let (keys, indices) = points.into_map().into_parts();
-        let weights = lagrange_coefficients_at(alloc, total, copy_of(alloc, &indices)?, x)?;
+        let mut copy = Vec::new(alloc);
+        copy.extend_from_slice(&indices)?;
+        let weights = lagrange_coefficients_at(alloc, total, copy, x)?;
         let weights = Map::from_iter_dedup(alloc, weights)?;
         let (keys, values) = weights_of_keys(alloc, keys, indices, &weights)?;
         let weights = Map::from_parts(keys, values);
@@ -95,15 +97,4 @@ fn weights_of_keys<I: Ord + Drop, F: Additive>(
         }
     }
     Ok((kept, values))
-}
-
-/// The numbers once more.
-fn copy_of(alloc: Global, numbers: &[u32]) -> Mem<Vec<u32>>
-    ensures { IfOk result (λ v. v.items ≡ numbers.now) }
-{
-    let mut out = Vec::new(alloc);
-    for number in numbers {
-        out.push(*number)?;
-    }
-    Ok(out)
 }

@@ -1,4 +1,4 @@
-use Rattle.std.proofs.Common.{◌≡◌, ◌∙◌, refl, ◌^◌, ℕ, ap, ap₂, sym, subst, length}
+use Rattle.std.proofs.Common.{◌≡◌, ◌∙◌, ◌++◌, refl, ◌^◌, ℕ, List, ap, ap₂, sym, subst, length}
 use Rattle.std.proofs.lemmas.List.{length-map}
 use Rattle.std.proofs.lemmas.Map.Made.{keys_of-zip}
 use Rattle.std.proofs.lemmas.Slice.Zip.{seconds-zip}
@@ -25,7 +25,8 @@ from_parts-weights-requires-clause-rise g c =
     let keys : c.into_parts-keys.result.0.items ≡ keys_of points = c.into_parts-keys.ensures.keys ∙ ap keys_of c.into_map.ensures.pairs in
     let indices : c.into_parts-keys.result.1.items ≡ values_of points = c.into_parts-keys.ensures.values ∙ ap values_of c.into_map.ensures.pairs in
     let copies : q.1 ≡ values_of points =
-    vec_items q.0 q.1 c.in_ok-copy_of.field-0.items q.3 q.2.0 (q.2.1 ∙ c.in_ok-copy_of.field-0.ok.0) ∙ c.in_ok-copy_of.ensures ∙ c.deref.ensures.value ∙ indices in
+    vec_items q.0 q.1 c.extend_from_slice.new.self.items q.3 q.2.0 (q.2.1 ∙ c.extend_from_slice.new.self.ok.0)
+    ∙ c.in_ok-extend_from_slice.ensures.items ∙ ap₂ (λ (xs ys : List ℕ). xs ++ ys) c.new-copy.ensures.items c.deref.ensures.value ∙ indices in
     let h : AreIndicesBelow total (values_of points) (keys_of ws) = subst (λ xs. AreIndicesBelow total xs (keys_of ws)) copies q.4 in
     let taken : p.1 ≡ ws = vec_items p.0 p.1 ws p.3 p.2.0 (p.2.1 ∙ c.in_ok-weights.weights.ok.0) in
     let first : (i : ℕ) → first_pair nat_cmp i c.in_ok-weights-2.weights ≡ first_pair nat_cmp i ws = λ i. p.4.1 i ∙ ap (first_pair nat_cmp i) taken in
@@ -45,7 +46,8 @@ from_parts-weights-requires-clause-count g c =
     let keys : c.into_parts-keys.result.0.items ≡ keys_of points = c.into_parts-keys.ensures.keys ∙ ap keys_of c.into_map.ensures.pairs in
     let indices : c.into_parts-keys.result.1.items ≡ values_of points = c.into_parts-keys.ensures.values ∙ ap values_of c.into_map.ensures.pairs in
     let copies : q.1 ≡ values_of points =
-    vec_items q.0 q.1 c.in_ok-copy_of.field-0.items q.3 q.2.0 (q.2.1 ∙ c.in_ok-copy_of.field-0.ok.0) ∙ c.in_ok-copy_of.ensures ∙ c.deref.ensures.value ∙ indices in
+    vec_items q.0 q.1 c.extend_from_slice.new.self.items q.3 q.2.0 (q.2.1 ∙ c.extend_from_slice.new.self.ok.0)
+    ∙ c.in_ok-extend_from_slice.ensures.items ∙ ap₂ (λ (xs ys : List ℕ). xs ++ ys) c.new-copy.ensures.items c.deref.ensures.value ∙ indices in
     let h : AreIndicesBelow total (values_of points) (keys_of ws) = subst (λ xs. AreIndicesBelow total xs (keys_of ws)) copies q.4 in
     let taken : p.1 ≡ ws = vec_items p.0 p.1 ws p.3 p.2.0 (p.2.1 ∙ c.in_ok-weights.weights.ok.0) in
     let first : (i : ℕ) → first_pair nat_cmp i c.in_ok-weights-2.weights ≡ first_pair nat_cmp i ws = λ i. p.4.1 i ∙ ap (first_pair nat_cmp i) taken in
@@ -69,7 +71,8 @@ returns-clause-keys g c =
     let keys : c.into_parts-keys.result.0.items ≡ keys_of points = c.into_parts-keys.ensures.keys ∙ ap keys_of c.into_map.ensures.pairs in
     let indices : c.into_parts-keys.result.1.items ≡ values_of points = c.into_parts-keys.ensures.values ∙ ap values_of c.into_map.ensures.pairs in
     let copies : q.1 ≡ values_of points =
-    vec_items q.0 q.1 c.in_ok-copy_of.field-0.items q.3 q.2.0 (q.2.1 ∙ c.in_ok-copy_of.field-0.ok.0) ∙ c.in_ok-copy_of.ensures ∙ c.deref.ensures.value ∙ indices in
+    vec_items q.0 q.1 c.extend_from_slice.new.self.items q.3 q.2.0 (q.2.1 ∙ c.extend_from_slice.new.self.ok.0)
+    ∙ c.in_ok-extend_from_slice.ensures.items ∙ ap₂ (λ (xs ys : List ℕ). xs ++ ys) c.new-copy.ensures.items c.deref.ensures.value ∙ indices in
     let h : AreIndicesBelow total (values_of points) (keys_of ws) = subst (λ xs. AreIndicesBelow total xs (keys_of ws)) copies q.4 in
     let taken : p.1 ≡ ws = vec_items p.0 p.1 ws p.3 p.2.0 (p.2.1 ∙ c.in_ok-weights.weights.ok.0) in
     let first : (i : ℕ) → first_pair nat_cmp i c.in_ok-weights-2.weights ≡ first_pair nat_cmp i ws = λ i. p.4.1 i ∙ ap (first_pair nat_cmp i) taken in
@@ -104,7 +107,8 @@ returns-clause-weights g c = λ lg hlg.
     let keys : c.into_parts-keys.result.0.items ≡ keys_of points = c.into_parts-keys.ensures.keys ∙ ap keys_of c.into_map.ensures.pairs in
     let indices : c.into_parts-keys.result.1.items ≡ values_of points = c.into_parts-keys.ensures.values ∙ ap values_of c.into_map.ensures.pairs in
     let copies : q.1 ≡ values_of points =
-    vec_items q.0 q.1 c.in_ok-copy_of.field-0.items q.3 q.2.0 (q.2.1 ∙ c.in_ok-copy_of.field-0.ok.0) ∙ c.in_ok-copy_of.ensures ∙ c.deref.ensures.value ∙ indices in
+    vec_items q.0 q.1 c.extend_from_slice.new.self.items q.3 q.2.0 (q.2.1 ∙ c.extend_from_slice.new.self.ok.0)
+    ∙ c.in_ok-extend_from_slice.ensures.items ∙ ap₂ (λ (xs ys : List ℕ). xs ++ ys) c.new-copy.ensures.items c.deref.ensures.value ∙ indices in
     let h : AreIndicesBelow total (values_of points) (keys_of ws) = subst (λ xs. AreIndicesBelow total xs (keys_of ws)) copies q.4 in
     let taken : p.1 ≡ ws = vec_items p.0 p.1 ws p.3 p.2.0 (p.2.1 ∙ c.in_ok-weights.weights.ok.0) in
     let first : (i : ℕ) → first_pair nat_cmp i c.in_ok-weights-2.weights ≡ first_pair nat_cmp i ws = λ i. p.4.1 i ∙ ap (first_pair nat_cmp i) taken in
