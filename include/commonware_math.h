@@ -8,7 +8,7 @@
  * polynomial of its own. A domain has N = 2^lg points, lg at most 32: point i is power i of the root of
  * order N, which is 0xee41f5320c4ea145 to the power 2^(32 - lg).
  *
- * Each function but cwm_version and cwm_status_name answers a status. If it is not CWM_DONE, the call wrote nothing.
+ * Each function but cwm_version, cwm_has_vectors and cwm_status_name answers a status. If it is not CWM_DONE, the call wrote nothing.
  * A text names statuses in their order: if several apply, the call answers the first of them. If malloc gives no memory,
  * CWM_OUT_OF_MEMORY may come in place of each but the first.
  *
@@ -72,6 +72,9 @@ enum cwm_status {
 
 /* Returns the version of the library, as CWM_VERSION is that of the header. */
 uint32_t cwm_version(void);
+
+/* Returns 1 if the library computes eight words at a time, by vectors, and else 0. Its answers are the same either way. */
+uint32_t cwm_has_vectors(void);
 
 /* Returns the name of a status, as "CWM_DONE". For a number that is no status it is "no status". */
 static inline const char *cwm_status_name(uint32_t status) {

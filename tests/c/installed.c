@@ -12,6 +12,7 @@
 int main(void) {
   char text[CWM_TEXT_SIZE];
   WANT(cwm_version() == CWM_VERSION);
+  WANT(cwm_has_vectors() <= 1);
   WANT(cwm_status_text(CWM_OUT_OF_RANGE, text, sizeof text) == CWM_DONE && strcmp(text, "out of range") == 0);
   WANT(cwm_status_text(CWM_DONE, text, 31) == CWM_WRONG_SIZE);
   WANT(strcmp(cwm_status_name(CWM_REPEATED), "CWM_REPEATED") == 0 && strcmp(cwm_status_name(16), "no status") == 0);

@@ -31,8 +31,8 @@ from ._library import library as _lib, number as _number
 
 # `eval` is left out, since it would hide the one of Python: it is `commonware_math.eval`.
 __all__ = [
-    "MODULUS", "version", "proved", "shard_size", "split", "join", "join_corrected", "roots", "systematic", "evaluate", "interpolate",
-    "recover", "correct", "decode", "weights", "weights_at_roots", "encode_poly", "decode_poly", "Error", "OutOfMemory",
+    "MODULUS", "version", "has_vectors", "proved", "shard_size", "split", "join", "join_corrected", "roots", "systematic", "evaluate",
+    "interpolate", "recover", "correct", "decode", "weights", "weights_at_roots", "encode_poly", "decode_poly", "Error", "OutOfMemory",
     "OutOfRange", "WrongSize", "TooFew", "Mismatch", "WrongIndex", "Conflict", "Inconsistent", "EndOfBuffer", "InvalidVarint",
     "InvalidLength", "ExtraData", "Repeated", "TooMany", "WrongRoot",
 ]
@@ -349,6 +349,15 @@ def version() -> tuple[int, int, int]:
     """
     number: int = _lib.cwm_version()
     return number // 10000, number // 100 % 100, number % 100
+
+
+def has_vectors() -> bool:
+    """Returns whether the library computes eight words at a time, by vectors. Its answers are the same either way.
+
+    >>> has_vectors() in (False, True)
+    True
+    """
+    return bool(_lib.cwm_has_vectors())
 
 
 def proved() -> dict[str, str]:

@@ -85,6 +85,7 @@ def _load() -> ctypes.CDLL:
 _size, _u32, _u64, _at = ctypes.c_size_t, ctypes.c_uint32, ctypes.c_uint64, ctypes.c_void_p
 _SIGNATURES = {
     "cwm_version": [],
+    "cwm_has_vectors": [],
     "cwm_status_text": [_u32, _at, _size],
     "cwm_eval": [_at, _size, _u64, _at],
     "cwm_evaluate": [_at, _size, _size],

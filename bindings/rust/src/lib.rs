@@ -124,6 +124,11 @@ pub fn version() -> (u32, u32, u32) {
     (number / 10_000, number / 100 % 100, number % 100)
 }
 
+/// Returns whether the library computes eight words at a time, by vectors. Its answers are the same either way.
+pub fn has_vectors() -> bool {
+    library::has_vectors()
+}
+
 /// Room for so many items.
 fn room_for<T>(count: usize) -> Result<Vec<T>, Error> {
     let mut items = Vec::new();

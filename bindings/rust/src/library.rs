@@ -16,6 +16,7 @@ mod declared {
     #[rustfmt::skip]
     unsafe extern "C" {
         pub fn cwm_version() -> u32;
+        pub fn cwm_has_vectors() -> u32;
         pub fn cwm_status_text(status: u32, text: *mut c_char, m: usize) -> u32;
         pub fn cwm_eval(coefficients: *const u64, n: usize, x: u64, out: *mut u64) -> u32;
         pub fn cwm_evaluate(cells: *mut u64, n: usize, cols: usize) -> u32;
@@ -58,6 +59,11 @@ fn done(status: u32) -> Result<(), Error> {
 pub fn version() -> u32 {
     // SAFETY: it takes nothing.
     unsafe { declared::cwm_version() }
+}
+
+pub fn has_vectors() -> bool {
+    // SAFETY: it takes nothing.
+    unsafe { declared::cwm_has_vectors() == 1 }
 }
 
 pub fn status_text(status: u32) -> String {

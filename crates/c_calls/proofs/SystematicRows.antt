@@ -15,7 +15,7 @@ use Rattle.systematic_shards.proofs.OneCodeword.{some_item}
 use Rattle.c_calls.specs.declared.systematic.in_hand.RowsInHand.{RowsInHand}
 use Rattle.c_calls.specs.Statuses.{status_of_rows}
 use Rattle.c_calls.specs.SystematicRows.{AreInHand, AreRowsIn, AreRowsOf, GivenRows, HaveRoom, HaveRowsFor, IsDecodeDueTo, IsDueTo, IsMemoryOrDue, IsSplitOf, IsStatusWhere, TellsOfRows, width_of, word_of_bytes}
-use Rattle.c_calls.specs.WordShards.{IsSplit}
+use Rattle.systematic_shards.specs.Splits.{IsSplit}
 
 -- a split of these numbers is that of so many bytes
 pub split-of : (size least total : ℕ) (split : Split) → split.min ≡ least → split.total ≡ total → split.size ≡ size → IsSplitOf size least total split

@@ -7,10 +7,6 @@ use Rattle.math_splitting.specs.Shards.{AreShardsOf, width_for}
 pub use Rattle.math_shards.specs.WordShards.{AreRefused, AreWordShards, DoJoinTo}
 use Rattle.math_shards.specs.Correcting.{AreCorrected, IsDueCorrecting}
 
--- `min` of `total` shards give data back
-abbrev pub IsSplit : ℕ → ℕ → Type 0
-IsSplit min total = (1 ≤ min) × (min ≤ total)
-
 -- the shards of `words` words, of which `min` give these back, have `cells` cells each; the words, and the cells of all shards, are below
 -- 2^57
 pub record HaveShardSizes (words min total cells : ℕ) : Type 0 where

@@ -11,7 +11,7 @@ ghost use Rattle.std.specs.Prelude.{◌≡◌, ◌↔◌, ◌<◌, ◌*◌, ℕ,
 ghost use Rattle.std.specs.Int.{from_be_bytes, w64};
 ghost use Rattle.math_numbers.specs.Goldilocks.{P};
 ghost use Rattle.c_calls.specs.ShardBytes.{AreBlockRefused, AreBlockRefusedCorrecting, AreByteRowsOf, AreBytesOfShards, DoCorrectToBlock, DoJoinToBlock, HaveShardBytes, SpellElements};
-ghost use Rattle.c_calls.specs.WordShards.{IsSplit};
+ghost use Rattle.systematic_shards.specs.Splits.{IsSplit};
 
 mod in_hand;
 

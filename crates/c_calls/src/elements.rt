@@ -5,7 +5,7 @@
 //! list of its own, and writes the answer back at the end. The value at a point is summed while its
 //! words are tested; the other calls test first.
 
-ghost use Rattle.std.specs.Prelude.{◌≡◌, ◌↔◌, ◌≤◌, ◌+◌, ◌*◌, ◌++◌, ℕ, List, IsTrue, IfOk, IfSome, None, length, take, drop};
+ghost use Rattle.std.specs.Prelude.{◌≡◌, ◌≤◌, ◌+◌, ◌*◌, ◌++◌, ℕ, List, IfOk, IfSome, None, length, take, drop};
 ghost use Rattle.std.specs.Int.{to_be_bytes, w64};
 ghost use Rattle.std.specs.List.{flat_map};
 ghost use Rattle.math_codec.specs.Faults.{Agrees, OnMemory};
@@ -18,14 +18,8 @@ use commonware_math::codec::{Error, Read};
 use commonware_math::fields::goldilocks::{F, MODULUS};
 use math_splitting::shards::write_word;
 use math_values::words::Word;
+pub use math_values::words::are_elements;
 use std::alloc::Global;
-
-/// Whether each word is below P, and so the number of an element.
-pub fn are_elements(words: &[u64]) -> bool
-    ensures { IsTrue result ↔ AreElements words.now }
-{
-    words.iter().all(|word| *word < MODULUS)
-}
 
 /// The words as elements.
 pub(crate) fn elements(alloc: Global, words: &[u64]) -> Mem<Vec<F>>

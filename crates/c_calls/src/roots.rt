@@ -17,7 +17,7 @@ ghost use Rattle.c_calls.specs.RootedShards.{AreShardsOf, HaveShardsFor, IsAnswe
 ghost use Rattle.c_calls.specs.RootedShards.{IsCommitDueTo, IsMemoryOrStrictDue, TellsNoSizes};
 ghost use Rattle.c_calls.specs.RootedShards.{WritesBlock};
 ghost use Rattle.c_calls.specs.SystematicRows.{HaveRowsFor, IsSplitOf};
-ghost use Rattle.c_calls.specs.WordShards.{IsSplit};
+ghost use Rattle.systematic_shards.specs.Splits.{IsSplit};
 
 mod in_hand;
 

@@ -5,7 +5,8 @@
 //! says that not 1 <= `min` <= `total`.
 
 ghost use Rattle.std.specs.Prelude.{◌≡◌, ◌↔◌, ◌<◌, ◌≤◌, ◌*◌, ℕ, IsTrue, IfSome, IfNone, OnOk, OnErr, length};
-ghost use Rattle.c_calls.specs.WordShards.{AreRefused, AreRefusedCorrecting, AreRowsOf, AreWordsOfShards, DoCorrectTo, DoJoinTo, HaveShardSizes, IsSplit};
+ghost use Rattle.c_calls.specs.WordShards.{AreRefused, AreRefusedCorrecting, AreRowsOf, AreWordsOfShards, DoCorrectTo, DoJoinTo, HaveShardSizes};
+ghost use Rattle.systematic_shards.specs.Splits.{IsSplit};
 
 mod in_hand;
 
@@ -16,16 +17,10 @@ use commonware_math::shards::{
 };
 pub use in_hand::WordShards;
 use std::alloc::Global;
+pub use systematic_shards::is_split;
 
 /// 2^57: there are fewer words of data, and fewer of shards.
 const WORDS: usize = 0x0200_0000_0000_0000;
-
-/// Whether `min` of `total` shards give data back.
-pub fn is_split(min: u32, total: u32) -> bool
-    ensures { IsTrue result ↔ IsSplit min total }
-{
-    1 <= min && min <= total
-}
 
 /// How many cells each shard of so many words has: `None` where these or the cells are too many.
 pub fn size(words: usize, min: u32, total: u32) -> Option<usize>

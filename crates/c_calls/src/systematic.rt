@@ -15,7 +15,7 @@ ghost use Rattle.c_calls.specs.SystematicRows.{AreRebuilt, AreRowsOf, HaveRoom, 
 ghost use Rattle.c_calls.specs.SystematicRows.{IsDecodeDueTo, IsDueTo};
 ghost use Rattle.c_calls.specs.SystematicRows.{IsMemoryOrCorrectingDue, IsMemoryOrDue, IsSplitOf};
 ghost use Rattle.c_calls.specs.SystematicRows.{IsVerified, WritesRows, width_of};
-ghost use Rattle.c_calls.specs.WordShards.{IsSplit};
+ghost use Rattle.systematic_shards.specs.Splits.{IsSplit};
 
 mod in_hand;
 

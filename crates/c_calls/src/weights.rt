@@ -2,21 +2,18 @@
 //!
 //! They are those of `poly::weights_at`: an `Interpolator` would make a map of the points.
 
-ghost use Rattle.std.specs.Prelude.{◌≡◌, ◌↔◌, ◌<◌, ◌≤◌, ◌^◌, IsTrue, IfOk, OnOk, OnErr, length};
-ghost use Rattle.std.specs.Int.{IsNextPowerOfTwo};
-ghost use Rattle.std.specs.Map.{values_of};
+ghost use Rattle.std.specs.Prelude.{◌≡◌, ◌↔◌, ◌<◌, ◌≤◌, IsTrue, IfOk, OnOk, OnErr, length};
 ghost use Rattle.math_numbers.specs.Goldilocks.{P};
-ghost use Rattle.math_fields.specs.Elements.{root_of};
-ghost use Rattle.math_transforms.specs.RootWeights.{AreRising, powers_at};
-ghost use Rattle.c_calls.specs.WordElements.{AreElements, goldilocks, numbers};
+ghost use Rattle.math_transforms.specs.RootWeights.{AreRising};
+ghost use Rattle.c_calls.specs.WordElements.{AreElements, numbers};
 ghost use Rattle.c_calls.specs.WordWeights.{AreWordWeights, AreWordWeightsAtRoots};
 
 use crate::elements::{elements, write_numbers};
-use commonware_math::algebra::{Mem, Ring};
+use commonware_math::algebra::Mem;
 use commonware_math::fields::goldilocks::F;
 use commonware_math::ntt::lagrange_coefficients_at;
 use commonware_math::poly::weights_at;
-use math_transforms::transform::lg_of;
+use row_interpolation::{lg_above, points_of, weights_of_pairs};
 use std::alloc::Global;
 use std::num::NonZeroU32;
 
@@ -47,40 +44,6 @@ pub fn are_rising(total: u32, indices: &[u32]) -> bool
     true
 }
 
-/// The weights of pairs of an index and a weight.
-fn values(alloc: Global, pairs: Vec<(u32, F)>) -> Mem<Vec<F>>
-    ensures { IfOk result (λ v. v.items ≡ values_of pairs.items) }
-{
-    let mut out = Vec::new(alloc);
-    for pair in pairs {
-        out.push(pair.1)?;
-    }
-    Ok(out)
-}
-
-/// The lg of the number of points of the domain: `total` rounded up to a power of two.
-fn lg_of_total(total: NonZeroU32) -> u8
-    ensures power { IsNextPowerOfTwo total.value (2 ^ result) }
-    ensures small { result ≤ 32 }
-{
-    lg_of((total.get() as usize).next_power_of_two())
-}
-
-/// The powers of the root of order 2^lg with these exponents. Each is found by itself.
-fn points_at(alloc: Global, lg: u8, indices: &[u32]) -> Mem<Vec<F>>
-    requires { lg ≤ 32 }
-    ensures { IfOk result (λ v. v.items ≡ powers_at goldilocks (root_of lg) indices.now) }
-{
-    let Some(root) = F::root_of_unity(lg) else {
-        unreachable!()
-    };
-    let mut out = Vec::with_capacity(alloc, indices.len())?;
-    for index in indices {
-        out.push(root.exp(alloc, &[u64::from(*index)])?)?;
-    }
-    Ok(out)
-}
-
 /// Whether so few points take less time by themselves than among all of a domain of 2^lg points: a
 /// product for each pair of them, or one for each point of the domain and level of a transform.
 fn are_few(count: usize, lg: u8) -> bool
@@ -97,7 +60,7 @@ fn weights_at_powers(alloc: Global, total: NonZeroU32, indices: &[u32], x: u64) 
     ensures { IfOk result
         (λ v. AreWordWeightsAtRoots x total.value indices.now (numbers v.items)) }
 {
-    let powers = points_at(alloc, lg_of_total(total), indices)?;
+    let powers = points_of(alloc, lg_above(total.get()), indices)?;
     let weights = weights_at(alloc, &powers, &F::from(x))?;
     Ok(weights)
 }
@@ -112,7 +75,7 @@ fn weights_in_domain(alloc: Global, total: NonZeroU32, indices: &[u32], x: u64) 
     let mut copy = Vec::new(alloc);
     copy.extend_from_slice(indices)?;
     let found = lagrange_coefficients_at(alloc, total, copy, &F::from(x))?;
-    let weights = values(alloc, found)?;
+    let weights = weights_of_pairs(alloc, found)?;
     Ok(weights)
 }
 
@@ -124,7 +87,7 @@ fn weights_at_roots(alloc: Global, total: NonZeroU32, indices: &[u32], x: u64) -
     ensures { IfOk result
         (λ v. AreWordWeightsAtRoots x total.value indices.now (numbers v.items)) }
 {
-    if are_few(indices.len(), lg_of_total(total)) {
+    if are_few(indices.len(), lg_above(total.get())) {
         weights_at_powers(alloc, total, indices, x)
     } else {
         weights_in_domain(alloc, total, indices, x)

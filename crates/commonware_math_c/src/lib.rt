@@ -27,7 +27,8 @@ ghost use Rattle.c_calls.specs.WordDecodings.{AreDecodedWords, HasDecodingSizes,
 ghost use Rattle.c_calls.specs.WordElements.{AreElements, elements, goldilocks};
 ghost use Rattle.c_calls.specs.WordRows.{AreWordValues, AreRecoveredWords, AreFilledElements, HasRows, HasRowsFor, truth};
 ghost use Rattle.c_calls.specs.WordWeights.{AreWordWeights, AreWordWeightsAtRoots};
-ghost use Rattle.c_calls.specs.WordShards.{AreRefused, AreRefusedCorrecting, AreRowsOf, AreWordsOfShards, DoCorrectTo, DoJoinTo, HaveShardSizes, IsSplit};
+ghost use Rattle.c_calls.specs.WordShards.{AreRefused, AreRefusedCorrecting, AreRowsOf, AreWordsOfShards, DoCorrectTo, DoJoinTo, HaveShardSizes};
+ghost use Rattle.systematic_shards.specs.Splits.{IsSplit};
 ghost use Rattle.math_shards.specs.declared.shards.Error.{Error};
 ghost use Rattle.c_calls.specs.ShardBytes.{AreBlockRefused, AreBlockRefusedCorrecting, AreByteRowsOf, AreBytesOfShards, DoCorrectToBlock, DoJoinToBlock, HaveShardBytes, SpellElements};
 ghost use Rattle.commonware_math_c.specs.Version.{version};
@@ -50,6 +51,7 @@ use c_calls::{blocks, polynomials, rows, shards, status, values, weights};
 use commonware_math::fields::goldilocks::MODULUS;
 use std::alloc::Global;
 use std::num::NonZeroU32;
+use wide_machine::is_wide;
 
 /// Writes the value at x of the polynomial with these coefficients, from the constant upwards.
 #[unsafe(no_mangle)]
@@ -705,6 +707,14 @@ pub extern "C" fn cwm_version() -> u32
     ensures { result ≡ version }
 {
     VERSION
+}
+
+/// 1 if the library computes eight words at a time, by vectors, and 0 if not.
+#[unsafe(no_mangle)]
+pub extern "C" fn cwm_has_vectors() -> u32
+    ensures { result ≤ 1 }
+{
+    u32::from(is_wide())
 }
 
 /// Writes the text of a status over the bytes, and zeros behind it; 32 bytes hold each.

@@ -15,7 +15,7 @@ ghost use Rattle.c_calls.specs.Statuses.{out_of_memory, too_many, wrong_index, w
 ghost use Rattle.c_calls.specs.Statuses.{wrong_size};
 ghost use Rattle.c_calls.specs.SystematicRows.{HaveRowsFor, IsSplitOf};
 ghost use Rattle.c_calls.specs.WordEncodings.{StandInFront};
-ghost use Rattle.c_calls.specs.WordShards.{IsSplit};
+ghost use Rattle.systematic_shards.specs.Splits.{IsSplit};
 
 use c_calls::shards::is_split;
 use c_calls::status::Status;

@@ -10,7 +10,7 @@ ghost use Rattle.c_calls.specs.SystematicRows.{IsCorrectingDueTo, IsDecodeDueTo,
 ghost use Rattle.c_calls.specs.SystematicRows.{IsSplitOf, IsStatusDue, IsVerified};
 ghost use Rattle.c_calls.specs.SystematicRows.{bytes_in_row, width_of};
 ghost use Rattle.c_calls.specs.WordEncodings.{StandInFront};
-ghost use Rattle.c_calls.specs.WordShards.{IsSplit};
+ghost use Rattle.systematic_shards.specs.Splits.{IsSplit};
 
 use c_calls::shards::is_split;
 use c_calls::status::Status;

@@ -32,6 +32,7 @@ ghost use Rattle.std.specs.Map.{keys_of};
 ghost use Rattle.math_theory.specs.Powers.{power};
 ghost use Rattle.math_theory.specs.Recovery.{filled_places};
 ghost use Rattle.math_base.specs.Polynomials.{AreWeightsAt};
+ghost use Rattle.math_transforms.specs.Domains.{IsDomain};
 ghost use Rattle.math_transforms.specs.RootWeights.{
   HasDomainOf,
   AreIndicesBelow,
@@ -127,8 +128,7 @@ fn weights_at<F: FieldNTT>(
     places: &[usize],
     x: &F,
 ) -> Mem<Vec<F>>
-    requires domain { lg ≤ F.MAX_LG_ROOT_ORDER }
-    requires small { lg < 64 }
+    requires domain { IsDomain F.MAX_LG_ROOT_ORDER lg }
     requires size { length present ≡ 2 ^ lg }
     requires places { places.now ≡ filled_places present }
     ensures { IfOk result
@@ -165,8 +165,7 @@ fn weights_at_zero<F: FieldNTT>(
     places: &[usize],
     x: &F,
 ) -> Mem<Vec<F>>
-    requires domain { lg ≤ F.MAX_LG_ROOT_ORDER }
-    requires small { lg < 64 }
+    requires domain { IsDomain F.MAX_LG_ROOT_ORDER lg }
     requires size { length present.now ≡ 2 ^ lg }
     requires places { places.now ≡ filled_places present.now }
     requires some { 0 < length places.now }
@@ -192,8 +191,7 @@ fn weights_outside<F: FieldNTT>(
     points: &[F],
     x: &F,
 ) -> Mem<Vec<F>>
-    requires domain { lg ≤ F.MAX_LG_ROOT_ORDER }
-    requires small { lg < 64 }
+    requires domain { IsDomain F.MAX_LG_ROOT_ORDER lg }
     requires size { length present.now ≡ 2 ^ lg }
     requires places { places.now ≡ filled_places present.now }
     requires some { 0 < length places.now }
@@ -226,8 +224,7 @@ fn weights_at_missing<F: FieldNTT>(
     x: &F,
     m: usize,
 ) -> Mem<Vec<F>>
-    requires domain { lg ≤ F.MAX_LG_ROOT_ORDER }
-    requires small { lg < 64 }
+    requires domain { IsDomain F.MAX_LG_ROOT_ORDER lg }
     requires size { length present ≡ 2 ^ lg }
     requires places { places.now ≡ filled_places present }
     requires some { 0 < length places.now }

@@ -1,3 +1,4 @@
+pub mod Domains
 pub mod Matrices
 pub mod Bitmaps
 pub mod CountedWork

@@ -26,6 +26,7 @@ ghost use Rattle.std.specs.Prelude.{
 };
 ghost use Rattle.std.specs.Int.{IsPowerOfTwo};
 ghost use Rattle.math_theory.specs.Powers.{power};
+ghost use Rattle.math_transforms.specs.Domains.{IsDomain};
 ghost use Rattle.math_transforms.specs.CosetValues.{AreMultiplesAtPowers};
 ghost use Rattle.math_transforms.specs.CountedWork.{AddsAllOrSome, AddsAtMost};
 ghost use Rattle.math_transforms.specs.DomainValues.{
@@ -66,8 +67,7 @@ pub fn size_of(lg: u8) -> usize
 
 /// The table for `evaluate_rows` at 2^lg rows: the tree of the powers of the root, of 2^lg entries.
 pub fn evaluation_table<F: FieldNTT>(alloc: Global, lg: u8) -> Mem<Vec<F>>
-    requires domain { lg ≤ F.MAX_LG_ROOT_ORDER }
-    requires small { lg < 64 }
+    requires domain { IsDomain F.MAX_LG_ROOT_ORDER lg }
     ensures { IfOk result (λ table. IsTreeOf F.Ring F.root F.one lg table.items) }
 {
     let table = domain_tree::<F, true>(alloc, lg)?;
@@ -77,8 +77,7 @@ pub fn evaluation_table<F: FieldNTT>(alloc: Global, lg: u8) -> Mem<Vec<F>>
 /// The table for `interpolate_rows` at 2^lg rows: the tree of the powers of the inverse of the
 /// root, of 2^lg entries.
 pub fn interpolation_table<F: FieldNTT>(alloc: Global, lg: u8) -> Mem<Vec<F>>
-    requires domain { lg ≤ F.MAX_LG_ROOT_ORDER }
-    requires small { lg < 64 }
+    requires domain { IsDomain F.MAX_LG_ROOT_ORDER lg }
     ensures { IfOk result
         (λ table. IsTreeOf F.Ring (λ l. F.inverse (F.root l)) F.one lg table.items) }
 {
@@ -99,8 +98,7 @@ pub fn evaluate_rows<F: FieldNTT>(
     table: &[F],
     work: &mut Work,
 ) -> Mem<()>
-    requires domain { lg ≤ F.MAX_LG_ROOT_ORDER }
-    requires small { lg < 64 }
+    requires domain { IsDomain F.MAX_LG_ROOT_ORDER lg }
     requires size { length cells.old ≡ 2 ^ lg * cols }
     requires table { IsTreeOf F.Ring F.root F.one lg table.now }
     requires room { 2 * work.old.butterflies + cols * 2 ^ lg * lg < 2 ^ 129 }
@@ -126,8 +124,7 @@ pub fn evaluate_rows_reversed<F: FieldNTT>(
     table: &[F],
     work: &mut Work,
 ) -> Mem<()>
-    requires domain { lg ≤ F.MAX_LG_ROOT_ORDER }
-    requires small { lg < 64 }
+    requires domain { IsDomain F.MAX_LG_ROOT_ORDER lg }
     requires size { length cells.old ≡ 2 ^ lg * cols }
     requires table { IsTreeOf F.Ring F.root F.one lg table.now }
     requires room { 2 * work.old.butterflies + cols * 2 ^ lg * lg < 2 ^ 129 }
@@ -164,8 +161,7 @@ pub fn evaluate_few<F: FieldNTT>(
     table: &[F],
     work: &mut Work,
 ) -> Mem<()>
-    requires domain { lg ≤ F.MAX_LG_ROOT_ORDER }
-    requires small { lg < 64 }
+    requires domain { IsDomain F.MAX_LG_ROOT_ORDER lg }
     requires part { part ≤ lg }
     requires size { length cells.old ≡ 2 ^ lg * cols }
     requires table { IsTreeOf F.Ring F.root F.one lg table.now }
@@ -200,8 +196,7 @@ pub fn interpolate_rows<F: FieldNTT>(
     table: &[F],
     work: &mut Work,
 ) -> Mem<()>
-    requires domain { lg ≤ F.MAX_LG_ROOT_ORDER }
-    requires small { lg < 64 }
+    requires domain { IsDomain F.MAX_LG_ROOT_ORDER lg }
     requires size { length cells.old ≡ 2 ^ lg * cols }
     requires table { IsTreeOf F.Ring (λ l. F.inverse (F.root l)) F.one lg table.now }
     requires room { 2 * work.old.butterflies + cols * 2 ^ lg * lg < 2 ^ 129 }
@@ -231,8 +226,7 @@ pub fn interpolate_multiples<F: FieldNTT>(
     table: &[F],
     work: &mut Work,
 ) -> Mem<()>
-    requires domain { lg ≤ F.MAX_LG_ROOT_ORDER }
-    requires small { lg < 64 }
+    requires domain { IsDomain F.MAX_LG_ROOT_ORDER lg }
     requires size { length cells.old ≡ 2 ^ lg * cols }
     requires table { IsTreeOf F.Ring (λ l. F.inverse (F.root l)) F.one lg table.now }
     requires room { 2 * work.old.butterflies + cols * 2 ^ lg * lg < 2 ^ 129 }

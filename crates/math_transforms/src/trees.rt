@@ -13,6 +13,7 @@
 //! one before it.
 
 ghost use Rattle.std.specs.Prelude.{◌≡◌, ◌+◌, ◌<◌, ◌≤◌, ◌^◌, ℕ, IfOk, IsOk, IsTrue, OnOk, length, if◌then◌else◌};
+ghost use Rattle.math_transforms.specs.Domains.{IsDomain};
 ghost use Rattle.math_transforms.specs.RootTrees.{IsTreeOf};
 ghost use Rattle.math_transforms.specs.TreeLevels.{AddsLevel, AddsMade, AreLevelsScaled};
 
@@ -95,8 +96,7 @@ fn add_level<F: Ring>(alloc: Global, tree: &mut Vec<F>, count: usize, root: &F) 
 
 /// The tree of the powers of the root of order 2^lg, or of its inverse for the way back.
 pub(super) fn domain_tree<F: FieldNTT, const FORWARD: bool>(alloc: Global, lg: u8) -> Mem<Vec<F>>
-    requires domain { lg ≤ F.MAX_LG_ROOT_ORDER }
-    requires small { lg < 64 }
+    requires domain { IsDomain F.MAX_LG_ROOT_ORDER lg }
     ensures { IfOk result (λ tree. IsTreeOf F.Ring
         (λ l. if FORWARD then F.root l else F.inverse (F.root l)) F.one lg tree.items) }
 {
@@ -148,8 +148,7 @@ pub fn start_at<F: Ring>(alloc: Global, tree: &mut [F], start: &F, lg: u8) -> Me
 
 /// The tree of the points that are `start` times the powers of the root of order 2^lg.
 pub fn root_tree<F: FieldNTT>(alloc: Global, start: &F, lg: u8) -> Mem<Vec<F>>
-    requires domain { lg ≤ F.MAX_LG_ROOT_ORDER }
-    requires small { lg < 64 }
+    requires domain { IsDomain F.MAX_LG_ROOT_ORDER lg }
     ensures { IfOk result (λ tree. IsTreeOf F.Ring F.root start.now lg tree.items) }
 {
     let mut tree = domain_tree::<F, true>(alloc, lg)?;
@@ -160,8 +159,7 @@ pub fn root_tree<F: FieldNTT>(alloc: Global, start: &F, lg: u8) -> Mem<Vec<F>>
 /// The tree of the inverses of the points of `root_tree`, where `start` is the inverse of its
 /// start.
 pub fn inverse_tree<F: FieldNTT>(alloc: Global, start: &F, lg: u8) -> Mem<Vec<F>>
-    requires domain { lg ≤ F.MAX_LG_ROOT_ORDER }
-    requires small { lg < 64 }
+    requires domain { IsDomain F.MAX_LG_ROOT_ORDER lg }
     ensures { IfOk result
         (λ tree. IsTreeOf F.Ring (λ l. F.inverse (F.root l)) start.now lg tree.items) }
 {

@@ -33,6 +33,7 @@ ghost use Rattle.std.specs.List.{AllWithin};
 ghost use Rattle.math_theory.specs.Powers.{power};
 ghost use Rattle.math_theory.specs.Recovery.{count_true};
 ghost use Rattle.math_base.specs.Polynomials.{value_in_ring};
+ghost use Rattle.math_transforms.specs.Domains.{IsDomain};
 ghost use Rattle.math_transforms.specs.CountedWork.{AddsAtMost, AddsWithin};
 ghost use Rattle.math_transforms.specs.MissingPoints.{
   count_false,
@@ -507,8 +508,7 @@ pub fn vanishing_coefficients<F: FieldNTT>(
     interpolation: &[F],
     work: &mut Work,
 ) -> Mem<Vec<F>>
-    requires domain { lg ≤ F.MAX_LG_ROOT_ORDER }
-    requires small { lg < 64 }
+    requires domain { IsDomain F.MAX_LG_ROOT_ORDER lg }
     requires points { length points.now ≡ 2 ^ lg }
     requires some { 0 < count_true points.now }
     requires evaluation { IsTreeOf F.Ring F.root F.one lg evaluation.now }
@@ -558,8 +558,7 @@ pub(super) fn vanishing_values<F: FieldNTT>(
     points: &VanishingPoints,
     lg: u8,
 ) -> Mem<(F, Vec<F>)>
-    requires domain { lg ≤ F.MAX_LG_ROOT_ORDER }
-    requires small { lg < 64 }
+    requires domain { IsDomain F.MAX_LG_ROOT_ORDER lg }
     requires points { length points.now ≡ 2 ^ lg }
     requires some { 0 < count_true points.now }
     ensures { IfOk result

@@ -4,6 +4,7 @@
 
 mod blocks;
 pub mod columns;
+pub mod points;
 mod products;
 pub mod strips;
 pub mod sums;

@@ -1,8 +1,9 @@
 //! What holds a word: a word, an element, or eight bytes.
 
-ghost use Rattle.std.specs.Prelude.{◌≡◌, ℕ};
+ghost use Rattle.std.specs.Prelude.{◌≡◌, ◌↔◌, ◌-◌, ◌<◌, ◌++◌, ℕ, IsTrue, length, replicate};
+ghost use Rattle.math_values.specs.Values.{AreElements};
 
-use math_fields::goldilocks::F;
+use math_fields::goldilocks::{F, MODULUS};
 
 /// A word, the element whose number it is, or the eight bytes that it is, the lowest first.
 pub trait Word: Copy {
@@ -39,4 +40,21 @@ impl Word for [u8; 8] {
     fn word(self) -> u64 {
         u64::from_le_bytes(self)
     }
+}
+
+/// Returns fewer than eight bytes with zeros after them.
+pub fn padded_to_eight(rest: &[u8]) -> [u8; 8]
+    requires { length rest.now < 8 }
+    ensures { result ≡ rest.now ++ replicate (8 - length rest.now) 0 }
+{
+    let mut eight = [0; 8];
+    eight[..rest.len()].copy_from_slice(rest);
+    eight
+}
+
+/// Returns whether each word is below P, and so the number of an element.
+pub fn are_elements(words: &[u64]) -> bool
+    ensures { IsTrue result ↔ AreElements words.now }
+{
+    words.iter().all(|word| *word < MODULUS)
 }

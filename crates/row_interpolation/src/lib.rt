@@ -18,5 +18,6 @@ mod rows;
 mod weights;
 
 pub use interpolation::Interpolation;
-pub use points::lg_above;
+pub use points::{lg_above, points_of};
 pub use rows::ElementRows;
+pub use weights::weights_of_pairs;

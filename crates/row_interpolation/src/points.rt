@@ -2,12 +2,12 @@
 
 ghost use Rattle.std.specs.Prelude.{◌≡◌, ◌≤◌, ◌^◌, IfOk};
 ghost use Rattle.std.specs.Int.{IsNextPowerOfTwo};
-ghost use Rattle.math_theory.specs.Powers.{power};
-ghost use Rattle.math_fields.specs.Elements.{goldilocks, product, residue, root_of};
+ghost use Rattle.math_fields.specs.Elements.{goldilocks, root_of};
 ghost use Rattle.math_transforms.specs.RootWeights.{powers_at};
 
-use math_base::algebra::{Mem, Ring};
+use math_base::algebra::Mem;
 use math_fields::goldilocks::F;
+use math_values::points::point_of;
 use std::alloc::Global;
 
 /// Returns the lg of the number rounded up to a power of two.
@@ -19,22 +19,8 @@ pub fn lg_above(count: u32) -> u8
     (32 - (count - 1).leading_zeros()) as u8
 }
 
-/// Power `index` of the root of order 2^lg. Takes no memory.
-pub(crate) fn point_of(alloc: Global, lg: u8, index: u32) -> F
-    requires { lg ≤ 32 }
-    ensures { result ≡ power (residue 1) product (root_of lg) index }
-{
-    let Some(root) = F::root_of_unity(lg) else {
-        unreachable!()
-    };
-    let Ok(point) = root.exp(alloc, &[index as u64]) else {
-        unreachable!()
-    };
-    point
-}
-
-/// The points of the indices.
-pub(crate) fn points_of(alloc: Global, lg: u8, indices: &[u32]) -> Mem<Vec<F>>
+/// Returns the powers of the root of order 2^lg with these exponents.
+pub fn points_of(alloc: Global, lg: u8, indices: &[u32]) -> Mem<Vec<F>>
     requires { lg ≤ 32 }
     ensures { IfOk result (λ v. v.items ≡ powers_at goldilocks (root_of lg) indices.now) }
 {

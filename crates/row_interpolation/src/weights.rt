@@ -16,11 +16,12 @@ ghost use Rattle.row_interpolation.specs.Weights.{AreOutside, AreOwnProducts, Ar
 ghost use Rattle.row_interpolation.specs.Weights.{AreWanted, AreWeightRows, AreWeightsFor};
 ghost use Rattle.row_interpolation.specs.Weights.{differences};
 
-use crate::points::{lg_above, point_of, points_of};
+use crate::points::{lg_above, points_of};
 use math_base::algebra::Mem;
 use math_base::weights::quotients;
 use math_fields::goldilocks::F;
 use math_lagrange::weights::lagrange_coefficients_at;
+use math_values::points::point_of;
 use std::alloc::Global;
 use std::num::NonZeroU32;
 
@@ -123,8 +124,8 @@ fn weights_by_points(alloc: Global, total: u32, indices: &[u32], wanted: &[u32])
     Ok(rows)
 }
 
-/// The weights of pairs of an index and a weight.
-fn weights_of_pairs(alloc: Global, pairs: Vec<(u32, F)>) -> Mem<Vec<F>>
+/// Returns the weights of pairs of an index and a weight.
+pub fn weights_of_pairs(alloc: Global, pairs: Vec<(u32, F)>) -> Mem<Vec<F>>
     ensures { IfOk result (λ v. v.items ≡ values_of pairs.items) }
 {
     let mut out = Vec::new(alloc);

@@ -1,6 +1,6 @@
 //! Bytes as words, and these as bytes.
 
-ghost use Rattle.std.specs.Prelude.{◌≡◌, ◌↔◌, ◌+◌, ◌-◌, ◌*◌, ◌<◌, ◌≤◌, ◌++◌, ℕ, List, All, length, take, drop, replicate};
+ghost use Rattle.std.specs.Prelude.{◌≡◌, ◌↔◌, ◌+◌, ◌*◌, ◌≤◌, ◌++◌, ℕ, List, All, length, take, drop};
 ghost use Rattle.std.specs.Prelude.{IsTrue, IfOk, IfSome, IsSomeAnd};
 ghost use Rattle.std.specs.Int.{from_le_bytes, to_le_bytes, w64};
 ghost use Rattle.std.specs.List.{flat_map};
@@ -10,6 +10,7 @@ ghost use Rattle.shard_blocks.specs.BlockWords.{IsBlockOf, words_of_bytes};
 
 use math_base::algebra::Mem;
 use math_shards::shards::{PackedData, Source};
+use math_values::words::padded_to_eight;
 use std::alloc::Global;
 
 /// How many words are unpacked at a time: a run of elements has so many.
@@ -31,16 +32,6 @@ pub(crate) fn block_source<'a>(bytes: &'a [u8]) -> Source<'a, [u8; 8]>
         words,
         last,
     }
-}
-
-/// Fewer than eight bytes, and zeros after them.
-fn padded_to_eight(rest: &[u8]) -> [u8; 8]
-    requires { length rest.now < 8 }
-    ensures { result ≡ rest.now ++ replicate (8 - length rest.now) 0 }
-{
-    let mut eight = [0; 8];
-    eight[..rest.len()].copy_from_slice(rest);
-    eight
 }
 
 /// How many bytes the block has whose words these data are; `None` where they are those of no block.

@@ -25,6 +25,7 @@ use math_codec::codec::Write;
 use math_fields::goldilocks::{F, MODULUS};
 use shard_fingerprints::{Fingerprints, fingerprint};
 use std::alloc::Global;
+use systematic_shards::masked_word;
 
 /// A row of a block, and the mask of the block.
 #[derive(Clone, Copy)]
@@ -59,13 +60,6 @@ impl<'a> MaskedRow<'a> {
             bytes,
         })
     }
-}
-
-/// The word with its high half xor the mask.
-fn masked_word(word: u64, mask: u32) -> u64
-    ensures { result ≡ masked_number mask word }
-{
-    word ^ (u64::from(mask) << 32)
 }
 
 /// What the high halves of the words of a row are xored with: the mask in a data row, and nothing

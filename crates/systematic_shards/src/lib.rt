@@ -35,10 +35,11 @@ mod split;
 pub use correcting::rebuild_corrected;
 pub use decoding::decode;
 pub use encoding::encode;
+pub use mask::masked_word;
 pub use memory::WordMemory;
 pub use rebuilding::{rebuild, verify};
 pub use rows::Row;
-pub use split::{Code, Split};
+pub use split::{Code, Split, is_split};
 use std::alloc::{AllocError, AllocFailed};
 use thiserror::Error;
 

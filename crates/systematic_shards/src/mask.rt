@@ -13,8 +13,9 @@ use std::alloc::Global;
 /// A high half that has all bits.
 const ALL_ONES: u64 = 0xffff_ffff;
 
-/// The word with its high half xor the mask.
-pub(crate) fn masked_word(word: u64, mask: u32) -> u64
+/// Returns the word with its high half xor the mask: of a word of the data the number of its
+/// element, and of that number the word.
+pub fn masked_word(word: u64, mask: u32) -> u64
     ensures { result ≡ masked_number mask word }
 {
     word ^ (u64::from(mask) << 32)

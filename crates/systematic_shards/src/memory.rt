@@ -1,9 +1,11 @@
 //! The caller's memory, in which words lie as they are or as eight bytes each, the lowest first.
 
-ghost use Rattle.std.specs.Prelude.{◌≡◌, ◌≢◌, ◌+◌, ◌-◌, ◌*◌, ◌/◌, ◌<◌, ◌≤◌, ◌^◌, ◌++◌, [], ℕ, List, length, take, drop, replicate, slice_index, slice_index_or};
+ghost use Rattle.std.specs.Prelude.{◌≡◌, ◌≢◌, ◌+◌, ◌*◌, ◌/◌, ◌<◌, ◌≤◌, ◌^◌, ◌++◌, [], ℕ, List, length, take, drop, slice_index, slice_index_or};
 ghost use Rattle.std.specs.Int.{from_le_bytes, w64};
 ghost use Rattle.row_interpolation.specs.Written.{AreWritten};
 ghost use Rattle.systematic_shards.specs.Words.{IsWithin, word_of_bytes};
+
+use math_values::words::padded_to_eight;
 
 /// What data and rows lie in: words, or bytes, of which eight are a word, the lowest first.
 pub trait WordMemory: Copy {
@@ -145,19 +147,9 @@ fn word_in_bytes(cells: &[u8], k: usize) -> u64
         return u64::from_le_bytes(words[k]);
     }
     if k == words.len() {
-        return u64::from_le_bytes(eight_bytes(rest));
+        return u64::from_le_bytes(padded_to_eight(rest));
     }
     0
-}
-
-/// Fewer than eight bytes, and zeros behind them.
-fn eight_bytes(rest: &[u8]) -> [u8; 8]
-    requires { length rest.now < 8 }
-    ensures { result ≡ rest.now ++ replicate (8 - length rest.now) 0 }
-{
-    let mut eight = [0; 8];
-    eight[..rest.len()].copy_from_slice(rest);
-    eight
 }
 
 /// Reads whole words over the items of `out`.

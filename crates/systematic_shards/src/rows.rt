@@ -2,7 +2,6 @@
 
 ghost use Rattle.std.specs.Prelude.{◌≡◌, ◌≢◌, ◌↔◌, ◌*◌, ◌<◌, ◌≤◌, ℕ, All, List, length, slice_index};
 ghost use Rattle.std.specs.Prelude.{IsTrue, IfErr, IfSome, IfNone, OnOk};
-ghost use Rattle.math_numbers.specs.Goldilocks.{P};
 ghost use Rattle.systematic_shards.specs.Refusals.{AreElements, HasLength, IsDue, IsSound};
 ghost use Rattle.systematic_shards.specs.Shards.{IsElementIn, mask_of_row};
 ghost use Rattle.systematic_shards.specs.declared.Error.TheVariants.{Conflict, Inconsistent};
@@ -11,7 +10,7 @@ use crate::Error;
 use crate::mask::are_free_of;
 use crate::memory::{RUN, WordMemory, words_from};
 use crate::split::{Code, Split};
-use math_fields::goldilocks::MODULUS;
+use math_values::words;
 
 /// One row: its index, and its words in the caller's memory.
 #[derive(Clone, Copy)]
@@ -68,13 +67,6 @@ pub(crate) fn are_below(numbers: &[u32], bound: u32) -> bool
     numbers.iter().all(|n| *n < bound)
 }
 
-/// Whether each word is below P.
-fn are_below_modulus(words: &[u64]) -> bool
-    ensures { IsTrue result ↔ All (λ word. word < P) words.now }
-{
-    words.iter().all(|word| *word < MODULUS)
-}
-
 /// Whether each word is one of an element in the row of this index.
 ///
 /// Nearly all words of a parity row have a high half that is not all ones, and are below P for
@@ -89,7 +81,7 @@ fn are_words_in(words: &[u64], code: Code, index: u32) -> bool
     if are_free_of(words, 0) {
         return true;
     }
-    are_below_modulus(words)
+    words::are_elements(words)
 }
 
 /// Whether each word of the row is one of an element.

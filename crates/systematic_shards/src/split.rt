@@ -43,8 +43,8 @@ pub struct Code {
     ghost short: { mask < 2 ^ 32 },
 }
 
-/// Whether `min` of `total` rows can give a block back.
-fn is_split(min: u32, total: u32) -> bool
+/// Returns whether `min` of `total` rows can give a block back: whether 1 <= `min` <= `total`.
+pub fn is_split(min: u32, total: u32) -> bool
     ensures { IsTrue result ↔ IsSplit min total }
 {
     1 <= min && min <= total

@@ -2,6 +2,7 @@
 
 ghost use Rattle.std.specs.Prelude.{◌≡◌, ◌<◌, ◌≤◌, ◌^◌, ℕ, length, slice_index_or, IfOk, All};
 ghost use Rattle.math_theory.specs.Powers.{power};
+ghost use Rattle.math_transforms.specs.Domains.{IsDomain};
 
 use math_base::algebra::{Additive, FieldNTT, Mem, Multiplicative, Object, Ring};
 use math_transforms::row_products::{multiply_row, multiply_rows};
@@ -28,8 +29,7 @@ fn geometric<F: Ring>(alloc: Global, start: F, ratio: &F, n: usize) -> Mem<Vec<F
 ///
 /// lg is at most `F::MAX_LG_ROOT_ORDER`.
 pub fn domain_points<F: FieldNTT>(alloc: Global, lg: u8) -> Mem<Vec<F>>
-    requires domain { lg ≤ F.MAX_LG_ROOT_ORDER }
-    requires small { lg < 64 }
+    requires domain { IsDomain F.MAX_LG_ROOT_ORDER lg }
     ensures count { IfOk result (λ v. length v.items ≡ 2 ^ lg) }
     ensures powers { IfOk result (λ v. (i : ℕ) → i < 2 ^ lg
         → F.same (slice_index_or v.items i F.zero) (power F.one F.product (F.root lg) i)) }

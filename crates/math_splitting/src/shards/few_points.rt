@@ -23,6 +23,7 @@ use math_base::algebra::{Mem, Multiplicative, Ring};
 use math_fields::goldilocks::F;
 use math_transforms::transform::size_of;
 use math_values::columns::{sum_columns, sums_columns_at_once};
+use math_values::points::point_of;
 use math_values::strips::strip_room;
 use math_values::sums::sum_of_products;
 use math_values::words::Word;
@@ -40,20 +41,6 @@ const BESIDE: usize = 18;
 pub(super) fn are_products_cheaper(layout: Layout, points: usize) -> bool {
     let products = points.saturating_mul(layout.min as usize + BESIDE);
     products <= size_of(layout.lg).saturating_mul(layout.lg as usize)
-}
-
-/// Power `index` of the root of order 2^lg. Takes no memory.
-fn point_of(alloc: Global, lg: u8, index: u32) -> F
-    requires { lg ≤ 32 }
-    ensures { result ≡ power (residue 1) product (root_of lg) index }
-{
-    let Some(root) = F::root_of_unity(lg) else {
-        unreachable!()
-    };
-    let Ok(point) = root.exp(alloc, &[index as u64]) else {
-        unreachable!()
-    };
-    point
 }
 
 /// Writes the powers of x over the cells, from power 0 on.

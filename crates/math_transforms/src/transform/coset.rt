@@ -5,6 +5,7 @@
 //! both, so that no row changes its place.
 
 ghost use Rattle.std.specs.Prelude.{◌≡◌, ◌+◌, ◌*◌, ◌<◌, ◌≤◌, ◌^◌, IsOk, IsTrue, OnOk, length};
+ghost use Rattle.math_transforms.specs.Domains.{IsDomain};
 ghost use Rattle.math_transforms.specs.CosetValues.{AreMovedValues};
 ghost use Rattle.math_transforms.specs.CountedWork.{AddsAllOrSome};
 ghost use Rattle.math_transforms.specs.RootTrees.{IsTreeOf};
@@ -29,8 +30,7 @@ pub fn move_rows<F: FieldNTT>(
     coset: &[F],
     work: &mut Work,
 ) -> Mem<()>
-    requires domain { lg ≤ F.MAX_LG_ROOT_ORDER }
-    requires small { lg < 64 }
+    requires domain { IsDomain F.MAX_LG_ROOT_ORDER lg }
     requires some { 0 < lg }
     requires size { length cells.old ≡ 2 ^ lg * cols }
     requires interpolation { IsTreeOf F.Ring

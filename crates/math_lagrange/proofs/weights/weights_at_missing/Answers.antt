@@ -11,7 +11,7 @@ use Rattle.math_lagrange.proofs.RootWeightCases.{places-count, places-inside, ga
 use Rattle.math_lagrange.proofs.weights.weights_at_missing.Goals as goal
 
 pub vanishing-requires-clause-domain : goal.vanishing-requires-clause-domain
-vanishing-requires-clause-domain g c = domain-of _ _ c.args.lg (ap length c.set_non_vanishing.ensures ∙ length-set c.args.present c.args.m true ∙ c.requires.size) c.requires.domain
+vanishing-requires-clause-domain g c = domain-of _ _ c.args.lg (ap length c.set_non_vanishing.ensures ∙ length-set c.args.present c.args.m true ∙ c.requires.size) c.requires.domain.0
 
 pub vanishing-requires-clause-some : goal.vanishing-requires-clause-some
 vanishing-requires-clause-some g c = rw c.set_non_vanishing.ensures (some-set c.args.present c.args.m (omega (arith, c.requires.inside, c.requires.size)))
@@ -69,7 +69,7 @@ returns g c =
     subst (λ (is : List ℕ). AreWeightsAt g.F.Object.same zero g.F.Additive.sum g.F.Multiplicative.product g.F.Ring.one x
     (map (power g.F.Ring.one g.F.Multiplicative.product w) is) c.in_ok-out.out.items)
     (sym c.requires.places)
-    (Carried.weights_at_missing E G P F.Ring.ring I lg w filled h (F.FieldNTT.roots.order lg c.requires.domain) m inside
+    (Carried.weights_at_missing E G P F.Ring.ring I lg w filled h (F.FieldNTT.roots.order lg c.requires.domain.0) m inside
     (missing-false filled places c.requires.places Q E w x points m c.requires.points c.requires.outside inside c.requires.missing)
     c.in_ok-column.field-0-0 column V x c.in_ok-factor.factor points vs c.in_ok-out.out.items c.requires.missing factor (c.in_ok-out.ensures.count ∙ multiples)
     (λ k l s. c.requires.outside k zero (omega (arith, l, c.requires.points.count, count)) (E.transitive _ _ _ (point k l) s))

@@ -11,7 +11,7 @@ use Rattle.math_lagrange.proofs.RootWeightCases.{places-count, places-inside, ga
 use Rattle.math_lagrange.proofs.weights.weights_outside.Goals as goal
 
 pub vanishing-requires-clause-domain : goal.vanishing-requires-clause-domain
-vanishing-requires-clause-domain g c = domain-of _ _ c.args.lg c.requires.size c.requires.domain
+vanishing-requires-clause-domain g c = domain-of _ _ c.args.lg c.requires.size c.requires.domain.0
 
 pub vanishing-requires-clause-some : goal.vanishing-requires-clause-some
 vanishing-requires-clause-some g c = omega (arith, c.requires.some, places-count c.args.present.now c.args.places.now c.requires.places)
@@ -22,7 +22,7 @@ copies_at-requires g c =
     (ap length c.values.ensures ∙ (c.in_ok-column.ensures.vanishing c.args.lg c.requires.size).lengths)
 
 pub value_at-requires : goal.value_at-requires
-value_at-requires g c = domain-of _ _ c.args.lg ((c.in_ok-column.ensures.vanishing c.args.lg c.requires.size).lengths ∙ c.requires.size) c.requires.domain
+value_at-requires g c = domain-of _ _ c.args.lg ((c.in_ok-column.ensures.vanishing c.args.lg c.requires.size).lengths ∙ c.requires.size) c.requires.domain.0
 
 pub returns : goal.returns
 returns g c =
@@ -50,7 +50,7 @@ returns g c =
     let points = c.args.points.now in
     let x = c.args.x.now in
     let h = c.requires.size in
-    let o = F.FieldNTT.roots.order lg c.requires.domain in
+    let o = F.FieldNTT.roots.order lg c.requires.domain.0 in
     let V = c.in_ok-column.ensures.vanishing lg h in
     let at_zero = c.in_ok-column.field-0-0 in
     let column = c.in_ok-column.column in

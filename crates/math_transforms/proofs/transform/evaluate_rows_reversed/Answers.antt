@@ -8,12 +8,12 @@ pub evaluate_below-requires-clause-points : goal.evaluate_below-requires-clause-
 evaluate_below-requires-clause-points g c =
     let R = ring_members g.F.Multiplicative.product g.F.Debug.debug_output g.F.Object.same g.F.Object.NEVER_REFUSES g.F.Additive.zero g.F.Additive.sum g.F.Additive.negative g.F.Ring.one in
     let F = g.met.F in
-    all-points R F.Object.equality F.Additive.group F.Multiplicative.commutes F.Ring.ring g.F.FieldNTT.root g.F.Ring.one _ _ refl c.requires.domain c.requires.small
-    (λ l within. F.FieldNTT.roots.square l (omega (arith, within, c.requires.domain))) c.requires.table
+    all-points R F.Object.equality F.Additive.group F.Multiplicative.commutes F.Ring.ring g.F.FieldNTT.root g.F.Ring.one _ _ refl c.requires.domain.0 c.requires.domain.1
+    (λ l within. F.FieldNTT.roots.square l (omega (arith, within, c.requires.domain.0))) c.requires.table
 
 pub returns-clause-values : goal.returns-clause-values
 returns-clause-values g c =
     let R = ring_members g.F.Multiplicative.product g.F.Debug.debug_output g.F.Object.same g.F.Object.NEVER_REFUSES g.F.Additive.zero g.F.Additive.sum g.F.Additive.negative g.F.Ring.one in
     let F = g.met.F in
     values-reversed R F.Object.equality F.Additive.group F.Multiplicative.commutes F.Ring.ring F.Field.field g.F.FieldNTT.root c.args.lg c.args.cols
-    (F.FieldNTT.roots.order c.args.lg c.requires.domain) c.args.table.now c.args.cells.now c.evaluate_below.new.cells c.requires.table c.in_ok-evaluate_below.ensures.values
+    (F.FieldNTT.roots.order c.args.lg c.requires.domain.0) c.args.table.now c.args.cells.now c.evaluate_below.new.cells c.requires.table c.in_ok-evaluate_below.ensures.values

@@ -7,16 +7,16 @@ use Rattle.math_transforms.proofs.TreeCounts.{merges-room, points-room}
 use Rattle.math_transforms.proofs.vanishing.vanishing_coefficients.Goals as goal
 
 pub tree-requires-clause-room : goal.tree-requires-clause-room
-tree-requires-clause-room g c = omega (arith, merges-room c.args.lg c.requires.small)
+tree-requires-clause-room g c = omega (arith, merges-room c.args.lg c.requires.domain.1)
 
 pub tree-requires-clause-product_room : goal.tree-requires-clause-product_room
-tree-requires-clause-product_room g c = omega (arith, points-room c.args.lg c.requires.small)
+tree-requires-clause-product_room g c = omega (arith, points-room c.args.lg c.requires.domain.1)
 
 pub tree-requires-clause-spaced : goal.tree-requires-clause-spaced
-tree-requires-clause-spaced g c = record { start = omega arith; covers = omega (arith, c.requires.points); fits = omega (arith, c.requires.points, power_of_two-word c.args.lg c.requires.small) }
+tree-requires-clause-spaced g c = record { start = omega arith; covers = omega (arith, c.requires.points); fits = omega (arith, c.requires.points, power_of_two-word c.args.lg c.requires.domain.1) }
 
 pub tree-requires-clause-trees : goal.tree-requires-clause-trees
-tree-requires-clause-trees g c = record { domain = c.requires.domain; small = c.requires.small; evaluation = c.requires.evaluation; interpolation = c.requires.interpolation }
+tree-requires-clause-trees g c = record { domain = c.requires.domain.0; small = c.requires.domain.1; evaluation = c.requires.evaluation; interpolation = c.requires.interpolation }
 
 pub unreachable-requires : goal.unreachable-requires
 unreachable-requires g c = grind (arith, every-whole)

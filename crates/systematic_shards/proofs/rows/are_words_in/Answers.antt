@@ -27,6 +27,6 @@ returns-then-are_free_of c = (
 
 pub returns : goal.returns
 returns c = (
-  λ yes k l. (omega (arith, c.type_inv.words k), λ of_data. absurd (omega (arith, of_data, c.if-index-code.false)), λ _. c.are_below_modulus.ensures.0 yes k 0 l),
-  λ elements. c.are_below_modulus.ensures.1 (All-from_get_or (λ word. word < P) c.args.words.now 0 (λ k l. (elements k l).2 c.if-index-code.false)),
+  λ yes k l. (omega (arith, c.type_inv.words k), λ of_data. absurd (omega (arith, of_data, c.if-index-code.false)), λ _. c.are_elements.ensures.0 yes k 0 l),
+  λ elements. c.are_elements.ensures.1 (All-from_get_or (λ word. word < P) c.args.words.now 0 (λ k l. (elements k l).2 c.if-index-code.false)),
 )

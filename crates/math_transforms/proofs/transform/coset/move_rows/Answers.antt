@@ -10,21 +10,21 @@ pub interpolate_below-requires-clause-points : goal.interpolate_below-requires-c
 interpolate_below-requires-clause-points g c =
     let R = ring_members g.F.Multiplicative.product g.F.Debug.debug_output g.F.Object.same g.F.Object.NEVER_REFUSES g.F.Additive.zero g.F.Additive.sum g.F.Additive.negative g.F.Ring.one in
     let F = g.met.F in
-    all-points R F.Object.equality F.Additive.group F.Multiplicative.commutes F.Ring.ring (λ l. g.F.Field.inverse (g.F.FieldNTT.root l)) g.F.Ring.one _ _ refl c.requires.domain c.requires.small
-    (inverse-tree_squares F.Object.equality F.Additive.group F.Multiplicative.commutes F.Ring.ring F.Field.field F.FieldNTT.roots c.args.lg c.requires.domain) c.requires.interpolation
+    all-points R F.Object.equality F.Additive.group F.Multiplicative.commutes F.Ring.ring (λ l. g.F.Field.inverse (g.F.FieldNTT.root l)) g.F.Ring.one _ _ refl c.requires.domain.0 c.requires.domain.1
+    (inverse-tree_squares F.Object.equality F.Additive.group F.Multiplicative.commutes F.Ring.ring F.Field.field F.FieldNTT.roots c.args.lg c.requires.domain.0) c.requires.interpolation
 
 pub evaluate_below-requires-clause-points : goal.evaluate_below-requires-clause-points
 evaluate_below-requires-clause-points g c =
     let R = ring_members g.F.Multiplicative.product g.F.Debug.debug_output g.F.Object.same g.F.Object.NEVER_REFUSES g.F.Additive.zero g.F.Additive.sum g.F.Additive.negative g.F.Ring.one in
     let F = g.met.F in
-    all-points R F.Object.equality F.Additive.group F.Multiplicative.commutes F.Ring.ring g.F.FieldNTT.root g.F.FieldNTT.shift _ _ refl c.requires.domain c.requires.small
-    (λ l within. F.FieldNTT.roots.square l (omega (arith, within, c.requires.domain))) c.requires.coset
+    all-points R F.Object.equality F.Additive.group F.Multiplicative.commutes F.Ring.ring g.F.FieldNTT.root g.F.FieldNTT.shift _ _ refl c.requires.domain.0 c.requires.domain.1
+    (λ l within. F.FieldNTT.roots.square l (omega (arith, within, c.requires.domain.0))) c.requires.coset
 
 pub returns-clause-moved : goal.returns-clause-moved
 returns-clause-moved g c =
     let R = ring_members g.F.Multiplicative.product g.F.Debug.debug_output g.F.Object.same g.F.Object.NEVER_REFUSES g.F.Additive.zero g.F.Additive.sum g.F.Additive.negative g.F.Ring.one in
     let F = g.met.F in
-    let order = F.FieldNTT.roots.order c.args.lg c.requires.domain in
+    let order = F.FieldNTT.roots.order c.args.lg c.requires.domain.0 in
     let unit = root-inverse F.Object.equality F.Additive.group F.Multiplicative.commutes F.Ring.ring F.Field.field _ _ order in
     values-moved R F.Object.equality F.Additive.group F.Multiplicative.commutes F.Ring.ring F.Field.field g.F.FieldNTT.root (λ l. g.F.Field.inverse (g.F.FieldNTT.root l))
     g.F.FieldNTT.shift (g.F.FieldNTT.half g.F.Ring.one) c.args.lg c.args.cols c.args.interpolation.now c.args.coset.now c.args.cells.now c.interpolate_below.new.cells
