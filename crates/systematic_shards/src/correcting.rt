@@ -96,8 +96,7 @@ pub fn rebuild_corrected<M: WordMemory>(
     let Some(cells) = corrected_cells(alloc, rows, code)? else {
         return Ok(None);
     };
-    let positions = unlike_rows(alloc, rows, &cells, code)?;
-    write_rows(&cells, wanted, code, out);
+    let positions = write_corrected(alloc, rows, wanted, &cells, code, out)?;
     Ok(Some(positions))
 }
 
@@ -303,4 +302,31 @@ fn write_rows<M: WordMemory>(cells: &[F], wanted: &[u32], code: Code, out: &mut 
     for t in 0..wanted.len() {
         write_row(cells, wanted[t], t, code, out);
     }
+}
+
+/// Writes the rows of the wanted indices among the cells over `out`, row after row, and says which
+/// rows in hand are not those of their indices. If memory is refused, it writes nothing.
+fn write_corrected<M: WordMemory>(
+    alloc: Global,
+    rows: &[Row<'_, M>],
+    wanted: &[u32],
+    cells: &[F],
+    code: Code,
+    out: &mut [M],
+) -> Mem<Vec<usize>>
+    requires below { All (λ row. row.index < code.split.total) rows.now }
+    requires wanted { All (λ i. i < code.split.total) wanted.now }
+    requires count { code.split.total * code.split.width ≤ length cells.now }
+    requires room { M.BYTES * length out.old ≡ length wanted.now * (8 * code.split.width) }
+    requires size { M.BYTES * length out.old < 2 ^ 64 }
+    ensures ok { IfOk result (λ positions. ArePositionsWithout (λ row. IsRowOf code.split code.mask
+        (cells_at code.split.width cells.now) row.index (M.word row.cells.now))
+        rows.now positions.items) }
+    ensures rows { OnOk result (AreRowsAt code.split code.mask
+        (cells_at code.split.width cells.now) wanted.now (M.word out.new)) }
+    ensures err { OnErr result (out.new ≡ out.old) }
+{
+    let positions = unlike_rows(alloc, rows, cells, code)?;
+    write_rows(cells, wanted, code, out);
+    Ok(positions)
 }

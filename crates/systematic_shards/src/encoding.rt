@@ -7,9 +7,9 @@
 //! a at 1 and b at i of a polynomial of two coefficients, and the value at -1 is (1 + i) b - i a.
 //! So the parity row has the words of 2^16 - 2^51 - 2 and 2^32 - 7 2^48.
 
-ghost use Rattle.std.specs.Prelude.{◌≡◌, ◌-◌, ◌*◌, ◌≤◌, length, IfOk, OnErr};
+ghost use Rattle.std.specs.Prelude.{◌≡◌, ◌-◌, ◌*◌, ◌<◌, ◌≤◌, ◌^◌, ℕ, length, IfOk, OnErr, OnOk};
 ghost use Rattle.std.specs.List.{range_with_len};
-ghost use Rattle.systematic_shards.specs.Masks.{IsLeastMask};
+ghost use Rattle.systematic_shards.specs.Masks.{IsFree, IsLeastMask};
 ghost use Rattle.systematic_shards.specs.Shards.{AreBlockRows, AreShards};
 
 use crate::filling::write_targets;
@@ -60,6 +60,28 @@ fn places_below(alloc: Global, count: usize) -> Mem<Vec<usize>>
     Ok(places)
 }
 
+/// Writes the parity rows of a block of these words over `parity`, row after row, under a mask that
+/// is free of each word. If memory is refused, it writes nothing.
+fn write_parity<M: WordMemory>(alloc: Global, code: Code, block: &[M], parity: &mut [M]) -> Mem<()>
+    requires room { M.BYTES * length parity.old
+        ≡ (code.split.total - code.split.min) * (8 * code.split.width) }
+    requires free { IsFree (code.split.min * code.split.width) (M.word block.now) code.mask }
+    requires fit { (k : ℕ) → k < code.split.min * code.split.width → M.word block.now k < 2 ^ 64 }
+    ensures ok { OnOk result
+        (AreShards code.split code.mask (M.word block.now) (M.word parity.new)) }
+    ensures err { OnErr result (parity.new ≡ parity.old) }
+{
+    let split = code.split;
+    let rows = block_rows(alloc, block, split)?;
+    let first = indices_between(alloc, 0, split.min)?;
+    let targets = indices_between(alloc, split.min, split.total)?;
+    let places = places_below(alloc, targets.len())?;
+    let maker = RowMaker::new(alloc, &rows, &first, &targets, code)?;
+    let mut room = maker.interpolation.room(alloc)?;
+    write_targets(&maker, &places, &mut room, parity);
+    Ok(())
+}
+
 /// Finds the mask of a block, and writes its parity rows, those of the indices from `min` to
 /// `total` - 1, over `parity`, row after row.
 ///
@@ -91,12 +113,6 @@ pub fn encode<M: WordMemory>(alloc: Global, split: Split, block: &[M], parity: &
     ensures err { OnErr result (parity.new ≡ parity.old) }
 {
     let mask = least_mask(alloc, block, split.min as usize * split.width)?;
-    let rows = block_rows(alloc, block, split)?;
-    let first = indices_between(alloc, 0, split.min)?;
-    let targets = indices_between(alloc, split.min, split.total)?;
-    let places = places_below(alloc, targets.len())?;
-    let maker = RowMaker::new(alloc, &rows, &first, &targets, Code { split, mask })?;
-    let mut room = maker.interpolation.room(alloc)?;
-    write_targets(&maker, &places, &mut room, parity);
+    write_parity(alloc, Code { split, mask }, block, parity)?;
     Ok(mask)
 }

@@ -31,7 +31,7 @@ returns-clause-some g c =
         near = near.near;
         left_out =
             subst (λ cells. ArePositionsWithout (λ row. IsRowOf split mask (cells_at split.width cells) row.index (word row.cells.now)) rows c.in_ok-positions.positions.items) c.deref.ensures.value
-            c.in_ok-positions.ensures;
+            c.in_ok-positions.ensures.ok;
       },
-      subst (λ cells. AreRowsAt split mask (cells_at split.width cells) c.args.wanted.now (word c.write_rows.new.out)) c.deref-2.ensures.value c.write_rows.ensures,
+      subst (λ cells. AreRowsAt split mask (cells_at split.width cells) c.args.wanted.now (word c.write_corrected.new.out)) c.deref.ensures.value c.in_ok-positions.ensures.rows,
     )
