@@ -1,7 +1,7 @@
 //! Whether vectors are worth their while on the processors that a build is for.
 //!
 //! Its one function has no clause. So whoever calls it is proved for both answers, and a build for
-//! processors with wide vectors may be linked with a crate that answers the other one.
+//! processors with wide vectors may be given the other one.
 #![tactic(auto)]
 
 /// Returns whether the processors that this is built for have vectors that are wide enough to be
