@@ -1,6 +1,7 @@
 /* 3,000 random splits and joins, of words and of bytes, of 1 to 80 shards. Each join has to give the data back: else the status is not 0,
  * and a line says of which. What is printed is a sum of all shards, the same for each level of processor. */
 #include "commonware_math.h"
+#include "random.h"
 
 #include <stdio.h>
 #include <stdlib.h>
@@ -9,15 +10,7 @@
 /* Shards of up to WIDTH words have columns that fill eight, and some that do not. */
 enum { CALLS = 3000, MOST = 80, WIDTH = 70, FEW = 10 };
 
-static uint64_t state, shards_sum = UINT64_C(0xcbf29ce484222325);
-
-static uint64_t next(void) {
-  uint64_t x = state += 0x9e3779b97f4a7c15;
-  x = (x ^ x >> 30) * 0xbf58476d1ce4e5b9;
-  x = (x ^ x >> 27) * 0x94d049bb133111eb;
-  return x ^ x >> 31;
-}
-static uint32_t below(uint32_t n) { return (uint32_t)(next() % n); }
+static uint64_t shards_sum = UINT64_C(0xcbf29ce484222325);
 
 /* Words of which some are at the ends of what an element can be. */
 static uint64_t some_word(void) {

@@ -2,6 +2,7 @@
  * can't be written, and each buffer ends where memory begins that can't be touched, or begins where such memory ends. Its status is 0
  * where all are the same, and else it says which call is not. A number in front of others: so many calls; a second one: others. */
 #include "commonware_math.h"
+#include "random.h"
 
 #include <stdio.h>
 #include <stdlib.h>
@@ -17,15 +18,6 @@ int mprotect(void *at, size_t n, int protection);
 /* Most calls have rows of FEW words or less, and some of up to WIDTH. */
 enum { MOST = 12, FEW = 3, WIDTH = 66, WORDS = MOST * WIDTH, ROWS = 16, BYTES = 8 * WIDTH };
 
-static uint64_t state;
-
-static uint64_t next(void) {
-  uint64_t x = state += 0x9e3779b97f4a7c15;
-  x = (x ^ x >> 30) * 0xbf58476d1ce4e5b9;
-  x = (x ^ x >> 27) * 0x94d049bb133111eb;
-  return x ^ x >> 31;
-}
-static uint32_t below(uint32_t n) { return (uint32_t)(next() % n); }
 static int one_in(uint32_t n) { return below(n) == 0; }
 
 /* The field: whole numbers below P. 2^64 is 2^32 - 1 more than P. */
