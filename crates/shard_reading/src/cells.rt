@@ -1,6 +1,6 @@
 //! Blocks of the file from shards of cells, which version 2 has.
 
-ghost use Rattle.std.specs.Prelude.{◌≡◌, All, length, IfOk, OnOk, IfSome};
+ghost use Rattle.std.specs.Prelude.{◌≡◌, All, length, IfOk, IfSome};
 ghost use Rattle.shard_reading.specs.Shards.{IsOfSplit};
 
 use crate::blocks::Look;
@@ -47,7 +47,8 @@ impl CellReader {
     ) -> Result<Vec<u8>, Fault>
         ensures { IfOk result (λ bytes. length bytes.items ≡ block.bytes) }
     {
-        block_in(rt, &self.split, files, block, look, &mut self.room)
+        let mut found = FoundShards::new(rt.alloc(), &self.split);
+        block_in(rt, files, block, look, &mut self.room, &mut found)
     }
 
     /// Looks at all shards of a block, as `BlockReader::check` does.
@@ -204,6 +205,7 @@ fn sound_shard(
 /// The shards of a block that were found so far.
 #[derive(Drop)]
 struct FoundShards {
+    split: Split,
     /// By rising index, each index once.
     shards: Vec<Shard>,
     /// At which of the files each of them is.
@@ -212,31 +214,51 @@ struct FoundShards {
     looked_at: usize,
     /// How many shards are wanted.
     wanted: usize,
+    ghost of: { All (IsOfSplit split.header) shards.items },
+}
+
+impl FoundShards {
+    /// None yet, where as many are wanted as give a block of the split.
+    fn new(alloc: Global, split: &Split) -> FoundShards {
+        FoundShards {
+            split: *split,
+            shards: Vec::new(alloc),
+            places: Vec::new(alloc),
+            looked_at: 0,
+            wanted: split.header.min as usize,
+        }
+    }
+
+    /// Adds the shard that the file at this place has, unless its index is there already.
+    fn add(&mut self, shard: Shard, place: usize) -> Result<(), AllocError>
+        requires { IsOfSplit self.old.split.header shard }
+        ensures { self.new.split ≡ self.old.split }
+    {
+        if !is_there(&self.shards, shard.index) {
+            self.shards.push(shard)?;
+            self.places.push(place)?;
+        }
+        Ok(())
+    }
 }
 
 /// Looks for shards of a block in the files that were not looked at yet, until as many are found as
 /// are wanted. What is wrong with others is noted.
 fn find_shards(
     rt: &HostRuntime,
-    split: &Split,
     files: &mut [ShardFile],
     block: Block,
     room: &mut RecordRoom,
     found: &mut FoundShards,
-) -> Result<(), Fault>
-    requires { All (IsOfSplit split.now.header) found.old.shards.items }
-    ensures { OnOk result (All (IsOfSplit split.now.header) found.new.shards.items) }
-{
+) -> Result<(), Fault> {
+    let split = found.split;
     for place in found.looked_at..files.len() {
         if found.shards.len() >= found.wanted {
             return Ok(());
         }
         found.looked_at = place + 1;
-        if let Some(shard) = sound_shard(rt, split, &mut files[place], block, room)? {
-            if !is_there(&found.shards, shard.index) {
-                found.shards.push(shard)?;
-                found.places.push(place)?;
-            }
+        if let Some(shard) = sound_shard(rt, &split, &mut files[place], block, room)? {
+            found.add(shard, place)?;
         }
     }
     Ok(())
@@ -247,17 +269,15 @@ fn is_there(shards: &[Shard], index: u32) -> bool {
     matches!(shards.last(), Some(shard) if shard.index == index)
 }
 
-/// The bytes of a block that these shards of a split give, where they give so many.
+/// The bytes of a block that these shards give, where they give so many.
 fn bytes_given(
     alloc: Global,
-    _split: &Split,
-    shards: &[Shard],
+    found: &FoundShards,
     bytes: u32,
 ) -> Result<Option<Vec<u8>>, AllocError>
-    requires { All (IsOfSplit _split.now.header) shards.now }
     ensures { IfOk result (λ answer. IfSome answer (λ block. length block.items ≡ bytes)) }
 {
-    match join_block(alloc, shards) {
+    match join_block(alloc, &found.shards) {
         Ok(block) if block.len() == bytes as usize => Ok(Some(block)),
         Err(Error::Memory(error)) => Err(error),
         _ => Ok(None),
@@ -267,12 +287,10 @@ fn bytes_given(
 /// The bytes of a block that all shards but a few give. Those few are noted at their files.
 fn corrected_bytes(
     alloc: Global,
-    _split: &Split,
     files: &mut [ShardFile],
     block: Block,
     found: &FoundShards,
 ) -> Result<Vec<u8>, Fault>
-    requires { All (IsOfSplit _split.now.header) found.now.shards.items }
     ensures { IfOk result (λ bytes. length bytes.items ≡ block.bytes) }
 {
     let JoinedBlock { bytes, left_out } = match join_block_corrected(alloc, &found.shards) {
@@ -302,32 +320,39 @@ fn note_at(files: &mut [ShardFile], places: &[usize], position: usize, number: u
 /// The bytes of a block of the split, as `BlockReader::block` gives them.
 fn block_in(
     rt: &HostRuntime,
-    split: &Split,
     files: &mut [ShardFile],
     block: Block,
     look: Look,
     room: &mut RecordRoom,
+    found: &mut FoundShards,
 ) -> Result<Vec<u8>, Fault>
     ensures { IfOk result (λ bytes. length bytes.items ≡ block.bytes) }
 {
-    let mut found = FoundShards {
-        shards: Vec::new(rt.alloc()),
-        places: Vec::new(rt.alloc()),
-        looked_at: 0,
-        wanted: split.header.min as usize,
-    };
     if look != Look::Compared {
-        find_shards(rt, split, files, block, room, &mut found)?;
-        if let Some(bytes) = bytes_given(rt.alloc(), split, &found.shards, block.bytes)? {
+        find_shards(rt, files, block, room, found)?;
+        if let Some(bytes) = bytes_given(rt.alloc(), found, block.bytes)? {
             if look == Look::Each {
-                for file in files.iter_mut().skip(found.looked_at) {
-                    sound_index(rt, split, file, block, room)?;
-                }
+                look_at_others(rt, files, block, room, found)?;
             }
             return Ok(bytes);
         }
     }
     found.wanted = usize::MAX;
-    find_shards(rt, split, files, block, room, &mut found)?;
-    corrected_bytes(rt.alloc(), split, files, block, &found)
+    find_shards(rt, files, block, room, found)?;
+    corrected_bytes(rt.alloc(), files, block, found)
+}
+
+/// Looks at the shards of a block in the files that were not looked at yet, and notes what is wrong
+/// with them.
+fn look_at_others(
+    rt: &HostRuntime,
+    files: &mut [ShardFile],
+    block: Block,
+    room: &mut RecordRoom,
+    found: &FoundShards,
+) -> Result<(), Fault> {
+    for file in files.iter_mut().skip(found.looked_at) {
+        sound_index(rt, &found.split, file, block, room)?;
+    }
+    Ok(())
 }

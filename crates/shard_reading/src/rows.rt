@@ -114,20 +114,12 @@ impl RowReader {
         block: Block,
     ) -> Result<(), Fault> {
         let root = self.begin(rt, files, block)?;
-        let mut indices = Vec::new(rt.alloc());
-        let mut masks = Masks::new();
-        for (place, file) in files.iter_mut().enumerate() {
-            if let Some(row) = self.used.row(rt, file, place, block)? {
-                indices.push(row.index)?;
-                masks.add(row.mask);
-            }
-        }
+        let (count, have_one_mask) = self.count_rows(rt, files, block)?;
         self.note_paths(files, block, root);
-        let (min, total) = (self.split.header.min, self.split.header.total);
-        if count_distinct(rt.alloc(), total, &indices)? < min as usize {
+        if count < self.split.header.min as usize {
             return Err(Fault::Block(block.number, Error::TooFew));
         }
-        if masks.are_one {
+        if have_one_mask {
             return Ok(());
         }
         if self.used.is_under_root() {
@@ -137,6 +129,25 @@ impl RowReader {
         self.used.forget_paths();
         self.correct_block(rt.alloc(), files, block)?;
         Ok(())
+    }
+
+    /// How many rows of a block are used, each index counted once, and whether all have one mask.
+    fn count_rows(
+        &mut self,
+        rt: &HostRuntime,
+        files: &mut [ShardFile],
+        block: Block,
+    ) -> Result<(usize, bool), Fault> {
+        let mut indices = Vec::new(rt.alloc());
+        let mut masks = Masks::new();
+        for (place, file) in files.iter_mut().enumerate() {
+            if let Some(row) = self.used.row(rt, file, place, block)? {
+                indices.push(row.index)?;
+                masks.add(row.mask);
+            }
+        }
+        let count = count_distinct(rt.alloc(), self.split.header.total, &indices)?;
+        Ok((count, masks.are_one))
     }
 
     /// The bytes of the record of a block that the file has, and of its path, as they stand there,

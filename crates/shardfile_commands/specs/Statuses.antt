@@ -2,6 +2,7 @@
 use Rattle.std.specs.Prelude.{ℕ}
 use Rattle.shard_files.specs.declared.fault.Fault.{Fault}
 use Rattle.shard_files.specs.declared.fault.Fault.TheVariants as faults
+use Rattle.shardfile_commands.specs.declared.refusal.Reason.TheVariants as reasons
 use Rattle.shardfile_commands.specs.declared.refusal.Refusal.{Refusal}
 use Rattle.shardfile_commands.specs.declared.refusal.Refusal.TheVariants as refusals
 use Rattle.shardfile_commands.specs.declared.status.Status.{Status}
@@ -31,10 +32,10 @@ judged_files _ = Unknown
 -- wrong usage, and one for all else
 abbrev pub judged : Refusal → Status
 judged (refusals.Usage _) = Usage
-judged (refusals.Unsound _) = Refused
-judged (refusals.Stays _) = Refused
-judged (refusals.Strays _) = Refused
-judged (refusals.Lost _) = Lost
+judged (refusals.Named _ reasons.Unsound) = Refused
+judged (refusals.Named _ reasons.Stays) = Refused
+judged (refusals.Named _ reasons.Strays) = Refused
+judged (refusals.Named _ reasons.Lost) = Lost
 judged (refusals.Files fault) = judged_files fault
 judged _ = Unknown
 

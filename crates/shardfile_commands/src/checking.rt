@@ -1,12 +1,13 @@
 //! Whether shard files fit.
 
-ghost use Rattle.std.specs.Prelude.{◌≡◌, ◌↔◌, None, false, IsTrue, IfSome};
+ghost use Rattle.std.specs.Prelude.{◌≡◌, ◌↔◌, false, IsOk, IsTrue, IfErr};
 ghost use Rattle.shardfile_commands.specs.Statuses.{judged};
 ghost use Rattle.shardfile_commands.specs.declared.status.Status.TheVariants.{Lost};
 
 use crate::listing::{list, list_unsound};
+use crate::print;
 use crate::progress::Progress;
-use crate::refusal::Refusal;
+use crate::refusal::{Reason, Refusal};
 use hash_trees::Digest;
 use partial_files::fault::copy_of;
 use shard_files::fault::Fault;
@@ -42,13 +43,6 @@ impl Findings {
         }
         Ok(())
     }
-}
-
-/// What a check says on standard output, and why it refuses then, where not all fits.
-#[derive(Drop)]
-pub struct Checked {
-    pub text: String,
-    pub refusal: Option<Refusal>,
 }
 
 /// Looks at all shards of each block, notes what is wrong, and which blocks have too few that fit
@@ -115,14 +109,14 @@ fn reason_of(alloc: Global, fault: &Fault) -> Result<String, AllocError> {
     copy_of(alloc, reason.unwrap_or(text.as_str()))
 }
 
-/// A line for each shard of the split and each other file that is meant, and one for what they
-/// give; and why it is refused, where not all shards are there and fit.
+/// Prints a line for each shard of the split and each other file that is meant, and one for what
+/// they give. Then it refuses, where not all shards are there and fit.
 pub fn check(
     rt: &HostRuntime,
     wanted: &WantedFiles,
     root: Option<Digest>,
     compares_all: bool,
-) -> Result<Checked, Fault> {
+) -> Result<(), Refusal> {
     let mut files = Vec::new(rt.alloc());
     let reading = Reading {
         root,
@@ -132,14 +126,12 @@ pub fn check(
     };
     match gather_split(rt, wanted, &reading, &mut files) {
         Ok((split, tree)) => check_split(rt, wanted, &split, tree, &mut files, compares_all),
-        Err(fault) if is_of_headers(&fault) => {
-            let text = lines_of_faults(rt.alloc(), &files, &fault)?;
-            Ok(Checked {
-                text,
-                refusal: Some(Refusal::Files(fault)),
-            })
+        Err(fault) => {
+            if is_of_headers(&fault) {
+                print_headers(rt, &files, &fault)?;
+            }
+            Err(Refusal::Files(fault))
         }
-        Err(fault) => Err(fault),
     }
 }
 
@@ -160,16 +152,19 @@ fn is_of_headers(fault: &Fault) -> bool {
     }
 }
 
-/// A line for each of the files with which something is wrong, and one for the fault of all.
-fn lines_of_faults(
-    alloc: Global,
-    files: &[ShardFile],
-    fault: &Fault,
-) -> Result<String, AllocError> {
-    let mut text = String::new(alloc);
-    list_unsound(alloc, files, &mut text)?;
-    writeln!(text, "cannot be restored: {}", reason_of(alloc, fault)?)?;
-    Ok(text)
+/// Prints a line for each of the files with which something is wrong, and one for this fault of
+/// all.
+fn print_headers(rt: &HostRuntime, files: &[ShardFile], fault: &Fault) -> Result<(), Refusal> {
+    let mut text = String::new(rt.alloc());
+    list_unsound(rt.alloc(), files, &mut text)?;
+    add_lost_line(rt.alloc(), fault, &mut text)?;
+    print(rt, text.as_str())
+}
+
+/// Adds the line that says for what reason the file cannot be restored.
+fn add_lost_line(alloc: Global, fault: &Fault, text: &mut String) -> Result<(), AllocError> {
+    let reason = reason_of(alloc, fault)?;
+    writeln!(text, "cannot be restored: {reason}")
 }
 
 /// As `check`, of the files of a split.
@@ -180,28 +175,41 @@ fn check_split(
     tree: Option<BlockTree>,
     files: &mut [ShardFile],
     compares_all: bool,
-) -> Result<Checked, Fault> {
+) -> Result<(), Refusal> {
     let findings = try_blocks(rt, split, tree, files, compares_all)?;
-    let mut text = String::new(rt.alloc());
-    list(rt.alloc(), wanted, split.header.total, files, &mut text)?;
-    let is_restored = write_findings(rt.alloc(), wanted, split, files, &findings, &mut text)?;
-    let is_whole = count_there(files) == split.header.total as usize
-        && files.iter().all(|shard| shard.is_sound());
-    let refusal = refusal_of(copy_of(rt.alloc(), wanted.label())?, is_restored, is_whole);
-    Ok(Checked { text, refusal })
+    print_split(rt, wanted, split, files, &findings)
 }
 
-/// Why shard files, by this name, are refused that do not give the file, or are not whole.
-fn refusal_of(label: String, is_restored: bool, is_whole: bool) -> Option<Refusal>
-    ensures whole { result ≡ None ↔ (IsTrue is_restored × IsTrue is_whole) }
-    ensures lost { IfSome result (λ refusal. judged refusal ≡ Lost ↔ is_restored ≡ false) }
+/// As `check`, of the files of a split of whose blocks this was found. All memory is taken before
+/// anything is printed.
+fn print_split(
+    rt: &HostRuntime,
+    wanted: &WantedFiles,
+    split: &Split,
+    files: &[ShardFile],
+    findings: &Findings,
+) -> Result<(), Refusal> {
+    let mut text = String::new(rt.alloc());
+    list(rt.alloc(), wanted, split.header.total, files, &mut text)?;
+    let is_restored = write_findings(rt.alloc(), wanted, split, files, findings, &mut text)?;
+    let is_whole = count_there(files) == split.header.total as usize
+        && files.iter().all(|shard| shard.is_sound());
+    let label = copy_of(rt.alloc(), wanted.label())?;
+    print(rt, text.as_str())?;
+    verdict(label, is_restored, is_whole)
+}
+
+/// Refuses shard files, by this name, that do not give the file, or are not whole.
+fn verdict(label: String, is_restored: bool, is_whole: bool) -> Result<(), Refusal>
+    ensures whole { IsOk result ↔ (IsTrue is_restored × IsTrue is_whole) }
+    ensures lost { IfErr result (λ refusal. judged refusal ≡ Lost ↔ is_restored ≡ false) }
 {
     if !is_restored {
-        Some(Refusal::Lost(label))
+        Err(Refusal::Named(label, Reason::Lost))
     } else if !is_whole {
-        Some(Refusal::Unsound(label))
+        Err(Refusal::Named(label, Reason::Unsound))
     } else {
-        None
+        Ok(())
     }
 }
 
@@ -215,6 +223,21 @@ fn write_findings(
     findings: &Findings,
     text: &mut String,
 ) -> Result<bool, AllocError> {
+    write_split(split, findings, text)?;
+    if let Err(fault) = check_count(alloc, wanted, split, files) {
+        add_lost_line(alloc, &fault, text)?;
+        return Ok(false);
+    }
+    if let Some(fault) = &findings.first {
+        write_lost_blocks(alloc, findings.refused, fault, text)?;
+        return Ok(false);
+    }
+    writeln!(text, "can be restored")?;
+    Ok(true)
+}
+
+/// The line that says what the split is, and where not all blocks were looked at another one.
+fn write_split(split: &Split, findings: &Findings, text: &mut String) -> Result<(), AllocError> {
     let (min, total, length) = (split.header.min, split.header.total, split.header.length);
     let blocks = block_count(&split.header);
     writeln!(
@@ -228,19 +251,19 @@ fn write_findings(
             "given up at block {from}, since {without} blocks before it have no shard that fits"
         )?;
     }
-    if let Err(fault) = check_count(alloc, wanted, split, files) {
-        writeln!(text, "cannot be restored: {}", reason_of(alloc, &fault)?)?;
-        return Ok(false);
-    }
-    if let Some(fault) = &findings.first {
-        let refused = findings.refused;
-        writeln!(
-            text,
-            "cannot be restored: {refused} blocks cannot, the first is {}",
-            reason_of(alloc, fault)?
-        )?;
-        return Ok(false);
-    }
-    writeln!(text, "can be restored")?;
-    Ok(true)
+    Ok(())
+}
+
+/// The line that says how many blocks cannot be restored, and why the first of these cannot.
+fn write_lost_blocks(
+    alloc: Global,
+    refused: u64,
+    first: &Fault,
+    text: &mut String,
+) -> Result<(), AllocError> {
+    let reason = reason_of(alloc, first)?;
+    writeln!(
+        text,
+        "cannot be restored: {refused} blocks cannot, the first is {reason}"
+    )
 }

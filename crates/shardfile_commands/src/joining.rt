@@ -4,7 +4,7 @@ ghost use Rattle.std.specs.Prelude.{◌≡◌, ◌+◌, ◌≤◌, length, IfOk,
 
 use crate::listing::print_unsound;
 use crate::progress::Progress;
-use crate::refusal::Refusal;
+use crate::refusal::{Reason, Refusal};
 use hash_trees::Digest;
 use partial_files::fault::{Fault as FileFault, copy_of};
 use partial_files::partial::Manner;
@@ -26,7 +26,7 @@ pub const STANDARD_OUTPUT: &str = "-";
 const MOST_BYTES: u64 = i64::MAX as u64;
 
 /// What is to be joined.
-#[derive(Drop)]
+#[derive(Clone, Copy)]
 pub struct Order<'a> {
     /// The shard files that are there.
     pub wanted: WantedFiles<'a>,
@@ -58,7 +58,7 @@ pub fn join(rt: &HostRuntime, order: &Order) -> Result<(), Refusal> {
     }
     if !holes.is_empty() {
         let label = copy_of(rt.alloc(), order.wanted.label())?;
-        return Err(Refusal::Holes(label));
+        return Err(Refusal::Named(label, Reason::Holes));
     }
     Ok(())
 }
@@ -86,6 +86,34 @@ fn restore_file(
     files: &mut Vec<ShardFile>,
     holes: &mut Vec<(u64, u64)>,
 ) -> Result<(), Fault> {
+    let mut reader = reader_of(rt, order, files)?;
+    restore_from(rt, order, &mut reader, files, holes)
+}
+
+/// Restores the file from the blocks that are read.
+fn restore_from(
+    rt: &HostRuntime,
+    order: &Order,
+    reader: &mut BlockReader,
+    files: &mut [ShardFile],
+    holes: &mut Vec<(u64, u64)>,
+) -> Result<(), Fault> {
+    let mut restored = new_output(rt, order, files, reader.split.header.length)?;
+    match restore_blocks(rt, order, reader, files, &mut restored, holes) {
+        Ok(()) => Ok(restored.finish(rt)?),
+        Err(fault) => {
+            restored.discard(rt);
+            Err(fault)
+        }
+    }
+}
+
+/// What reads the blocks of the split that the files are of. These are added.
+fn reader_of(
+    rt: &HostRuntime,
+    order: &Order,
+    files: &mut Vec<ShardFile>,
+) -> Result<BlockReader, Fault> {
     let reading = Reading {
         root: order.root,
         may_end_before: order.is_partial,
@@ -93,16 +121,9 @@ fn restore_file(
         follows_claim: false,
     };
     let (split, tree) = gather_split(rt, &order.wanted, &reading, files)?;
+    let reader = BlockReader::new(rt.alloc(), &split, tree, false);
     check_split(rt, order, &split, files)?;
-    let mut restored = new_output(rt, order, files, split.header.length)?;
-    let mut reader = BlockReader::new(rt.alloc(), &split, tree, false);
-    match restore_blocks(rt, order, &mut reader, files, &mut restored, holes) {
-        Ok(()) => Ok(restored.finish(rt)?),
-        Err(fault) => {
-            restored.discard(rt);
-            Err(fault)
-        }
-    }
+    Ok(reader)
 }
 
 /// Refuses where the file cannot be restored, or cannot have its name.

@@ -23,12 +23,15 @@ use partial_files::fault::copy_of;
 use refusal::Refusal;
 use shardfile_words::command::{Command, print_usage};
 use shardfile_words::fault::WrongWord;
-use shardfile_words::options::read_options;
+use shardfile_words::options::{Options, read_options};
 use status::Status;
-use std::alloc::Global;
+use std::alloc::{AllocError, Global};
 use std::env::{self, Env};
 use std::io::ErrorKind;
 use std::process::ExitCode;
+
+/// What is wrong with a word that names no command.
+const NO_COMMAND: &str = "no such command";
 
 /// The version of the repository.
 const VERSION: &str = "shardfile 1.0.0";
@@ -96,7 +99,7 @@ fn command_given(rt: &HostRuntime) -> Option<Command> {
 fn run_words(rt: &HostRuntime, command: Option<Command>, level: &str) -> Result<(), Refusal> {
     let words = words_given(rt)?;
     let Some((first, rest)) = words.split_first() else {
-        return Err(Refusal::Usage(WrongWord::NoCommand));
+        return Err(Refusal::Usage(WrongWord::Words("no command is given")));
     };
     match command {
         Some(command) => run_command(rt, command, rest),
@@ -107,16 +110,21 @@ fn run_words(rt: &HostRuntime, command: Option<Command>, level: &str) -> Result<
 /// Does what the command asks for. Options may stand anywhere among the words.
 fn run_command(rt: &HostRuntime, command: Command, words: &[String]) -> Result<(), Refusal> {
     let options = read_options(rt.alloc(), words, command)?;
+    run_order(rt, command, &options)
+}
+
+/// Does what the command asks for with these options.
+fn run_order(rt: &HostRuntime, command: Command, options: &Options) -> Result<(), Refusal> {
     if options.help {
         return print(rt, HELP);
     }
     match command {
-        Command::Split => orders::split(rt, &options),
-        Command::Join => orders::join(rt, &options),
-        Command::Repair => orders::repair(rt, &options),
-        Command::Check => orders::check(rt, &options),
-        Command::Root => orders::root_of(rt, &options),
-        Command::Clean => orders::clean(rt, &options),
+        Command::Split => orders::split(rt, options),
+        Command::Join => orders::join(rt, options),
+        Command::Repair => orders::repair(rt, options),
+        Command::Check => orders::check(rt, options),
+        Command::Root => orders::root_of(rt, options),
+        Command::Clean => orders::clean(rt, options),
     }
 }
 
@@ -127,9 +135,9 @@ fn answer(rt: &HostRuntime, word: &str, rest: &[String], level: &str) -> Result<
         ("--version" | "-V", []) => print_version(rt, level),
         ("help", [name]) => explain(rt, name.as_str()),
         ("help" | "--help" | "-h" | "--version" | "-V", _) => {
-            Err(Refusal::Usage(WrongWord::NoMore(copy_of(rt.alloc(), word)?)))
+            Err(wrong_word(rt.alloc(), word, "more words stand after it than it takes")?)
         }
-        _ => Err(no_command(rt.alloc(), word)?),
+        _ => Err(wrong_word(rt.alloc(), word, NO_COMMAND)?),
     }
 }
 
@@ -140,13 +148,13 @@ fn explain(rt: &HostRuntime, name: &str) -> Result<(), Refusal> {
             print!(rt; "usage: {}", command.usage())?;
             Ok(())
         }
-        None => Err(no_command(rt.alloc(), name)?),
+        None => Err(wrong_word(rt.alloc(), name, NO_COMMAND)?),
     }
 }
 
-/// The refusal of a word that names no command.
-fn no_command(alloc: Global, word: &str) -> Result<Refusal, Refusal> {
-    Ok(Refusal::Usage(WrongWord::Command(copy_of(alloc, word)?)))
+/// The refusal of a word, and what is wrong with it.
+fn wrong_word(alloc: Global, word: &str, why: &'static str) -> Result<Refusal, AllocError> {
+    Ok(Refusal::Usage(WrongWord::Word(copy_of(alloc, word)?, why)))
 }
 
 /// Says on standard error why the work was not done, and where the words are wrong how the program

@@ -1,14 +1,16 @@
 //! What the words of each command order.
 
-use crate::checking::{self, Checked};
 use crate::refusal::Refusal;
-use crate::{cleaning, joining, repairing, rooting, splitting};
+use crate::{checking, cleaning, joining, repairing, rooting, splitting};
 use shardfile_words::fault::WrongWord;
 use shardfile_words::files::{
     file_or_stream, name_and_shards, output_and_shards, shards, wrong_count,
 };
 use shardfile_words::options::{Options, check_options};
 use shardfile_words::values::{number, numbers, root_asked};
+
+/// What is wrong where a stream is joined in part.
+const PARTIAL_STREAM: &str = "-: --partial writes no stream, but a file";
 
 /// `MIN TOTAL FILE`: the shard files of the file, or of standard input.
 pub fn split(rt: &HostRuntime, options: &Options) -> Result<(), Refusal> {
@@ -47,7 +49,7 @@ pub fn join(rt: &HostRuntime, options: &Options) -> Result<(), Refusal> {
     let root = root_asked(rt.alloc(), options)?;
     let (out, wanted) = output_and_shards(rt.alloc(), options)?;
     if options.partial && out == joining::STANDARD_OUTPUT {
-        return Err(Refusal::Usage(WrongWord::PartialStream));
+        return Err(Refusal::Usage(WrongWord::Words(PARTIAL_STREAM)));
     }
     let order = joining::Order {
         wanted,
@@ -86,12 +88,7 @@ pub fn check(rt: &HostRuntime, options: &Options) -> Result<(), Refusal> {
     check_options(options, "check", &["--all", "--shards", "--root"])?;
     let root = root_asked(rt.alloc(), options)?;
     let wanted = shards(rt.alloc(), options)?;
-    let Checked { text, refusal } = checking::check(rt, &wanted, root, options.all)?;
-    print!(rt; "{text}")?;
-    match refusal {
-        Some(refusal) => Err(refusal),
-        None => Ok(()),
-    }
+    checking::check(rt, &wanted, root, options.all)
 }
 
 /// `FILE`, or `SHARD ..`: the roots that the shard files claim.

@@ -16,17 +16,40 @@ pub enum Refusal {
     Usage(WrongWord),
     Words,
     Files(Fault),
-    Busy(String),
+    /// A file, or shard files, and why they are refused.
+    Named(String, Reason),
     NoLock(String, io::Error),
-    Changed(String),
-    Beyond(String),
-    Unsound(String),
-    Lost(String),
-    Stays(String),
-    Strays(String),
-    Holes(String),
     NoNumber(u32, u32),
     Unprinted(String, io::Error),
+}
+
+/// Why a file is refused, or shard files are.
+#[derive(Clone, Copy)]
+pub enum Reason {
+    Busy,
+    Changed,
+    Beyond,
+    Unsound,
+    Lost,
+    Stays,
+    Strays,
+    Holes,
+}
+
+impl Reason {
+    fn text(self) -> &'static str {
+        match self {
+            Reason::Busy => "another run is splitting it",
+            Reason::Changed => "changed while it was read",
+            Reason::Beyond => "has the name of a shard beyond these: move it away first",
+            Reason::Unsound => "not all shards are there and fit",
+            Reason::Lost => "the file cannot be restored",
+            Reason::Stays => "shard files that do not fit stay: repair --force replaces them",
+            Reason::Strays =>
+                "files that do not fit stay, and repair --force replaces none of them",
+            Reason::Holes => "some bytes cannot be restored, and are zeros",
+        }
+    }
 }
 
 impl fmt::Display for Refusal {
@@ -38,34 +61,14 @@ impl fmt::Display for Refusal {
                 (ln -s), and call it by this",
             ),
             Refusal::Files(fault) => write!(f, "{fault}"),
-            Refusal::Busy(name) => refuse(f, name, "another run is splitting it"),
+            Refusal::Named(name, reason) => {
+                let why = reason.text();
+                write!(f, "refused: {name}: {why}")
+            }
             Refusal::NoLock(name, error) => write!(
                 f,
                 "refused: {name}: the file system has no locks, by which files of runs that go on \
                 are told: {error}"
-            ),
-            Refusal::Changed(name) => refuse(f, name, "changed while it was read"),
-            Refusal::Beyond(name) => refuse(
-                f,
-                name,
-                "has the name of a shard beyond these: move it away first",
-            ),
-            Refusal::Unsound(label) => refuse(f, label, "not all shards are there and fit"),
-            Refusal::Lost(label) => refuse(f, label, "the file cannot be restored"),
-            Refusal::Stays(label) => refuse(
-                f,
-                label,
-                "shard files that do not fit stay: repair --force replaces them",
-            ),
-            Refusal::Strays(label) => refuse(
-                f,
-                label,
-                "files that do not fit stay, and repair --force replaces none of them",
-            ),
-            Refusal::Holes(label) => refuse(
-                f,
-                label,
-                "some bytes cannot be restored, and are zeros",
             ),
             Refusal::NoNumber(number, total) => write!(
                 f,
@@ -78,11 +81,6 @@ impl fmt::Display for Refusal {
             ),
         }
     }
-}
-
-/// Writes why what has this name is refused.
-fn refuse<W: fmt::Write>(f: &mut fmt::Formatter<W>, name: &str, why: &str) -> fmt::Result {
-    write!(f, "refused: {name}: {why}")
 }
 
 /// As its text: a derived form has an arm for each kind, which is dear to prove.
@@ -102,8 +100,8 @@ impl Refusal {
         match self {
             Refusal::Usage(_) => Status::Usage,
             _ if !is_judging => Status::Refused,
-            Refusal::Unsound(_) | Refusal::Stays(_) | Refusal::Strays(_) => Status::Refused,
-            Refusal::Lost(_) => Status::Lost,
+            Refusal::Named(_, Reason::Unsound | Reason::Stays | Reason::Strays) => Status::Refused,
+            Refusal::Named(_, Reason::Lost) => Status::Lost,
             Refusal::Files(fault) => status_of(fault),
             _ => Status::Unknown,
         }

@@ -5,11 +5,11 @@
 //! block. A file that turns out unsound is begun then, and takes its records of the blocks before
 //! from the file itself.
 
-ghost use Rattle.std.specs.Prelude.{◌≡◌, ◌<◌, IfSome, OnOk};
+ghost use Rattle.std.specs.Prelude.{◌≡◌, ◌<◌, length, IfOk, IfSome, OnOk};
 
 use crate::listing::print_unsound;
 use crate::progress::Progress;
-use crate::refusal::Refusal;
+use crate::refusal::{Reason, Refusal};
 use hash_trees::Digest;
 use partial_files::fault::copy_of;
 use partial_files::partial::Manner;
@@ -22,7 +22,7 @@ use shard_files::split::{Block, Split};
 use shard_files::wanted::WantedFiles;
 use shard_fingerprints::Keys;
 use shard_format::records::block_size;
-use shard_reading::blocks::{BlockReader, Look};
+use shard_reading::blocks::{BlockReader, FoundBlock, Look};
 use shard_writing::writer::{Known, ShardWriter};
 use std::alloc::{AllocError, Global};
 
@@ -111,6 +111,28 @@ impl NewFiles {
         self.writer
             .add(rt, copy_of(rt.alloc(), name)?, number, keys)
     }
+
+    /// Gives the files their names, and gives the numbers and names, where all was written; else
+    /// removes the files.
+    fn finish(
+        self,
+        rt: &HostRuntime,
+        written: Result<(), Refusal>,
+    ) -> Result<Vec<(u32, String)>, Refusal>
+        requires { OnOk written (self.writer.left ≡ 0) }
+    {
+        let NewFiles { writer, names } = self;
+        match written {
+            Ok(()) => {
+                writer.finish(rt)?;
+                Ok(names)
+            }
+            Err(refusal) => {
+                writer.discard(rt);
+                Err(refusal)
+            }
+        }
+    }
 }
 
 /// Writes the shard files that are missing, and where unsound ones may be replaced, these; names on
@@ -142,9 +164,9 @@ fn check_left(
     }
     let label = copy_of(alloc, order.wanted.label())?;
     if files.iter().any(|file| order.is_spared(file, total)) {
-        Err(Refusal::Stays(label))
+        Err(Refusal::Named(label, Reason::Stays))
     } else {
-        Err(Refusal::Strays(label))
+        Err(Refusal::Named(label, Reason::Strays))
     }
 }
 
@@ -154,6 +176,30 @@ fn repair_files(
     order: &Order,
     files: &mut Vec<ShardFile>,
 ) -> Result<(u32, Vec<(u32, String)>), Refusal> {
+    let mut reader = reader_of(rt, order, files)?;
+    let names = write_new(rt, order, &mut reader, files)?;
+    Ok((reader.split.header.total, names))
+}
+
+/// Writes the files from the blocks that are read. It answers their numbers and names.
+fn write_new(
+    rt: &HostRuntime,
+    order: &Order,
+    reader: &mut BlockReader,
+    files: &mut [ShardFile],
+) -> Result<Vec<(u32, String)>, Refusal> {
+    let mut new = NewFiles::new(rt, order, &reader.split, files)?;
+    let written = write_files(rt, order, reader, files, &mut new);
+    new.finish(rt, written)
+}
+
+/// What reads the blocks of the split that the files are of, and that new ones will be. The files
+/// are added.
+fn reader_of(
+    rt: &HostRuntime,
+    order: &Order,
+    files: &mut Vec<ShardFile>,
+) -> Result<BlockReader, Refusal> {
     let reading = Reading {
         root: order.root,
         may_end_before: false,
@@ -162,19 +208,7 @@ fn repair_files(
     };
     let (found, tree) = gather_split(rt, &order.wanted, &reading, files)?;
     let split = split_of_new(rt, order, &found, files)?;
-    let mut new = NewFiles::new(rt, order, &split, files)?;
-    let mut reader = BlockReader::new(rt.alloc(), &split, tree, true);
-    match write_files(rt, order, &mut reader, files, &mut new) {
-        Ok(()) => {
-            let NewFiles { writer, names } = new;
-            writer.finish(rt)?;
-            Ok((split.header.total, names))
-        }
-        Err(refusal) => {
-            new.writer.discard(rt);
-            Err(refusal)
-        }
-    }
+    Ok(BlockReader::new(rt.alloc(), &split, tree, true))
 }
 
 /// The split that new files are of, where the files can be repaired. Under a root files may have
@@ -322,7 +356,10 @@ fn copy_records(
         let root = writer.root_before(rt, number as usize)?;
         match reader.record(rt, file, block, root.as_ref())? {
             Some(record) => writer.append_to_last(rt, record)?,
-            None => return Err(Refusal::Changed(copy_of(rt.alloc(), file.name.as_str())?)),
+            None => return Err(Refusal::Named(
+                copy_of(rt.alloc(), file.name.as_str())?,
+                Reason::Changed,
+            )),
         }
     }
     Ok(())
@@ -340,25 +377,44 @@ fn write_files(
     ensures { OnOk result (new.new.writer.left ≡ 0) }
 {
     let look = Look::compared_or(order.compares_all, Look::Each);
-    let split = reader.split;
     let mut progress = Progress::new(rt, new.writer.left);
     let mut number = 0u64;
     add_missing(rt, order, files, new)?;
     add_unsound(rt, order, files, 0, reader, new)?;
     while new.writer.left > 0 {
-        let block = split.block_of(number, new.writer.left);
-        let found = reader.block(rt, files, block, look)?;
-        let known = Known {
-            mask: Some(found.mask),
-            root: found.root,
-        };
-        let root = new.writer.root_of(rt.alloc(), &found.bytes, known)?;
-        reader.note_paths(files, block, root);
+        let block = reader.split.block_of(number, new.writer.left);
+        let found = read_block(rt, reader, files, block, look, &mut new.writer)?;
         add_unsound(rt, order, files, number, reader, new)?;
-        new.writer.write(rt, &found.bytes, known)?;
+        new.writer.write(rt, &found.bytes, known_of(&found))?;
         progress.print_percentage(rt, new.writer.left);
         number = number.saturating_add(1);
     }
     new.writer.note_pairs(rt, files)?;
     add_unsound(rt, order, files, number, reader, new)
+}
+
+/// What is known of a block that shards gave.
+fn known_of(found: &FoundBlock) -> Known {
+    Known {
+        mask: Some(found.mask),
+        root: found.root,
+    }
+}
+
+/// The next block, which is to be written. Paths of its rows that do not fit are noted.
+fn read_block(
+    rt: &HostRuntime,
+    reader: &mut BlockReader,
+    files: &mut [ShardFile],
+    block: Block,
+    look: Look,
+    writer: &mut ShardWriter,
+) -> Result<FoundBlock, Fault>
+    ensures size { IfOk result (λ found. length found.bytes.items ≡ block.bytes) }
+    ensures left { writer.new.left ≡ writer.old.left }
+{
+    let found = reader.block(rt, files, block, look)?;
+    let root = writer.root_of(rt.alloc(), &found.bytes, known_of(&found))?;
+    reader.note_paths(files, block, root);
+    Ok(found)
 }

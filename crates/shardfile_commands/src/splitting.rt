@@ -3,7 +3,7 @@
 ghost use Rattle.std.specs.Prelude.{◌≡◌, ◌≤◌, IfOk, OnOk};
 
 use crate::progress::Progress;
-use crate::refusal::Refusal;
+use crate::refusal::{Reason, Refusal};
 use crate::rooting::root_line;
 use partial_files::fault::{Fault as FileFault, copy_of, name_error};
 use partial_files::identity::{Identity, check_no_input};
@@ -131,7 +131,10 @@ fn open_source(rt: &HostRuntime, file: &str) -> Result<(File, Metadata), Refusal
     let source = name_error(rt.alloc(), file, fs::open(rt, file))?;
     // Where the system has no locks, there is none.
     match source.try_lock() {
-        Err(TryLockError::WouldBlock) => Err(Refusal::Busy(copy_of(rt.alloc(), file)?)),
+        Err(TryLockError::WouldBlock) => Err(Refusal::Named(
+            copy_of(rt.alloc(), file)?,
+            Reason::Busy,
+        )),
         _ => Ok((source, metadata)),
     }
 }
@@ -141,7 +144,7 @@ fn open_source(rt: &HostRuntime, file: &str) -> Result<(File, Metadata), Refusal
 fn check_beyond(rt: &HostRuntime, file: &str, total: u32) -> Result<(), Refusal> {
     match numbers_there(rt, file)?.last() {
         Some(number) if *number >= total => {
-            Err(Refusal::Beyond(shard_name(rt.alloc(), file, *number)?))
+            Err(Refusal::Named(shard_name(rt.alloc(), file, *number)?, Reason::Beyond))
         }
         _ => Ok(()),
     }
@@ -274,7 +277,7 @@ fn read_next(
 ) -> Result<(), Refusal> {
     match source.read_exact(buffer) {
         Err(error) if error.kind() == ErrorKind::UnexpectedEof => {
-            Err(Refusal::Changed(copy_of(alloc, file)?))
+            Err(Refusal::Named(copy_of(alloc, file)?, Reason::Changed))
         }
         read => Ok(name_error(alloc, file, read)?),
     }
@@ -283,7 +286,7 @@ fn read_next(
 /// Refuses where the file goes on after what was read.
 fn check_end(alloc: Global, source: &mut File, file: &str) -> Result<(), Refusal> {
     if name_error(alloc, file, source.read(&mut [0u8; 1]))? > 0 {
-        return Err(Refusal::Changed(copy_of(alloc, file)?));
+        return Err(Refusal::Named(copy_of(alloc, file)?, Reason::Changed));
     }
     Ok(())
 }

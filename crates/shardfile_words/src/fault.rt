@@ -7,22 +7,15 @@ use std::fmt;
 /// What is wrong with which word.
 #[derive(Drop)]
 pub enum WrongWord {
-    NoCommand,
-    Command(String),
-    Option(String),
+    /// What is wrong, where no word is.
+    Words(&'static str),
+    /// A word, and what is wrong with it.
+    Word(String, &'static str),
     /// An option, and the command that does not take it.
     OptionOf(&'static str, &'static str),
     /// An option, and what has to stand after it.
     NoWord(&'static str, &'static str),
     Twice(&'static str),
-    NoMore(String),
-    Name(String),
-    NoName,
-    NameOfFile,
-    Only(String),
-    PartialStream,
-    Root(String),
-    Empty,
     /// What is wanted, and how many words are given.
     Count(&'static str, usize),
     /// As `Count`; then the file whose shard file is named, and what is wanted after `--shards`.
@@ -35,22 +28,9 @@ pub enum WrongWord {
 impl fmt::Display for WrongWord {
     fn fmt<W: fmt::Write>(&self, f: &mut fmt::Formatter<W>) -> fmt::Result {
         match self {
-            WrongWord::NoCommand => f.write_str("no command is given"),
-            WrongWord::Empty => f.write_str("a word is empty"),
-            WrongWord::NoName => {
-                f.write_str("-: --name NAME says what its shard files are called")
-            }
-            WrongWord::NameOfFile => {
-                f.write_str("--name: goes with - alone, which is standard input")
-            }
-            WrongWord::PartialStream => f.write_str("-: --partial writes no stream, but a file"),
-            WrongWord::Command(word) => name_and(f, word, "no such command"),
-            WrongWord::Option(word) => name_and(f, word, "no such option"),
+            WrongWord::Words(why) => f.write_str(why),
+            WrongWord::Word(word, why) => name_and(f, word, why),
             WrongWord::Twice(option) => name_and(f, option, "is given twice"),
-            WrongWord::NoMore(word) => name_and(f, word, "more words stand after it than it takes"),
-            WrongWord::Name(name) => name_and(f, name, NO_NAME),
-            WrongWord::Only(list) => name_and(f, list, NO_NUMBERS),
-            WrongWord::Root(word) => name_and(f, word, "a root has 64 hexadecimal digits"),
             WrongWord::OptionOf(option, command) => write!(f, "{option}: no option of {command}"),
             WrongWord::NoWord(option, word) => write!(f, "{option}: no {word} is given after it"),
             WrongWord::Count(wanted, count) => write_count(f, wanted, *count),
@@ -73,12 +53,6 @@ impl fmt::Display for WrongWord {
         }
     }
 }
-
-/// What is wrong with a name before the numbers of shard files.
-const NO_NAME: &str = "no file can have this name: its last part is empty, or . or ..";
-
-/// What is wrong with a list of numbers.
-const NO_NUMBERS: &str = "--only takes numbers below 65536, with commas between them";
 
 /// Writes what is wanted, and how many words are given.
 fn write_count<W: fmt::Write>(

@@ -7,12 +7,21 @@ use shard_files::names::{can_be_file, name_before_number};
 use shard_files::wanted::WantedFiles;
 use std::alloc::Global;
 
+/// What is wrong with a name before the numbers of shard files.
+const NO_NAME: &str = "no file can have this name: its last part is empty, or . or ..";
+
+/// What is wrong where standard input is split, and has no name.
+const STREAM_WITHOUT_NAME: &str = "-: --name NAME says what its shard files are called";
+
+/// What is wrong where a file is split, and a name is given.
+const NAME_OF_FILE: &str = "--name: goes with - alone, which is standard input";
+
 /// Refuses a name before the numbers of shard files that no file can have.
 fn check_name(alloc: Global, name: &str) -> Result<(), Fault> {
     if can_be_file(name) {
         return Ok(());
     }
-    Err(Fault::Word(WrongWord::Name(copy_of(alloc, name)?)))
+    Err(Fault::Word(WrongWord::Word(copy_of(alloc, name)?, NO_NAME)))
 }
 
 /// The name of the file that is split, or what the shard files of standard input are called, and
@@ -27,8 +36,8 @@ pub fn file_or_stream<'a>(
             check_name(alloc, name)?;
             Ok((name, true))
         }
-        ("-", None) => Err(Fault::Word(WrongWord::NoName)),
-        (_, Some(_)) => Err(Fault::Word(WrongWord::NameOfFile)),
+        ("-", None) => Err(Fault::Word(WrongWord::Words(STREAM_WITHOUT_NAME))),
+        (_, Some(_)) => Err(Fault::Word(WrongWord::Words(NAME_OF_FILE))),
         (file, None) => Ok((file, false)),
     }
 }

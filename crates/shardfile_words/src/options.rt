@@ -99,7 +99,10 @@ impl<'a> Options<'a> {
             "--partial" => self.partial = true,
             "--root" => self.has_root = true,
             "--help" | "-h" => self.help = true,
-            _ => return Err(Fault::Word(WrongWord::Option(copy_of(alloc, option)?))),
+            _ => return Err(Fault::Word(WrongWord::Word(
+                copy_of(alloc, option)?,
+                "no such option",
+            ))),
         }
         Ok(())
     }
@@ -132,7 +135,7 @@ pub fn read_options<'a>(
     for word in words {
         let word = word.as_str();
         if word.is_empty() {
-            return Err(Fault::Word(WrongWord::Empty));
+            return Err(Fault::Word(WrongWord::Words("a word is empty")));
         }
         if let Some(option) = wanting {
             options.take(option, word)?;

@@ -10,6 +10,12 @@ use shard_files::names::number_written;
 use shard_format::header::MOST_SHARDS;
 use std::alloc::Global;
 
+/// What is wrong with a list of numbers.
+const NO_NUMBERS: &str = "--only takes numbers below 65536, with commas between them";
+
+/// What is wrong with a root.
+const NO_ROOT: &str = "a root has 64 hexadecimal digits";
+
 /// The number from 1 to the most shards that a word writes in decimal.
 pub fn number(alloc: Global, name: &'static str, word: &str) -> Result<u32, Fault>
     ensures { IfOk result (λ number. 1 ≤ number) }
@@ -37,7 +43,7 @@ fn add_numbers(alloc: Global, list: &str, numbers: &mut Vec<u32>) -> Result<(), 
     for part in list.split(',') {
         match number_written(alloc, part)? {
             Some(number) if number < MOST_SHARDS => numbers.push(number)?,
-            _ => return Err(Fault::Word(WrongWord::Only(copy_of(alloc, list)?))),
+            _ => return Err(Fault::Word(WrongWord::Word(copy_of(alloc, list)?, NO_NUMBERS))),
         }
     }
     Ok(())
@@ -50,7 +56,7 @@ pub fn root_asked(alloc: Global, options: &Options) -> Result<Option<Digest>, Fa
     };
     match root_of_word(word) {
         Some(root) => Ok(Some(root)),
-        None => Err(Fault::Word(WrongWord::Root(copy_of(alloc, word)?))),
+        None => Err(Fault::Word(WrongWord::Word(copy_of(alloc, word)?, NO_ROOT))),
     }
 }
 

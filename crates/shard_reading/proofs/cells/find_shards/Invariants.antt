@@ -1,6 +1,5 @@
-use Rattle.std.proofs.Common.{All}
+use Rattle.std.proofs.Common.{◌≡◌}
 use Rattle.shard_reading.proofs.cells.find_shards.Given as goal
-use Rattle.shard_reading.specs.Shards.{IsOfSplit}
 
 abbrev pub invariant-loop-place : goal.invariant-loop-place
-invariant-loop-place l = All (IsOfSplit l.initial.split.header) l.found.shards.items
+invariant-loop-place l = l.found.split ≡ l.split
