@@ -58,10 +58,11 @@ module _ {A : Type 0} (R : RingOf A) (E : IsEquality R.same) (G : IsGroup R.same
   at_place : (shares : List (Share A)) (i : ℕ) (s : Share A) (x : A) → i < length shares → s ≡ get_or shares i s → get_or (points R shares) i x ≡ point R s.index
   at_place shares i s x l at = get_or-map (λ u. point R u.index) shares i s x l ∙ ap (λ u. point R u.index) (sym at)
 
-  pub zero_first : (shares : List (Share A)) (i : ℕ) (s : Share A) (x : A) (xs : List A) → i < length shares → s ≡ get_or shares i s → R.same x (point R s.index)
-      → ArePointsOf (take i shares) xs → All (λ x. ¬ (R.same x R.zero)) xs → AreApart R.same xs → R.same x R.zero → IsZeroFirst R shares
-  zero_first shares i s x xs l at p h nonzero apart z =
-      (i, x, l, distinct (take i shares) xs h nonzero apart, subst (λ y. R.same y R.zero) (sym (at_place shares i s x l at)) (E.transitive _ _ _ (E.symmetric _ _ p) z))
+  pub zero_first : (shares : List (Share A)) (i : ℕ) (s : Share A) (xs : List A) → i < length shares → s ≡ get_or shares i s
+      → ArePointsOf (take i shares) xs → All (λ x. ¬ (R.same x R.zero)) xs → AreApart R.same xs → R.same (point R s.index) R.zero → IsZeroFirst R shares
+  zero_first shares i s xs l at h nonzero apart z =
+      let x = point R s.index in
+      (i, x, l, distinct (take i shares) xs h nonzero apart, subst (λ y. R.same y R.zero) (sym (at_place shares i s x l at)) z)
 
   pub repeated_first : (shares : List (Share A)) (i : ℕ) (s : Share A) (x : A) (xs : List A) (k : ℕ) → i < length shares → s ≡ get_or shares i s → R.same x (point R s.index)
       → ArePointsOf (take i shares) xs → All (λ x. ¬ (R.same x R.zero)) xs → AreApart R.same xs → ¬ (R.same x R.zero) → IsFirstPlace R.same x xs k → IsRepeatedFirst R shares

@@ -56,6 +56,23 @@ pub fn combine<F: Field>(alloc: Global, t: u32, shares: &[Share<F>]) -> Result<F
     Ok(secret)
 }
 
+/// The point of an index, which is refused if it is zero.
+fn nonzero_point<F: Field>(alloc: Global, index: u32, zero: &F) -> Result<F, CombineError>
+    requires { F.same zero.now F.zero }
+    ensures point { IfOk result (λ x. F.same x (point F.Ring index)) }
+    ensures nonzero { IfOk result (λ x. ¬ (F.same x F.zero)) }
+    ensures zero { IfErr result (λ error. error ≡ ZeroIndex
+        → F.same (point F.Ring index) F.zero) }
+    ensures few { IfErr result (λ error. ¬ (error ≡ TooFewShares)) }
+    ensures repeated { IfErr result (λ error. ¬ (error ≡ RepeatedIndex)) }
+{
+    let x: F = point(alloc, index)?;
+    if x.equals(alloc, zero)? {
+        return Err(CombineError::ZeroIndex);
+    }
+    Ok(x)
+}
+
 /// The points of the indices, in order; none is zero, and no two are the same.
 pub(super) fn distinct_points<F: Field>(
     alloc: Global,
@@ -73,10 +90,7 @@ pub(super) fn distinct_points<F: Field>(
     let zero = F::zero(alloc)?;
     let mut out: Vec<F> = Vec::with_capacity(alloc, shares.len())?;
     for share in shares {
-        let x: F = point(alloc, share.index)?;
-        if x.equals(alloc, &zero)? {
-            return Err(CombineError::ZeroIndex);
-        }
+        let x: F = nonzero_point(alloc, share.index, &zero)?;
         if first_place(alloc, &out, &x)?.is_some() {
             return Err(CombineError::RepeatedIndex);
         }

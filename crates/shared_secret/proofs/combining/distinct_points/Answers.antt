@@ -1,4 +1,4 @@
-use Rattle.std.proofs.Common.{◌≡◌, ◌++◌, [], ◌∷◌, None, true, false}
+use Rattle.std.proofs.Common.{◌≡◌, ◌++◌, [], ◌∷◌, None, true, false, rules}
 use Rattle.std.specs.List.{All}
 use Rattle.std.specs.Option.{is_some}
 use Rattle.std.proofs.lemmas.List.{take_all}
@@ -6,18 +6,21 @@ use Rattle.std.proofs.lemmas.List.Elements.{All-push}
 use Rattle.std.proofs.lemmas.List.Quantifiers.{all_pairs_push}
 use Rattle.math_theory.specs.Interpolation.{IsFirstPlace}
 use Rattle.math_base.proofs.Members.{ring_members}
-use Rattle.shared_secret.specs.Shares.{point}
-use Rattle.shared_secret.proofs.CombinedShares.{alike_next, not_zero, no_value, value_of_some}
+use Rattle.shared_secret.specs.Shares.{IsZeroFirst, point}
+use Rattle.shared_secret.specs.declared.error.CombineError.TheVariants.{ZeroIndex}
+use Rattle.shared_secret.proofs.CombinedShares.{alike_next, no_value, value_of_some}
 use Rattle.shared_secret.proofs.RefusedShares.{zero_first, repeated_first}
 use Rattle.shared_secret.proofs.combining.distinct_points.Goals as goal
 
-pub returns-then-branch-clause-zero : goal.returns-then-branch-clause-zero
-returns-then-branch-clause-zero g c = λ _.
+pub returns-in_err-x-clause-zero : goal.returns-in_err-x-clause-zero
+returns-in_err-x-clause-zero g c =
     let R = ring_members g.F.Multiplicative.product g.F.Debug.debug_output g.F.Object.same g.F.Object.NEVER_REFUSES g.F.Additive.zero g.F.Additive.sum g.F.Additive.negative g.F.Ring.one in
     let F = g.met.F in
     let i = c.loop-share.invariant in
-    zero_first R F.Object.equality F.Additive.group c.args.shares.now c.loop-share.share-index c.share-item.result c.in_ok-x.x c.loop-share.out.items c.loop-share-test.true c.share-item.is
-    c.in_ok-x.ensures.ok i.points i.nonzero i.apart (F.Object.equality.transitive _ _ _ (c.in_ok-equals.ensures.ok.0 c.if-branch.true) c.in_ok-zero.ensures.ok)
+    let first : c.in_err-x.field-0.0 ≡ ZeroIndex → IsZeroFirst R c.args.shares.now = λ e.
+    zero_first R F.Object.equality F.Additive.group c.args.shares.now c.loop-share.share-index c.share-item.result c.loop-share.out.items c.loop-share-test.true c.share-item.is
+    i.points i.nonzero i.apart (c.in_err-x.ensures.zero e) in
+    search rules
 
 pub returns-then-is_some-clause-repeated : goal.returns-then-is_some-clause-repeated
 returns-then-is_some-clause-repeated g c = λ _.
@@ -26,10 +29,8 @@ returns-then-is_some-clause-repeated g c = λ _.
     let i = c.loop-share.invariant in
     let found : is_some c.in_ok-first_place.field-0 ≡ true = cc in
     let place = value_of_some (λ k. IsFirstPlace R.same c.in_ok-x.x c.loop-share.out.items k) c.in_ok-first_place.field-0 found (rw c.deref.ensures.value at c.in_ok-first_place.ensures.some) in
-    let nonzero : ¬ (R.same c.in_ok-x.x R.zero) =
-    not_zero R F.Object.equality F.Additive.group c.in_ok-equals.field-0 c.in_ok-x.x c.in_ok-zero.zero c.in_ok-equals.ensures.ok c.if-branch.false c.in_ok-zero.ensures.ok in
     repeated_first R F.Object.equality F.Additive.group c.args.shares.now c.loop-share.share-index c.share-item.result c.in_ok-x.x c.loop-share.out.items place.0
-    c.loop-share-test.true c.share-item.is c.in_ok-x.ensures.ok i.points i.nonzero i.apart nonzero place.1
+    c.loop-share-test.true c.share-item.is c.in_ok-x.ensures.point i.points i.nonzero i.apart c.in_ok-x.ensures.nonzero place.1
 
 pub loop-share-preserved : goal.loop-share-preserved
 loop-share-preserved g c =
@@ -39,12 +40,11 @@ loop-share-preserved g c =
     let x = c.in_ok-x.x in
     let nothing : c.in_ok-first_place.field-0 ≡ None = no_value c.in_ok-first_place.field-0 (let e : is_some c.in_ok-first_place.field-0 ≡ false = cc in e) in
     let none : All (λ item. ¬ (R.same item x)) out = rw c.deref.ensures.value at (c.in_ok-first_place.ensures.none nothing) in
-    let nonzero : ¬ (R.same x R.zero) = not_zero R F.Object.equality F.Additive.group c.in_ok-equals.field-0 x c.in_ok-zero.zero c.in_ok-equals.ensures.ok c.if-branch.false c.in_ok-zero.ensures.ok in
     let pushed : c.push.new.self.items ≡ out ++ (x ∷ []) = c.in_ok-push.ensures.items in
     rw pushed record {
       points = alike_next (λ share y. R.same y (point R share.index)) c.args.shares.now out c.loop-share.share-index c.share-item.result x c.loop-share-test.true c.share-item.is
-          c.loop-share.invariant.points c.in_ok-x.ensures.ok;
-      nonzero = All-push (λ y. ¬ (R.same y R.zero)) out x c.loop-share.invariant.nonzero nonzero;
+          c.loop-share.invariant.points c.in_ok-x.ensures.point;
+      nonzero = All-push (λ y. ¬ (R.same y R.zero)) out x c.loop-share.invariant.nonzero c.in_ok-x.ensures.nonzero;
       apart = all_pairs_push (λ y z. ¬ (R.same y z)) out x c.loop-share.invariant.apart none;
     }
 
