@@ -111,8 +111,7 @@ pub fn block_committed(
         return Ok(None);
     };
     let rows = CommittedRows::new(alloc, split, &block.bytes)?;
-    let commitment = &rows.committed.commitment;
-    if commitment.root() != *root || commitment.mask != block.mask {
+    if !rows.is_of(root, split) || rows.committed.commitment.mask != block.mask {
         return Ok(None);
     }
     for row in found {
@@ -141,12 +140,7 @@ pub fn join_rows(
         shards.push(row.shard())?;
     }
     let mut bytes = vec![in alloc; 0u8; split.size]?;
-    let joined = if is_strict {
-        join_committed(alloc, root, split, &shards, &mut bytes)
-    } else {
-        join_under(alloc, root, split, &shards, &mut bytes)
-    };
-    match joined {
+    match join_shards(alloc, is_strict, root, split, &shards, &mut bytes) {
         Ok(left_out) if left_out.is_empty() => Ok(Joined::Block(FoundBlock {
             bytes,
             mask: one_mask(found).unwrap_or(0),
@@ -156,6 +150,26 @@ pub fn join_rows(
         Err(shard_roots::Error::Root) => Ok(Joined::OtherRoot),
         _ if are_under(root, split, &shards) => Ok(Joined::NoBlock),
         _ => Ok(Joined::Others),
+    }
+}
+
+/// Joins shards of a block under its root, and commits to it again where that is strict.
+fn join_shards(
+    alloc: Global,
+    is_strict: bool,
+    root: &Digest,
+    split: RowSplit,
+    shards: &[Shard<'_>],
+    bytes: &mut [u8],
+) -> Result<Vec<usize>, shard_roots::Error>
+    requires { length bytes.old ≡ split.size }
+    ensures { IfOk result (λ _. IsTrue is_strict
+        → IsRootOfBlock sha512_256 split bytes.new root.now) }
+{
+    if is_strict {
+        join_committed(alloc, root, split, shards, bytes)
+    } else {
+        join_under(alloc, root, split, shards, bytes)
     }
 }
 
